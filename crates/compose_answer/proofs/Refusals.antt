@@ -1,4 +1,4 @@
--- A fault of a layer below is the refusal that is said.
+-- A fault of a layer below leads to the right refusal.
 use Rattle.std.proofs.Common.{ap}
 use Rattle.std.specs.Prelude.{Result}
 use Rattle.compose_migration.specs.Migration.{NoMigration, or_because}
@@ -16,7 +16,7 @@ use Rattle.compose_answer.specs.Parts.{NoAnswer, unread}
 use Rattle.compose_answer.specs.Refused.{IsRefused, migration_raised, input_raised}
 
 module _ {P : Type 0} where
-  -- what is read of a migration, with its fault as the reason that there is no answer
+  -- the result of reading a migration, with its fault as the reason that there is no answer
   abbrev pub unmoved : Result P NoMigration → Result P NoAnswer
   unmoved said = or_because (λ why. unread (no_migration why)) said
 

@@ -25,7 +25,7 @@ alike true b f g = sym (f refl)
 alike false true f g = g refl
 alike false false f g = refl
 
--- each key of one list stands in the other one
+-- each key of one list occurs in the other one
 same_keys : (xs ys : List ℕ) → ((x : ℕ) → Contains xs x → Contains ys x) → ((x : ℕ) → Contains ys x → Contains xs x) → (k : ℕ) → has_key ys k ≡ has_key xs k
 same_keys xs ys to from k =
     alike (has_key ys k) (has_key xs k) (λ e. has xs k (from k (Contains-from_any eqb-true k ys e))) (λ e. has ys k (to k (Contains-from_any eqb-true k xs e)))

@@ -1,4 +1,4 @@
--- How a command ends by its answer, and with which exit status (this project's profile).
+-- How a command ends, given its answer, and with which exit status (this project's profile).
 use Rattle.std.specs.Prelude.{ℕ, List, [], ◌∷◌, ◌++◌, Option, Some, None, Result, Ok, Err, string_bytes, codes}
 use Rattle.keysym_core.specs.Printed.{shown_keysym}
 use Rattle.compose_answer.specs.declared.answer.Answer.{Answer}
@@ -22,7 +22,7 @@ status_of No = 1
 status_of Refused = 2
 status_of NoMemory = 3
 
--- an answer with a text prints just that; of a fault's text nothing is said here
+-- an answer with a text prints just that; the text of a fault is not specified here
 abbrev pub printed_text : Answer → Option (List ℕ)
 printed_text (answers.Yes text) = Some (string_bytes text)
 printed_text (answers.No text) = Some (string_bytes text)

@@ -1,4 +1,4 @@
--- What each command is given, and what it says: the parts are read in one order, and the first that is refused decides.
+-- The parts of each command's input: they are read in one order, and the first that is refused decides.
 use Rattle.std.specs.Prelude.{ℕ, nat_lt, if◌then◌else◌, List, length, Option, Some, None, Result, Ok, Err}
 use Rattle.std.specs.Option.{option_map_or}
 use Rattle.std.specs.Ordering.{nat_cmp}
@@ -56,15 +56,16 @@ allowed_parts key_names input = do
 abbrev pub migration_parts : GivenMigration → Result Parts NoAnswer
 migration_parts given = or_because (λ why. unread (no_migration why)) (migration_of given)
 
--- the first condition that the fresh keysyms do not meet for the old table; or they are more than a certificate can have
+-- the first condition that the fresh keysyms do not meet for the old table; or they are more than a certificate can
+-- have
 abbrev pub fresh_fault : List Definition → List ℕ → Option MakeFault
 fresh_fault old fresh = option_map_or (λ fault. Some (BadFresh fault)) (first_unmet (fresh_conditions old fresh)) (if nat_lt max_fresh (length fresh) then Some TooManyFresh else None)
 
--- the parts, where the fresh keysyms have no fault
+-- the parts, if the fresh keysyms have no fault
 abbrev pub accepted : {P : Type 0} → List ℕ → List Definition → P → Result P NoAnswer
 accepted fresh old parts = option_map_or (λ fault. Err (no_fresh fault)) (fresh_fault old fresh) (Ok parts)
 
--- what is explained: a migration, and its fresh keysyms
+-- the input of explain: a migration, and its fresh keysyms
 pub record Explainable : Type 0 where
   pub move : Parts
   pub fresh : List ℕ
@@ -78,7 +79,7 @@ explain_parts given = do
   move ← migration_parts given
   explainable move (rising nat_cmp move.keys)
 
--- what a certificate is made of
+-- the input from which a certificate is made
 pub record Needs : Type 0 where
   pub move : Parts
   pub repertoire : Repertoire

@@ -1,4 +1,4 @@
--- What is said of a part that is refused; memory that is refused is said of the whole.
+-- The refusal of each part; a refusal for lack of memory concerns the whole.
 use Rattle.std.specs.Prelude.{◌≡◌, Result, Ok, Err}
 use Rattle.compose_tree.specs.TableGives.{NoTable}
 use Rattle.compose_migration.specs.Migration.{no_names, no_key, no_table}
@@ -36,9 +36,9 @@ fresh_raised make_faults.NoMemory = NoMemory
 fresh_raised (make_faults.BadFresh fault) = Fresh fault
 fresh_raised make_faults.TooManyFresh = TooManyFresh
 
--- ---- what it says
+-- ---- what a refusal means
 
--- the refusal says which part is refused first, and why
+-- the refusal names the part that is refused first, and why
 abbrev pub IsRefused : {P : Type 0} → Refusal → Result P NoAnswer → Type 0
 IsRefused (Names fault) said = said ≡ Err (unread (no_migration (no_names fault)))
 IsRefused (Key index) said = said ≡ Err (unread (no_migration (no_key index)))
@@ -50,7 +50,7 @@ IsRefused (Fresh fault) said = said ≡ Err (no_fresh (make_faults.BadFresh faul
 IsRefused TooManyFresh said = said ≡ Err (no_fresh make_faults.TooManyFresh)
 IsRefused NoMemory said = Unit {0}
 
--- an answer on the parts that are said, or the refusal of the first one that is refused
+-- an answer on these parts, or the refusal of the first one that is refused
 abbrev pub Gives : {P A : Type 0} → (P → A → Type 0) → Result A Refusal → Result P NoAnswer → Type 0
 Gives {P} answers (Ok answer) said = (parts : P) × (said ≡ Ok parts) × answers parts answer
 Gives answers (Err refusal) said = IsRefused refusal said

@@ -1,4 +1,4 @@
-//! What a command answers, and how it ends.
+//! The answer of a command, and how it ends.
 ghost use Rattle.std.specs.Prelude.{◌≡◌};
 ghost use Rattle.compose_answer.specs.Ends.{end_of, status_of};
 
@@ -7,16 +7,19 @@ use compose_check::CheckFault;
 use keysym_core::{Keysym, ShownKeysym};
 use std::fmt;
 
-/// What a command answers, on standard output.
+/// A command's answer, on standard output.
 #[derive(Debug, PartialEq, Eq, Drop)]
 pub enum Answer {
-    /// Yes, made, follows or typed, with this text.
+    /// Yes: the certificate is valid or was made, the new table follows, or keys were typed. This
+    /// text is printed.
     Yes(String),
-    /// The tables differ, or a character can't be typed, with this text.
+    /// No: the tables differ, or a character can't be typed. This text is printed.
     No(String),
-    /// The certificate is not valid: the first condition that it does not meet, which is printed behind `no: `.
+    /// The certificate is not valid: the first condition that it does not meet, which is printed
+    /// after `no: `.
     Invalid(CheckFault),
-    /// The certificate is valid, but this fresh keysym of it, the first such one, is not among those that are allowed.
+    /// The certificate is valid, but this fresh keysym of it is not among those that are allowed;
+    /// it is the first such one.
     FreshNotAllowed(Keysym),
 }
 
@@ -41,18 +44,19 @@ impl fmt::Display for Answer {
 /// How a command ends, in the order of the exit statuses.
 #[derive(Clone, Copy, Debug, PartialEq, Eq, Drop)]
 pub enum Ended {
-    /// Yes, made, follows, or typed.
+    /// Yes: a valid certificate, one that was made, a table that follows, or keys that were typed.
     Yes,
-    /// No, differs, or unreachable.
+    /// No: a certificate that is not valid, or lists a fresh keysym that is not allowed; tables
+    /// that differ; or a character that can't be typed.
     No,
     /// The input is refused.
     Refused,
-    /// Memory was refused.
+    /// Memory ran out.
     NoMemory,
 }
 
 impl Ended {
-    /// How a command with this answer, or without one, ends.
+    /// Returns how a command with this answer, or without one, ends.
     pub fn of(answered: &Result<Answer, Refusal>) -> Ended
         ensures { result ≡ end_of answered.now }
     {
@@ -64,7 +68,8 @@ impl Ended {
         }
     }
 
-    /// The exit status: 0 for yes, 1 for no, 2 where the input is refused, 3 where memory was.
+    /// Returns the exit status: 0 for yes, 1 for no, 2 if the input is refused, 3 if memory ran
+    /// out.
     pub fn status(self) -> u8
         ensures { result ≡ status_of self }
     {

@@ -1,7 +1,8 @@
-//! What a command of `composecheck` answers, why it has no answer, and how it ends.
+//! The answer of a `composecheck` command, why it has none, and how it ends.
 //!
-//! A command is a function from its input to `Result<Answer, Refusal>`: what is printed on standard output, or why there is no answer.
-//! [`Ended::of`] says how it ends. The parts that each command is given are defined here, since a refusal names the first that is wrong.
+//! A command is a function from its input to `Result<Answer, Refusal>`: what is printed on standard
+//! output, or why there is no answer. [`Ended::of`] returns how it ends. The parts of each
+//! command's input are defined here, since a refusal names the first that is wrong.
 //!
 //! ```text
 //! Ended::of(&Err(Refusal::NoMemory)).status()    // 3

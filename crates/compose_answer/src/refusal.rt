@@ -8,20 +8,20 @@ use keysym_core::NameFault;
 use std::alloc::{AllocError, AllocFailed};
 use thiserror::Error;
 
-/// The first part of what a command is given that is refused, and why; or that memory was refused. Printed as the part and the fault
-/// are, but for a key name, which its owner prints.
+/// The first part of a command's input that is refused, and why; or that memory ran out. It is
+/// printed as the part and its fault, except for a key name, which the caller prints.
 #[derive(Debug, PartialEq, Eq, Drop, Error)]
 pub enum Refusal {
     /// The header of names is refused.
     #[error("refused: names: {0}")]
     Names(NameFault),
-    /// The key name at this index is the first one that has no keysym.
+    /// This key name has no keysym. It is the first such one; `index` counts from 0.
     #[error("refused: key: word {index}")]
     Key { index: usize },
-    /// The one table that is given is refused.
+    /// The only table is refused.
     #[error("refused: table: {0}")]
     Table(TableFault),
-    /// One of two tables is refused.
+    /// One of two tables is refused: the old or the new one, as `side` says.
     #[error("refused: {side}: {fault}")]
     Side { side: Side, fault: TableFault },
     /// The repertoire is refused.
@@ -30,13 +30,13 @@ pub enum Refusal {
     /// The certificate is refused.
     #[error("refused: certificate: {0}")]
     Certificate(CertFault),
-    /// The fresh keysyms are refused: one of them is ignored, or stands in the old table.
+    /// The fresh keysyms are refused: one of them is ignored, or occurs in the old table.
     #[error("refused: fresh: {0}")]
     Fresh(CheckFault),
     /// There are more than 1,048,576 fresh keysyms.
     #[error("refused: fresh: {fault}", fault = MakeFault::TooManyFresh)]
     TooManyFresh,
-    /// Memory was refused in this call.
+    /// Memory ran out in this call.
     #[error("out of memory")]
     NoMemory,
 }

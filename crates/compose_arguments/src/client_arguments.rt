@@ -1,4 +1,4 @@
-//! What `load` and `session` ask for.
+//! The arguments of `load` and `session`.
 use crate::given_tables::{TypeTable, table_named};
 use clap::ArgMatches;
 use std::alloc::{AllocError, Global};
@@ -19,23 +19,24 @@ pub struct LoadArguments<'a> {
 pub struct SessionArguments<'a> {
     /// The path of the service's socket.
     pub socket: &'a str,
-    /// Whether a key may be written as its character, and names are the built-in ones unless others are given.
+    /// Whether a key may be written as its character; the names are then the built-in ones, unless
+    /// others are given.
     pub files: bool,
     /// The number of the session.
     pub session: u32,
     /// Whether the session is opened first.
     pub open: bool,
-    /// Whether it is put to rest before the keys.
+    /// Whether its compose state is reset before the keys.
     pub reset: bool,
     /// The names of the keysyms, or their characters.
     pub keys: Vec<&'a str>,
-    /// Whether it is asked where the session stands, after the keys.
+    /// Whether its state is asked for after the keys.
     pub ask: bool,
     /// Whether the session is closed at the end.
     pub close: bool,
 }
 
-/// The arguments of `load`, if they are all there.
+/// Returns the arguments of `load`, if none is missing.
 pub fn load_arguments<'a>(given: &ArgMatches<'a>) -> Option<LoadArguments<'a>> {
     Some(LoadArguments {
         socket: given.get_str("SOCKET")?,
@@ -44,7 +45,8 @@ pub fn load_arguments<'a>(given: &ArgMatches<'a>) -> Option<LoadArguments<'a>> {
     })
 }
 
-/// The arguments of `session`, if they are all there.
+/// Returns the arguments of `session`, or `None` if one is missing.
+/// Errors: `AllocError` if memory runs out.
 pub fn session_arguments<'a>(
     alloc: Global,
     given: &ArgMatches<'a>,

@@ -1,11 +1,12 @@
-//! The rows of `commands` as clap reads them.
+//! The rows of `commands` as clap's commands.
 use crate::commands::{COMMANDS, row_of};
 use crate::rows::{ArgumentRow, CommandRow, Given, NumberRange, OptionRow, Takes};
 use clap::builder::ValueParser;
 use clap::{Arg, ArgAction, Command, value_parser};
 use std::alloc::{AllocError, Global};
 
-/// All commands.
+/// Returns the program with all its commands.
+/// Errors: `AllocError` if memory runs out.
 pub fn command_line<'a>(alloc: Global) -> Result<Command<'a>, AllocError> {
     let mut program = program(alloc);
     for command in COMMANDS {
@@ -14,7 +15,7 @@ pub fn command_line<'a>(alloc: Global) -> Result<Command<'a>, AllocError> {
     Ok(program)
 }
 
-/// The program without its commands.
+/// Returns the program without its commands.
 fn program<'a>(alloc: Global) -> Command<'a> {
     Command::new(alloc, "composecheck")
         .version("0.3.0")
@@ -24,7 +25,7 @@ fn program<'a>(alloc: Global) -> Command<'a> {
         .subcommand_required(true)
 }
 
-/// A command with its options and arguments.
+/// Returns a command with its options and arguments.
 fn command_of<'a>(alloc: Global, row: &CommandRow) -> Result<Command<'a>, AllocError> {
     let mut arguments = options_of(alloc, row.options)?;
     add_options_of_files(alloc, row.options_of_files, &mut arguments)?;
@@ -35,7 +36,7 @@ fn command_of<'a>(alloc: Global, row: &CommandRow) -> Result<Command<'a>, AllocE
         .args(arguments)
 }
 
-/// The options of a command.
+/// Returns the options of a command.
 fn options_of<'a>(alloc: Global, rows: &[OptionRow]) -> Result<Vec<Arg<'a>>, AllocError> {
     let mut options = Vec::new(alloc);
     for row in rows {
@@ -44,7 +45,7 @@ fn options_of<'a>(alloc: Global, rows: &[OptionRow]) -> Result<Vec<Arg<'a>>, All
     Ok(options)
 }
 
-/// Adds the options of a command that may be there with `--files` alone.
+/// Adds the options of a command that require `--files`.
 fn add_options_of_files<'a>(
     alloc: Global,
     rows: &[OptionRow],
@@ -56,7 +57,7 @@ fn add_options_of_files<'a>(
     Ok(())
 }
 
-/// Adds the arguments of a command that go by their places.
+/// Adds the positional arguments of a command.
 fn add_arguments<'a>(
     alloc: Global,
     rows: &[ArgumentRow],
@@ -68,14 +69,14 @@ fn add_arguments<'a>(
     Ok(())
 }
 
-/// An option.
+/// Returns an option.
 fn option_of<'a>(alloc: Global, row: &OptionRow) -> Result<Arg<'a>, AllocError> {
     let option = Arg::new(alloc, row.name).long(row.name);
     let option = with_letter(option, row.letter).help(row.help);
     with_value(option, row.takes)
 }
 
-/// The option with its letter.
+/// Returns the option with its letter.
 fn with_letter<'a>(option: Arg<'a>, letter: Option<char>) -> Arg<'a> {
     match letter {
         Some(letter) => option.short(letter),
@@ -83,7 +84,7 @@ fn with_letter<'a>(option: Arg<'a>, letter: Option<char>) -> Arg<'a> {
     }
 }
 
-/// The option with what follows it, and without the options that may not be there with it.
+/// Returns the option with its value and the options that conflict with it.
 fn with_value<'a>(option: Arg<'a>, takes: Takes) -> Result<Arg<'a>, AllocError> {
     match takes {
         Takes::NothingWith(others) => option.action(ArgAction::SetTrue).conflicts_with_all(others),
@@ -91,7 +92,7 @@ fn with_value<'a>(option: Arg<'a>, takes: Takes) -> Result<Arg<'a>, AllocError> 
     }
 }
 
-/// The option with what follows it.
+/// Returns the option with its value.
 fn with_own_value<'a>(option: Arg<'a>, takes: Takes) -> Arg<'a> {
     match takes {
         Takes::Nothing | Takes::NothingWith(_) => option.action(ArgAction::SetTrue),
@@ -117,7 +118,7 @@ fn with_own_value<'a>(option: Arg<'a>, takes: Takes) -> Arg<'a> {
     }
 }
 
-/// The option with the value that it has where it is not given.
+/// Returns the option with its default value.
 fn with_default<'a>(option: Arg<'a>, default: Option<&'a str>) -> Arg<'a> {
     match default {
         Some(default) => option.default_value(default),
@@ -125,7 +126,7 @@ fn with_default<'a>(option: Arg<'a>, default: Option<&'a str>) -> Arg<'a> {
     }
 }
 
-/// An argument that goes by its place.
+/// Returns a positional argument.
 fn argument_of<'a>(alloc: Global, row: &ArgumentRow) -> Result<Arg<'a>, AllocError> {
     let argument = Arg::new(alloc, row.name).help(row.help);
     match row.given {
@@ -143,7 +144,7 @@ fn argument_of<'a>(alloc: Global, row: &ArgumentRow) -> Result<Arg<'a>, AllocErr
     }
 }
 
-/// The numbers of a range.
+/// Returns the parser of the numbers in a range.
 fn number_in<'a>(range: NumberRange) -> ValueParser<'a> {
     match range {
         NumberRange::U16(least, most) => {

@@ -4,18 +4,31 @@ use crate::rows::{ArgumentRow, CommandRow, Given, NumberRange, OptionRow, Takes}
 /// A command of the program.
 #[derive(Clone, Copy)]
 pub enum CommandName {
+    /// `type`: types keys with a table.
     Type,
+    /// `check`: verifies a certificate.
     Check,
+    /// `diff`: reports what a new table changes.
     Diff,
+    /// `how`: prints how texts are typed.
     How,
+    /// `list`: lists the sequences of a Compose file.
     List,
+    /// `explain`: prints the keys at which two tables differ.
     Explain,
+    /// `lint`: finds mistakes in Compose files.
     Lint,
+    /// `make`: makes a certificate.
     Make,
+    /// `manifest`: prints the manifest of a Compose file.
     Manifest,
+    /// `update`: takes a Compose file into use.
     Update,
+    /// `serve`: serves typing sessions.
     Serve,
+    /// `load`: loads a table into a running service.
     Load,
+    /// `session`: types in a session of a running service.
     Session,
 }
 
@@ -36,7 +49,7 @@ pub const COMMANDS: [CommandName; 13] = [
     CommandName::Session,
 ];
 
-/// The row of a command.
+/// Returns the row of a command.
 pub fn row_of(command: CommandName) -> &'static CommandRow {
     match command {
         CommandName::Type => &TYPE,
@@ -55,7 +68,7 @@ pub fn row_of(command: CommandName) -> &'static CommandRow {
     }
 }
 
-/// More of a refusal.
+/// `--verbose`: details of a refusal.
 const VERBOSE: OptionRow = OptionRow {
     name: "verbose",
     letter: Some('v'),
@@ -63,7 +76,7 @@ const VERBOSE: OptionRow = OptionRow {
     help: "Say more of a refusal: file, line and column, and hints",
 };
 
-/// Names of keysyms.
+/// `--names`: headers with names of keysyms.
 const NAMES: OptionRow = OptionRow {
     name: "names",
     letter: None,
@@ -71,7 +84,7 @@ const NAMES: OptionRow = OptionRow {
     help: "Keysym names, in the form of keysymdef.h, or builtin for the names of keysymdef.h itself",
 };
 
-/// Fresh keysyms.
+/// `--fresh`: fresh keysyms.
 const FRESH: OptionRow = OptionRow {
     name: "fresh",
     letter: None,
@@ -79,7 +92,7 @@ const FRESH: OptionRow = OptionRow {
     help: "Keysyms that no sequence of the old table has, joined by commas",
 };
 
-/// The folder of the system's tables.
+/// `--system`: the folder of the system's tables.
 const SYSTEM: OptionRow = OptionRow {
     name: "system",
     letter: None,
@@ -87,7 +100,7 @@ const SYSTEM: OptionRow = OptionRow {
     help: "The folder for %S in place of $XLOCALEDIR or /usr/share/X11/locale",
 };
 
-/// The name of a locale.
+/// `--locale`: the name of a locale.
 const LOCALE: OptionRow = OptionRow {
     name: "locale",
     letter: None,
@@ -95,7 +108,7 @@ const LOCALE: OptionRow = OptionRow {
     help: "The locale for %L in place of $LC_ALL, $LC_CTYPE or $LANG",
 };
 
-/// The folder below which absolute paths are looked for first.
+/// `--root`: the folder below which absolute paths are looked for first.
 const ROOT: OptionRow = OptionRow {
     name: "root",
     letter: None,
@@ -103,7 +116,7 @@ const ROOT: OptionRow = OptionRow {
     help: "Look for an include's absolute path below DIR first, as in an unpacked package",
 };
 
-/// The same where two tables may be looked for below different folders.
+/// `--root` of a command with two tables, which may have different folders.
 const ROOTS: OptionRow = OptionRow {
     name: "root",
     letter: None,
@@ -111,7 +124,7 @@ const ROOTS: OptionRow = OptionRow {
     help: "Look for an include's absolute path below DIR first, as in an unpacked package; given twice, the first is OLD's and the last NEW's",
 };
 
-/// Faulty lines are left out.
+/// `--skip-faulty`: skips faulty lines.
 const SKIP_FAULTY: OptionRow = OptionRow {
     name: "skip-faulty",
     letter: None,
@@ -119,7 +132,7 @@ const SKIP_FAULTY: OptionRow = OptionRow {
     help: "Leave faulty lines out, as libxkbcommon does, and report each; the last line says how many",
 };
 
-/// Compose files in the place of manifests.
+/// `--files`: Compose files instead of manifests.
 const FILES: OptionRow = OptionRow {
     name: "files",
     letter: Some('f'),
@@ -127,7 +140,7 @@ const FILES: OptionRow = OptionRow {
     help: "Take Compose files as they lie on the system in the place of manifests, includes followed",
 };
 
-/// The table that is used.
+/// The table.
 const TABLE: ArgumentRow = ArgumentRow {
     name: "TABLE",
     given: Given::Text,
@@ -148,7 +161,7 @@ const NEW: ArgumentRow = ArgumentRow {
     help: "The manifest of the new table, or with --files its Compose file",
 };
 
-/// The characters and keys.
+/// The repertoire: characters and their keys.
 const REPERTOIRE: ArgumentRow = ArgumentRow {
     name: "REPERTOIRE",
     given: Given::Text,
@@ -186,7 +199,7 @@ static TYPE: CommandRow = CommandRow {
     ],
 };
 
-/// The command that checks a certificate.
+/// The command that verifies a certificate.
 static CHECK: CommandRow = CommandRow {
     name: "check",
     about: "Check by a certificate that a new table changes nobody's typing",
@@ -196,7 +209,7 @@ static CHECK: CommandRow = CommandRow {
     arguments: &[OLD, NEW, REPERTOIRE, CERTIFICATE],
 };
 
-/// The command that tells what a new table changes.
+/// The command that reports what a new table changes.
 static DIFF: CommandRow = CommandRow {
     name: "diff",
     about: "Tell of each sequence that a new Compose file changes, removes, makes wait or adds",
@@ -279,7 +292,8 @@ static DIFF: CommandRow = CommandRow {
     ],
 };
 
-/// What is done with overlaps where the longest sequence is taken else, as libxkbcommon takes it.
+/// `--overlap` of a command that takes the longest of overlapping sequences by default, as
+/// libxkbcommon does.
 const OVERLAP: OptionRow = OptionRow {
     name: "overlap",
     letter: None,
@@ -291,7 +305,7 @@ const OVERLAP: OptionRow = OptionRow {
     help: "Of a sequence that another one begins with: take the longest, or refuse the table",
 };
 
-/// Lines of a Compose file, or JSON.
+/// `--format`: lines of a Compose file, or JSON.
 const LIST_FORMAT: OptionRow = OptionRow {
     name: "format",
     letter: None,
@@ -303,7 +317,7 @@ const LIST_FORMAT: OptionRow = OptionRow {
     help: "Lines of a Compose file, or json: an object each",
 };
 
-/// The command that tells how texts are typed.
+/// The command that prints how texts are typed.
 static HOW: CommandRow = CommandRow {
     name: "how",
     about: "Print the sequences that give a text, the shortest first",
@@ -393,7 +407,7 @@ static LIST: CommandRow = CommandRow {
     }],
 };
 
-/// The command that explains how two tables differ.
+/// The command that prints the keys at which two tables differ.
 static EXPLAIN: CommandRow = CommandRow {
     name: "explain",
     about: "Print the shortest keys on which two tables differ",
@@ -414,7 +428,7 @@ static EXPLAIN: CommandRow = CommandRow {
     arguments: &[OLD, NEW],
 };
 
-/// The command that finds what is wrong.
+/// The command that finds mistakes in Compose files.
 static LINT: CommandRow = CommandRow {
     name: "lint",
     about: "Find what is wrong in Compose files, and what other readers of them do otherwise",
@@ -556,7 +570,7 @@ static UPDATE: CommandRow = CommandRow {
     }],
 };
 
-/// The command that serves.
+/// The command that serves typing sessions.
 static SERVE: CommandRow = CommandRow {
     name: "serve",
     about: "Serve typing sessions on a Unix socket, one connection after another or many at once",
@@ -661,7 +675,7 @@ static SERVE: CommandRow = CommandRow {
     ],
 };
 
-/// The command that loads a table.
+/// The command that loads a table into a running service.
 static LOAD: CommandRow = CommandRow {
     name: "load",
     about: "Load a new table into a running service, by a certificate that it follows the table in use",
@@ -671,7 +685,7 @@ static LOAD: CommandRow = CommandRow {
     arguments: &[SOCKET, NEW, CERTIFICATE],
 };
 
-/// The command that types in a session.
+/// The command that types in a session of a running service.
 static SESSION: CommandRow = CommandRow {
     name: "session",
     about: "Type keys in a session of a running service, and print what happens at each",

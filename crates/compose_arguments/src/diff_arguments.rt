@@ -1,51 +1,53 @@
-//! What `diff` asks for.
+//! The arguments of `diff`.
 use crate::given_tables::{FilePair, file_pair};
 use clap::ArgMatches;
 
-/// The arguments of `diff`, but for the names and the fresh keysyms.
+/// The arguments of `diff`, except the names and the fresh keysyms.
 #[derive(Clone, Copy)]
 pub struct DiffArguments<'a> {
     /// The old and the new Compose file.
     pub files: FilePair<'a>,
-    /// Whether faulty lines are left out.
+    /// Whether faulty lines are skipped.
     pub skip_faulty: bool,
-    /// The path of the list of changes that are meant.
+    /// The path of the list of intended changes.
     pub accept: Option<&'a str>,
-    /// Whether only changes are printed whose old text no sequence of the new table gives.
+    /// Whether only those changes are printed whose old text no sequence of the new table produces.
     pub lost: bool,
-    /// How the changes are told.
+    /// How the changes are printed.
     pub form: DiffForm,
-    /// When they are told in colours.
+    /// When they are printed in colours.
     pub color: DiffColor,
 }
 
-/// How `diff` tells changes.
+/// How `diff` prints changes.
 #[derive(Clone, Copy, Debug, PartialEq, Eq)]
 pub enum DiffForm {
-    /// Lines, of which those that belong together are one.
+    /// Lines, with one line for changes that belong together.
     Folded,
-    /// A line for each.
+    /// A line for each change.
     Lines,
-    /// A JSON object for each sequence, the kept ones too.
+    /// A JSON object for each sequence, also for the kept ones.
     Json,
-    /// The list that accepts them.
+    /// The list that accepts the changes.
     AcceptList,
-    /// A page in Markdown, some of whose parts may be folded.
+    /// A page in Markdown. With `folds`, parts of it may be folded.
     Markdown { folds: bool },
-    /// The same in HTML.
+    /// The same page in HTML.
     Html { folds: bool },
 }
 
-/// When `diff` tells changes in colours.
+/// When `diff` prints changes in colours.
 #[derive(Clone, Copy, Debug, PartialEq, Eq)]
 pub enum DiffColor {
-    /// On a terminal, unless the environment's NO_COLOR says otherwise.
+    /// On a terminal, unless the environment variable `NO_COLOR` is set.
     Auto,
+    /// Always.
     Always,
+    /// Never.
     Never,
 }
 
-/// The arguments of `diff`, if they are all there.
+/// Returns the arguments of `diff`, if none is missing.
 pub fn diff_arguments<'a>(given: &ArgMatches<'a>) -> Option<DiffArguments<'a>> {
     Some(DiffArguments {
         files: file_pair(given)?,
@@ -57,7 +59,7 @@ pub fn diff_arguments<'a>(given: &ArgMatches<'a>) -> Option<DiffArguments<'a>> {
     })
 }
 
-/// How the changes are to be told.
+/// Returns how the changes are to be printed.
 fn form_of(given: &ArgMatches<'_>) -> DiffForm {
     if given.get_flag("write-accept") {
         return DiffForm::AcceptList;
@@ -72,7 +74,7 @@ fn form_of(given: &ArgMatches<'_>) -> DiffForm {
     }
 }
 
-/// When they are to be told in colours.
+/// Returns when they are to be printed in colours.
 fn color_of(given: &ArgMatches<'_>) -> DiffColor {
     match given.get_str("color") {
         Some("always") => DiffColor::Always,

@@ -1,13 +1,13 @@
-//! What a command says of the tables that it is given.
+//! The arguments of a command that name tables.
 use crate::table_arguments::{TableArguments, table_arguments};
 use clap::ArgMatches;
 
-/// A table: what a command types with, serves or loads.
+/// A table that a command types with, serves or loads.
 #[derive(Clone, Copy)]
 pub enum TypeTable<'a> {
     /// The path of its manifest.
     Manifest(&'a str),
-    /// Its Compose file, as it lies on the system.
+    /// Its Compose file, as it is on the system.
     File(TableArguments<'a>),
 }
 
@@ -16,11 +16,11 @@ pub enum TypeTable<'a> {
 pub enum BothTables<'a> {
     /// The paths of their manifests.
     Manifests(TablePaths<'a>),
-    /// Their Compose files, as they lie on the system.
+    /// Their Compose files, as they are on the system.
     Files(FilePair<'a>),
 }
 
-/// The paths of what an old and a new table are read from.
+/// The paths of the manifests of an old and a new table.
 #[derive(Clone, Copy)]
 pub struct TablePaths<'a> {
     /// The path of the old table's manifest.
@@ -29,31 +29,32 @@ pub struct TablePaths<'a> {
     pub new: &'a str,
 }
 
-/// The Compose files of an old and a new table, and where their includes lie.
+/// The Compose files of an old and a new table, and where their includes are looked for.
 #[derive(Clone, Copy)]
 pub struct FilePair<'a> {
     /// The path of the old Compose file.
     pub old: &'a str,
     /// The path of the new one.
     pub new: &'a str,
-    /// Whether the longest of overlapping sequences is taken; else they are refused.
+    /// Whether the longest of overlapping sequences is taken; if not, they are refused.
     pub longest: bool,
     /// The folder of the system's tables.
     pub system: Option<&'a str>,
     /// The name of a locale.
     pub locale: Option<&'a str>,
-    /// The folder below which an absolute path of an include is looked for first, where a file of the old table includes it.
+    /// The folder below which an include's absolute path is looked for first, if a file of the old
+    /// table includes it.
     pub old_root: Option<&'a str>,
     /// The same for the new table.
     pub new_root: Option<&'a str>,
 }
 
-/// The table that is typed with or served, if it is given.
+/// Returns the table to type with or to serve, if it is given.
 pub fn type_table<'a>(given: &ArgMatches<'a>) -> Option<TypeTable<'a>> {
     table_named(given, "TABLE")
 }
 
-/// The table that this argument gives, if it is there.
+/// Returns the table that is given for this argument, if it is there.
 pub fn table_named<'a>(given: &ArgMatches<'a>, argument: &str) -> Option<TypeTable<'a>> {
     let path = given.get_str(argument)?;
     if given.get_flag("files") {
@@ -62,7 +63,7 @@ pub fn table_named<'a>(given: &ArgMatches<'a>, argument: &str) -> Option<TypeTab
     Some(TypeTable::Manifest(path))
 }
 
-/// An old and a new table, if they are given.
+/// Returns the old and the new table, if they are given.
 pub fn both_tables<'a>(given: &ArgMatches<'a>) -> Option<BothTables<'a>> {
     if given.get_flag("files") {
         return file_pair(given).map(BothTables::Files);
@@ -73,7 +74,7 @@ pub fn both_tables<'a>(given: &ArgMatches<'a>) -> Option<BothTables<'a>> {
     }))
 }
 
-/// The Compose files of an old and a new table, if they are given.
+/// Returns the Compose files of the old and the new table, if they are given.
 pub fn file_pair<'a>(given: &ArgMatches<'a>) -> Option<FilePair<'a>> {
     let (old_root, new_root) = roots_of(given.get_strs("root").unwrap_or(&[]));
     Some(FilePair {
@@ -87,7 +88,7 @@ pub fn file_pair<'a>(given: &ArgMatches<'a>) -> Option<FilePair<'a>> {
     })
 }
 
-/// The roots of the old and the new table: the first and the last that is given.
+/// Returns the roots of the old and the new table: the first and the last of those that are given.
 fn roots_of<'a>(roots: &[&'a str]) -> (Option<&'a str>, Option<&'a str>) {
     (roots.first().copied(), roots.last().copied())
 }

@@ -1,21 +1,21 @@
-//! What `how` asks for.
+//! The arguments of `how`.
 use crate::table_arguments::{TableArguments, table_arguments};
 use clap::ArgMatches;
 
-/// The arguments of `how`, but for the names and the texts.
+/// The arguments of `how`, except the names and the texts.
 #[derive(Clone, Copy)]
 pub struct HowArguments<'a> {
     /// The table.
     pub table: TableArguments<'a>,
-    /// The path of the repertoire whose keys alone can be typed, if it is given.
+    /// The path of the repertoire with the only keys that can be typed, if it is given.
     pub repertoire: Option<&'a str>,
-    /// Whether the first sequence of each text is asked for alone.
+    /// Whether only the first sequence of each text is printed.
     pub first: bool,
-    /// Whether JSON is asked for.
+    /// Whether the answer is JSON.
     pub json: bool,
 }
 
-/// The arguments of `how`.
+/// Returns the arguments of `how`.
 pub fn how_arguments<'a>(given: &ArgMatches<'a>) -> HowArguments<'a> {
     HowArguments {
         table: table_arguments(given, given.get_str("from")),

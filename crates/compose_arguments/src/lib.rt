@@ -1,11 +1,15 @@
 //! The arguments of the command line of `composecheck`, as requests.
 //!
-//! A command that reads files and answers is a variant of [`Question`], another one of [`Request`]; each is a row of `commands`, and a line of
-//! `question_of` or `request_of`.
+//! A command that reads files and answers is a variant of [`Question`], any other one a variant of
+//! [`Request`]. Each is a row of `commands`, and a line of `question_of` or `request_of`.
 //!
 //! ```text
 //! read_command_line(alloc, &arguments)?.request    // type table.manifest a b
-//! Request::Answer(Question::Keys { table: TypeTable::Manifest("table.manifest"), keys: ["a", "b"] })
+//!
+//! Request::Answer(Question::Keys {
+//!     table: TypeTable::Manifest("table.manifest"),
+//!     keys: ["a", "b"],
+//! })
 //! ```
 #![tactic(auto)]
 

@@ -1,33 +1,34 @@
-//! What `lint` asks for.
+//! The arguments of `lint`.
 use clap::ArgMatches;
 use std::alloc::{AllocError, Global};
 
-/// The arguments of `lint`, but for the names.
+/// The arguments of `lint`, except the names.
 #[derive(Drop)]
 pub struct LintArguments<'a> {
     /// The folder of the system's tables.
     pub system: Option<&'a str>,
     /// The name of a locale.
     pub locale: Option<&'a str>,
-    /// The folder below which an absolute path of an include is looked for first.
+    /// The folder below which an include's absolute path is looked for first.
     pub root: Option<&'a str>,
-    /// The words of the readers that are asked for; none stands for the usual ones.
+    /// The words of the wanted readers; none means the default ones.
     pub readers: Vec<&'a str>,
-    /// Whether what included files say too is asked for.
+    /// Whether lines are also compared with the lines of included files.
     pub all: bool,
-    /// Whether faulty lines are left out.
+    /// Whether faulty lines are skipped.
     pub skip_faulty: bool,
-    /// The path of the list of findings that are accepted.
+    /// The path of the list of accepted findings.
     pub accept: Option<&'a str>,
-    /// Whether the list that accepts the findings is asked for.
+    /// Whether the list that accepts the findings is printed instead of the findings.
     pub write_accept: bool,
-    /// Whether JSON is asked for.
+    /// Whether the answer is JSON.
     pub json: bool,
-    /// The paths of the Compose files; none stands for the user's own.
+    /// The paths of the Compose files; none means the user's own file.
     pub files: Vec<&'a str>,
 }
 
-/// The arguments of `lint`.
+/// Returns the arguments of `lint`.
+/// Errors: `AllocError` if memory runs out.
 pub fn lint_arguments<'a>(
     alloc: Global,
     given: &ArgMatches<'a>,

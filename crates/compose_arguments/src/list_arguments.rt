@@ -1,35 +1,40 @@
-//! What `list` asks for.
+//! The arguments of `list`.
 use crate::name_lists::names_of_option;
 use crate::table_arguments::{TableArguments, table_arguments};
 use clap::ArgMatches;
 use std::alloc::{AllocError, Global};
 
-/// The arguments of `list`, but for the names.
+/// The arguments of `list`, except the names.
 #[derive(Drop)]
 pub struct ListArguments<'a> {
     /// The table.
     pub table: TableArguments<'a>,
-    /// The names of the keys with which the sequences begin: those of `--prefix` between commas.
+    /// The names of the keys with which the sequences begin: those in `--prefix`, separated by
+    /// commas.
     pub prefix: Vec<&'a str>,
-    /// The text that they give, if one is asked for.
+    /// The text that the sequences produce, if one is given.
     pub text: Option<&'a str>,
-    /// Whether the keys are asked for that can follow, in the place of the sequences.
+    /// Whether the keys that can follow are printed, instead of the sequences.
     pub next: bool,
     /// The order of the sequences.
     pub sort: ListSort,
-    /// Whether JSON is asked for.
+    /// Whether the answer is JSON.
     pub json: bool,
 }
 
 /// The order in which `list` prints sequences.
 #[derive(Clone, Copy, Debug, PartialEq, Eq)]
 pub enum ListSort {
+    /// By their keys.
     Keys,
+    /// By their text.
     Text,
+    /// In the order of the file.
     File,
 }
 
-/// The arguments of `list`.
+/// Returns the arguments of `list`.
+/// Errors: `AllocError` if memory runs out.
 pub fn list_arguments<'a>(
     alloc: Global,
     given: &ArgMatches<'a>,
@@ -44,7 +49,7 @@ pub fn list_arguments<'a>(
     })
 }
 
-/// The order that is asked for.
+/// Returns the order that is asked for.
 fn sort_of(given: &ArgMatches<'_>) -> ListSort {
     match given.get_str("sort") {
         Some("text") => ListSort::Text,

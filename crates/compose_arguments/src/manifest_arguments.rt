@@ -1,4 +1,4 @@
-//! What `manifest` asks for.
+//! The arguments of `manifest`.
 use clap::ArgMatches;
 
 /// The arguments of `manifest`.
@@ -8,13 +8,13 @@ pub struct ManifestArguments<'a> {
     pub system: Option<&'a str>,
     /// The name of a locale.
     pub locale: Option<&'a str>,
-    /// The folder below which an absolute path of an include is looked for first.
+    /// The folder below which an include's absolute path is looked for first.
     pub root: Option<&'a str>,
     /// The path of the Compose file, if it is given.
     pub file: Option<&'a str>,
 }
 
-/// The arguments of `manifest`.
+/// Returns the arguments of `manifest`.
 pub fn manifest_arguments<'a>(given: &ArgMatches<'a>) -> ManifestArguments<'a> {
     ManifestArguments {
         system: given.get_str("system"),

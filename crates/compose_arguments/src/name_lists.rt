@@ -1,4 +1,4 @@
-//! Lists of names in one argument, with commas between them.
+//! Lists of names in one argument, separated by commas.
 ghost use Rattle.std.specs.Prelude.{◌≡◌, ◌==◌, map, IfOk};
 ghost use Rattle.std.specs.List.{slice_split};
 ghost use Rattle.compose_arguments.specs.Commas.{names_between};
@@ -6,7 +6,7 @@ ghost use Rattle.compose_arguments.specs.Commas.{names_between};
 use clap::ArgMatches;
 use std::alloc::{AllocError, Global};
 
-/// The names of `--fresh` between commas, where it is given.
+/// Returns the names in `--fresh`, separated by commas, if it is given.
 pub(crate) fn given_fresh_names<'a>(
     alloc: Global,
     given: &ArgMatches<'a>,
@@ -17,7 +17,7 @@ pub(crate) fn given_fresh_names<'a>(
     }
 }
 
-/// The names of `--fresh` between commas; none where it is not given.
+/// Returns the names in `--fresh`, separated by commas; none if it is not given.
 pub(crate) fn fresh_names<'a>(
     alloc: Global,
     given: &ArgMatches<'a>,
@@ -25,7 +25,7 @@ pub(crate) fn fresh_names<'a>(
     names_of_option(alloc, given, "fresh")
 }
 
-/// The names between commas that this option has; none where it is not given.
+/// Returns the names in this option, separated by commas; none if it is not given.
 pub(crate) fn names_of_option<'a>(
     alloc: Global,
     given: &ArgMatches<'a>,
@@ -37,7 +37,8 @@ pub(crate) fn names_of_option<'a>(
     }
 }
 
-/// The arguments between commas, none of an empty text. Nothing between two commas is an argument too.
+/// Returns the names separated by commas; none for an empty text. A name between two commas may be
+/// empty.
 fn names_between<'a>(alloc: Global, text: &'a str) -> Result<Vec<&'a str>, AllocError>
     ensures { IfOk result
         (λ arguments. map (λ argument. argument.now) arguments.items ≡ names_between text.now) }
@@ -48,7 +49,7 @@ fn names_between<'a>(alloc: Global, text: &'a str) -> Result<Vec<&'a str>, Alloc
     split_words(alloc, text)
 }
 
-/// The parts of a text between commas.
+/// Returns the parts of a text separated by commas.
 fn split_words<'a>(alloc: Global, text: &'a str) -> Result<Vec<&'a str>, AllocError>
     ensures { IfOk result
         (λ arguments. map (λ argument. argument.now) arguments.items

@@ -1,4 +1,4 @@
-//! What is asked of the commands that read files and answer.
+//! The commands that read files and answer.
 use crate::diff_arguments::{DiffArguments, diff_arguments};
 use crate::given_tables::{BothTables, TypeTable, both_tables, type_table};
 use crate::how_arguments::{HowArguments, how_arguments};
@@ -9,63 +9,73 @@ use crate::name_lists::{fresh_names, given_fresh_names};
 use clap::ArgMatches;
 use std::alloc::{AllocError, Global};
 
-/// What is asked of a command that reads files and answers: its arguments and paths, which are lent by the command line.
+/// A command that reads files and answers, with its arguments and paths, which the command line
+/// lends.
 #[derive(Drop)]
 pub enum Question<'a> {
-    /// What these keys type with a table.
+    /// `type`: what these keys type with a table.
     Keys {
+        /// The table.
         table: TypeTable<'a>,
-        /// The names of the keysyms; none of a Compose file where standard input has them.
+        /// The names of the keysyms; for a Compose file, none if they are on standard input.
         keys: Vec<&'a str>,
     },
-    /// Whether a certificate is valid.
+    /// `check`: whether a certificate is valid.
     Check {
+        /// The old and the new table.
         tables: BothTables<'a>,
-        /// The names of `--fresh` between commas, where it is given.
+        /// The names in `--fresh`, separated by commas, if it is given.
         fresh: Option<Vec<&'a str>>,
+        /// The path of the repertoire.
         repertoire: &'a str,
+        /// The path of the certificate.
         certificate: &'a str,
     },
-    /// How two tables differ.
+    /// `explain`: how two tables differ.
     Explain {
+        /// The old and the new table.
         tables: BothTables<'a>,
-        /// The names of `--fresh` between commas.
+        /// The names in `--fresh`, separated by commas.
         fresh: Vec<&'a str>,
-        /// Whether all differences are asked for.
+        /// Whether all differences are printed.
         all: bool,
     },
-    /// What a new Compose file changes.
+    /// `diff`: what a new Compose file changes.
     Diff {
+        /// The other arguments.
         arguments: DiffArguments<'a>,
-        /// The names of `--fresh` between commas.
+        /// The names in `--fresh`, separated by commas.
         fresh: Vec<&'a str>,
     },
-    /// How texts are typed.
+    /// `how`: how texts are typed.
     How {
+        /// The other arguments.
         arguments: HowArguments<'a>,
         /// The texts, at least one.
         texts: Vec<&'a str>,
     },
-    /// Which sequences a Compose file has.
+    /// `list`: the sequences of a Compose file.
     List(ListArguments<'a>),
-    /// What is wrong in Compose files.
+    /// `lint`: mistakes in Compose files.
     Lint(LintArguments<'a>),
-    /// Which certificate shows that a new table follows an old one.
+    /// `make`: a certificate that shows that a new table follows an old one.
     Make {
+        /// The old and the new table.
         tables: BothTables<'a>,
-        /// The names of `--fresh` between commas.
+        /// The names in `--fresh`, separated by commas.
         fresh: Vec<&'a str>,
-        /// Whether all characters that can't be typed are asked for.
+        /// Whether all characters that can't be typed are printed.
         all: bool,
+        /// The path of the repertoire.
         repertoire: &'a str,
-        /// The path of the file that is written, where it is given.
+        /// The path of the file that is written, if it is given.
         output: Option<&'a str>,
     },
-    /// Which files a Compose file reads, as a manifest.
+    /// `manifest`: the files that a Compose file reads.
     Manifest(ManifestArguments<'a>),
 }
 
-/// What this command is asked, if it reads files and answers, and has its arguments.
+/// Returns the question of this command, if it reads files and answers, and no argument is missing.
 pub(crate) fn question_of<'a>(
     alloc: Global,
     command: &str,
@@ -85,7 +95,7 @@ pub(crate) fn question_of<'a>(
     }
 }
 
-/// The arguments of `type`.
+/// Returns the question of `type`.
 fn type_question<'a>(
     alloc: Global,
     given: &ArgMatches<'a>,
@@ -99,7 +109,7 @@ fn type_question<'a>(
     }))
 }
 
-/// The arguments of `check`.
+/// Returns the question of `check`.
 fn check_question<'a>(
     alloc: Global,
     given: &ArgMatches<'a>,
@@ -115,7 +125,7 @@ fn check_question<'a>(
     }))
 }
 
-/// The paths of `check`.
+/// Returns the paths of `check`.
 fn check_paths<'a>(given: &ArgMatches<'a>) -> Option<(BothTables<'a>, &'a str, &'a str)> {
     Some((
         both_tables(given)?,
@@ -124,7 +134,7 @@ fn check_paths<'a>(given: &ArgMatches<'a>) -> Option<(BothTables<'a>, &'a str, &
     ))
 }
 
-/// The arguments of `explain`.
+/// Returns the question of `explain`.
 fn explain_question<'a>(
     alloc: Global,
     given: &ArgMatches<'a>,
@@ -139,7 +149,7 @@ fn explain_question<'a>(
     }))
 }
 
-/// The arguments of `diff`.
+/// Returns the question of `diff`.
 fn diff_question<'a>(
     alloc: Global,
     given: &ArgMatches<'a>,
@@ -153,7 +163,7 @@ fn diff_question<'a>(
     }))
 }
 
-/// The arguments of `how`.
+/// Returns the question of `how`.
 fn how_question<'a>(
     alloc: Global,
     given: &ArgMatches<'a>,
@@ -167,7 +177,7 @@ fn how_question<'a>(
     }))
 }
 
-/// The arguments of `make`.
+/// Returns the question of `make`.
 fn make_question<'a>(
     alloc: Global,
     given: &ArgMatches<'a>,

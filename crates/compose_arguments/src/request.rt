@@ -1,4 +1,4 @@
-//! What the command line asks for.
+//! The command that the command line names.
 use crate::client_arguments::{LoadArguments, SessionArguments, load_arguments, session_arguments};
 use crate::command_line::command_line;
 use crate::name_lists::{fresh_names, given_fresh_names};
@@ -9,42 +9,45 @@ use clap::error::ErrorKind;
 use clap::{ArgMatches, Command, Error};
 use std::alloc::{AllocError, Global};
 
-/// What the command line asks for.
+/// The command that the command line names.
 #[derive(Drop)]
 pub enum Request<'a> {
-    /// Read files and answer.
+    /// A command that reads files and answers.
     Answer(Question<'a>),
-    /// Take a Compose file into use.
+    /// `update`: takes a Compose file into use.
     Update {
+        /// The other arguments.
         arguments: UpdateArguments<'a>,
-        /// The names of `--fresh` between commas.
+        /// The names in `--fresh`, separated by commas.
         fresh: Vec<&'a str>,
     },
-    /// Serve typing sessions on a socket.
+    /// `serve`: serves typing sessions on a socket.
     Serve {
+        /// The other arguments.
         arguments: ServeArguments<'a>,
-        /// The names of `--fresh` between commas, where it is given.
+        /// The names in `--fresh`, separated by commas, if it is given.
         fresh: Option<Vec<&'a str>>,
     },
-    /// Load a table into a running service.
+    /// `load`: loads a table into a running service.
     Load(LoadArguments<'a>),
-    /// Type in a session of a running service.
+    /// `session`: types in a session of a running service.
     Session(SessionArguments<'a>),
 }
 
-/// What the arguments of the command line say.
+/// The arguments of the command line.
 #[derive(Drop)]
 pub struct CommandLine<'a> {
     /// The arguments of each `--names`: the path of a header of names, or `builtin`.
     pub names: Vec<&'a str>,
-    /// Whether more is to be said of a refusal.
+    /// Whether details of a refusal are printed.
     pub verbose: bool,
-    /// What is asked for.
+    /// The command and its arguments.
     pub request: Request<'a>,
 }
 
-/// What these arguments say, of which the first is the program's name. Else clap's answer: the help or the version, why the arguments are
-/// refused, or that memory was refused. O(bytes of the arguments).
+/// Reads these arguments, the first of which is the program's name. O(bytes of the arguments).
+/// Errors: clap's error, which is the help, the version, why the arguments are refused, or that
+/// memory ran out.
 pub fn read_command_line<'a>(
     alloc: Global,
     arguments: &'a [String],
@@ -53,7 +56,7 @@ pub fn read_command_line<'a>(
     arguments_found(alloc, &matches)
 }
 
-/// What was found says.
+/// Reads the parsed arguments.
 fn arguments_found<'a>(alloc: Global, matches: &ArgMatches<'a>) -> Result<CommandLine<'a>, Error> {
     let names = names_of(alloc, matches)?;
     match request_of(alloc, matches)? {
@@ -66,7 +69,7 @@ fn arguments_found<'a>(alloc: Global, matches: &ArgMatches<'a>) -> Result<Comman
     }
 }
 
-/// The arguments of each `--names` of the command that was found.
+/// Returns the arguments of each `--names` of the parsed command.
 fn names_of<'a>(alloc: Global, matches: &ArgMatches<'a>) -> Result<Vec<&'a str>, AllocError> {
     let Some((_, given)) = matches.subcommand() else {
         return Ok(Vec::new(alloc));
@@ -77,7 +80,7 @@ fn names_of<'a>(alloc: Global, matches: &ArgMatches<'a>) -> Result<Vec<&'a str>,
     }
 }
 
-/// Whether the command that was found is to say more of a refusal.
+/// Returns whether the parsed command has `--verbose`.
 fn is_verbose(matches: &ArgMatches<'_>) -> bool {
     match matches.subcommand() {
         Some((_, given)) => given.get_flag("verbose"),
@@ -85,18 +88,18 @@ fn is_verbose(matches: &ArgMatches<'_>) -> bool {
     }
 }
 
-/// What is said where an argument is missing that clap has let pass.
+/// Returns the error for a missing argument that clap has let pass.
 fn no_request(alloc: Global) -> Result<Error, AllocError> {
     let mut command = command_line(alloc)?;
     missing_word(&mut command)
 }
 
-/// That a word is missing.
+/// Returns the error that a word is missing.
 fn missing_word(command: &mut Command<'_>) -> Result<Error, AllocError> {
     command.error(ErrorKind::MissingRequiredArgument, "a word is missing")
 }
 
-/// What the command that was found asks for, if it has its arguments.
+/// Returns the request of the parsed command, if no argument is missing.
 fn request_of<'a>(
     alloc: Global,
     matches: &ArgMatches<'a>,
@@ -113,7 +116,7 @@ fn request_of<'a>(
     }
 }
 
-/// The arguments of `serve`.
+/// Returns the request of `serve`.
 fn serve_request<'a>(
     alloc: Global,
     given: &ArgMatches<'a>,
@@ -127,7 +130,7 @@ fn serve_request<'a>(
     }))
 }
 
-/// The arguments of `session`.
+/// Returns the request of `session`.
 fn session_request<'a>(
     alloc: Global,
     given: &ArgMatches<'a>,
@@ -135,7 +138,7 @@ fn session_request<'a>(
     Ok(session_arguments(alloc, given)?.map(Request::Session))
 }
 
-/// The arguments of `update`.
+/// Returns the request of `update`.
 fn update_request<'a>(
     alloc: Global,
     given: &ArgMatches<'a>,

@@ -1,18 +1,19 @@
-//! What the rows of the commands are made of.
+//! The parts of the rows of commands.
 
 /// A command of the program.
 #[derive(Clone, Copy)]
 pub struct CommandRow {
+    /// The name of the command.
     pub name: &'static str,
-    /// What help says of it.
+    /// Its description in the help of the program.
     pub about: &'static str,
-    /// What its own help says last.
+    /// The last lines of its own help.
     pub after_help: &'static str,
     /// Its options, in the order of its help.
     pub options: &'static [OptionRow],
-    /// Its options that may be there with `--files` alone, which come after them.
+    /// Its options that require `--files`, which come after the others.
     pub options_of_files: &'static [OptionRow],
-    /// What it takes beside options, in order.
+    /// Its positional arguments, in order.
     pub arguments: &'static [ArgumentRow],
 }
 
@@ -21,78 +22,89 @@ pub struct CommandRow {
 pub struct OptionRow {
     /// The name after two hyphens.
     pub name: &'static str,
-    /// The letter after one hyphen, where it has one.
+    /// The letter after one hyphen, if it has one.
     pub letter: Option<char>,
+    /// What follows the option.
     pub takes: Takes,
-    /// What help says of it.
+    /// Its description in the help.
     pub help: &'static str,
 }
 
-/// What follows an option. Its value has a name in help.
+/// What follows an option. A value has a name, which the help shows.
 #[derive(Clone, Copy)]
 pub enum Takes {
-    /// Nothing: the option is there or not.
+    /// Nothing: the option is a flag.
     Nothing,
-    /// Nothing, and the options of these names may not be there with it.
+    /// Nothing, and the options with these names conflict with it.
     NothingWith(&'static [&'static str]),
-    /// A value.
+    /// A value with this name.
     Value(&'static str),
-    /// A value. The option may come several times.
+    /// A value with this name. The option may be given several times.
     Values(&'static str),
-    /// One of these values. The option may come several times.
+    /// One of some values. The option may be given several times.
     SomeOf {
+        /// The name of the value.
         name: &'static str,
+        /// The possible values.
         values: &'static [&'static str],
     },
-    /// One of these values.
+    /// One of some values.
     OneOf {
+        /// The name of the value.
         name: &'static str,
+        /// The possible values.
         values: &'static [&'static str],
-        /// The value where the option is not given.
+        /// The value if the option is not given.
         default: &'static str,
     },
     /// A number.
     Number {
+        /// The name of the value.
         name: &'static str,
+        /// The range of the number.
         range: NumberRange,
-        /// The number where the option is not given, if it counts as given then.
+        /// The number if the option is not given; `None` if there is no default.
         default: Option<&'static str>,
     },
 }
 
-/// An argument that goes by its place.
+/// A positional argument.
 #[derive(Clone, Copy)]
 pub struct ArgumentRow {
+    /// Its name in the help.
     pub name: &'static str,
+    /// What is given for it.
     pub given: Given,
-    /// What help says of it.
+    /// Its description in the help.
     pub help: &'static str,
 }
 
-/// What is given in the place of an argument.
+/// What is given for a positional argument.
 #[derive(Clone, Copy)]
 pub enum Given {
     /// A text.
     Text,
-    /// A text, if there is one.
+    /// A text, which may be left out.
     Maybe,
-    /// A number.
+    /// A number in this range.
     Number(NumberRange),
-    /// A text, which may be left out with the option of this name.
+    /// A text, which may be left out if the option with this name is given.
     TextUnless(&'static str),
-    /// A number, which may be left out with the option of this name.
+    /// A number in this range, which may be left out if the option with this name is given.
     NumberUnless(NumberRange, &'static str),
-    /// All texts that are left, at least one.
+    /// All remaining texts, at least one.
     Some,
-    /// All texts that are left, which may be none with the option of this name.
+    /// All remaining texts; there may be none if the option with this name is given.
     SomeUnless(&'static str),
-    /// All texts that are left, if any.
+    /// All remaining texts, which may be none.
     Any,
 }
 
-/// From the least number to the most, of the type that the number is read as.
+/// The least and the greatest number, both included, of the type that the number is read as.
 #[derive(Clone, Copy)]
 pub enum NumberRange {
+    /// A number of 16 bits.
     U16(u16, u16),
+    /// A number of 32 bits.
     U32(u32, u32),
 }

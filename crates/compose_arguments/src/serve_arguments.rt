@@ -1,18 +1,22 @@
-//! What `serve` asks for.
+//! The arguments of `serve`.
 use crate::given_tables::{TypeTable, type_table};
 use clap::ArgMatches;
 
-/// What a service begins with.
+/// The table that a service starts with.
 #[derive(Clone, Copy)]
 pub enum Served<'a> {
-    /// A table, and the paths of the repertoire and of the certificate of the table against itself.
+    /// A table with a repertoire and a certificate.
     Files {
+        /// The table.
         table: TypeTable<'a>,
+        /// The path of the repertoire.
         repertoire: &'a str,
+        /// The path of the certificate of the table against itself.
         certificate: &'a str,
     },
-    /// The table that `update` keeps in the folder at this path.
+    /// The table that `update` keeps in a folder.
     State {
+        /// The path of the folder.
         folder: &'a str,
     },
 }
@@ -20,27 +24,30 @@ pub enum Served<'a> {
 /// The arguments of `serve`.
 #[derive(Clone, Copy)]
 pub struct ServeArguments<'a> {
-    /// What the service begins with.
+    /// The table that the service starts with.
     pub served: Served<'a>,
     /// The path of the socket.
     pub socket: &'a str,
-    /// After how many connections it ends, at least 1.
+    /// The number of connections after which it ends, at least 1.
     pub connections: u32,
-    /// How many connections are served at once, 1 to 1,024; one after another where it is not given.
+    /// The number of connections served at once, from 1 to 1,024; if it is not given, one is served
+    /// after another.
     pub at_once: Option<u16>,
-    /// How many bytes of replies may be unsent on a connection that is served beside others, at least 1.
+    /// The number of unsent bytes of replies at which no more requests of a connection are
+    /// answered, at least 1; used if connections are served at once.
     pub unsent: u32,
-    /// For how many seconds a connection may be idle, at least 1; for ever where it is not given.
+    /// The number of seconds for which a connection may be idle, at least 1; if it is not given,
+    /// there is no limit.
     pub idle: Option<u32>,
     /// The mode of the socket's file.
     pub mode: u32,
-    /// Whether a socket that nobody listens on is replaced.
+    /// Whether a socket on which nobody listens is replaced.
     pub replace: bool,
     /// Whether the socket's file is removed at the end.
     pub unlink: bool,
 }
 
-/// The arguments of `serve`, if they are all there.
+/// Returns the arguments of `serve`, if none is missing.
 pub fn serve_arguments<'a>(given: &ArgMatches<'a>) -> Option<ServeArguments<'a>> {
     let (served, socket) = served_on(given)?;
     Some(ServeArguments {
@@ -56,7 +63,8 @@ pub fn serve_arguments<'a>(given: &ArgMatches<'a>) -> Option<ServeArguments<'a>>
     })
 }
 
-/// What is served, and the path of the socket, which is the first word after `--state`.
+/// Returns the table that is served, and the path of the socket, which with `--state` is the first
+/// positional argument.
 fn served_on<'a>(given: &ArgMatches<'a>) -> Option<(Served<'a>, &'a str)> {
     if let Some(folder) = given.get_str("state") {
         return Some((Served::State { folder }, given.get_str("TABLE")?));
@@ -69,7 +77,7 @@ fn served_on<'a>(given: &ArgMatches<'a>) -> Option<(Served<'a>, &'a str)> {
     Some((files, given.get_str("SOCKET")?))
 }
 
-/// After how many connections the service ends; with `--state` it goes on, for four billion connections.
+/// Returns the number of connections after which the service ends; with `--state`, 2³² - 1.
 fn connections_of(given: &ArgMatches<'_>) -> Option<u32> {
     if given.get_str("state").is_some() {
         return Some(u32::MAX);
@@ -77,7 +85,7 @@ fn connections_of(given: &ArgMatches<'_>) -> Option<u32> {
     Some(u32::from(given.get_one::<u16>("CONNECTIONS")?))
 }
 
-/// The mode that an argument of `--mode` says.
+/// Returns the mode that `--mode` has as this argument.
 fn mode_of(argument: &str) -> u32 {
     match argument {
         "666" => 0o666,

@@ -1,4 +1,4 @@
-//! What `update` asks for.
+//! The arguments of `update`.
 use clap::ArgMatches;
 
 /// The arguments of `update`.
@@ -6,21 +6,23 @@ use clap::ArgMatches;
 pub struct UpdateArguments<'a> {
     /// The path of the Compose file that is taken into use.
     pub file: &'a str,
-    /// The path of the characters that people need, with their keys; nobody needs any where it is not given.
+    /// The path of the repertoire, the characters that people need with their keys; if it is not
+    /// given, nobody needs any.
     pub repertoire: Option<&'a str>,
-    /// The path of the list of changes that are meant, if one is given.
+    /// The path of the list of intended changes, if it is given.
     pub accept: Option<&'a str>,
-    /// The folder in which the table in use is kept, if the environment doesn't say it.
+    /// The folder in which the table in use is kept, if it is given; otherwise the environment
+    /// decides.
     pub state: Option<&'a str>,
-    /// The path of the running service's socket, if the environment doesn't say it.
+    /// The path of the running service's socket, if it is given; otherwise the environment decides.
     pub socket: Option<&'a str>,
-    /// The folder of the system's tables, if the environment doesn't say it.
+    /// The folder of the system's tables, if it is given; otherwise the environment decides.
     pub system: Option<&'a str>,
-    /// The name of the locale, if the environment doesn't say it.
+    /// The name of the locale, if it is given; otherwise the environment decides.
     pub locale: Option<&'a str>,
 }
 
-/// The arguments of `update`, if they are all there.
+/// Returns the arguments of `update`, if none is missing.
 pub fn update_arguments<'a>(given: &ArgMatches<'a>) -> Option<UpdateArguments<'a>> {
     Some(UpdateArguments {
         file: given.get_str("FILE")?,

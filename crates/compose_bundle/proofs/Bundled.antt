@@ -20,7 +20,7 @@ module _ (bytes name rest : List ℕ) (head : sized_by_2 bytes ≡ Some (name, r
   named_so : source_at bytes ≡ named name rest
   named_so = ap (λ o. o >>= (λ p. named p.0 p.1)) head
 
-  -- a name that is no text begins no further source
+  -- a name that is not UTF-8 begins no further source
   pub no_text : (sources : List Source) → is_utf8 name ≡ false → more_source sources bytes ≡ None
   no_text sources f =
       ap (λ o. o >>= (λ p. if nat_lt (source_named sources p.0.name) (length sources) then None else Some p))
@@ -35,7 +35,7 @@ module _ (bytes name rest : List ℕ) (head : sized_by_2 bytes ≡ Some (name, r
         (named_so ∙ ap (λ b. cond b (sized_by_4 rest >>= (λ p. Some (record { name = name; bytes = p.0 }, p.1))) None) text
         ∙ ap (λ o. o >>= (λ p. Some (record { name = name; bytes = p.0 }, p.1))) body)
 
-    -- a source with a name that is free and a content comes after the others
+    -- a source with a free name and a content comes after the others
     pub one_more : (sources' : List Source) → add_fault sources name ≡ None → sources' ≡ sources ++ whole ∷ [] → AddsSource sources bytes sources' left
     one_more sources' free e = (whole, found ∙ go (nat_lt (source_named sources name) (length sources)) free, e)
       where
@@ -53,7 +53,7 @@ module _ (bytes name rest : List ℕ) (head : sized_by_2 bytes ≡ Some (name, r
         go false true e g = absurd (too_many (leb-true 64 (length sources) e) few)
         go false false e g = cc
 
--- one source of so many
+-- the next one of the sources
 pub next_source : (count index : ℕ) (sources sources' : List Source) (bytes rest : List ℕ) → index < count → AddsSource sources bytes sources' rest
     → sources_at (count - index) sources bytes ≡ sources_at (count - (index + 1)) sources' rest
 next_source count index sources sources' bytes rest l a = go (count - index) (omega arith)
@@ -62,7 +62,7 @@ next_source count index sources sources' bytes rest l a = go (count - index) (om
     go m e =
         ap (λ k. sources_at k sources bytes) e ∙ ap (λ o. o >>= (λ p. sources_at (count - (index + 1)) (sources ++ p.0 ∷ []) p.1)) a.1 ∙ ap (λ ss. sources_at (count - (index + 1)) ss rest) (sym a.2)
 
--- where the next source cannot be read, the sources from there on cannot
+-- if the next source can't be read, the sources from there on can't be read
 pub no_source : (count index : ℕ) (sources : List Source) (bytes : List ℕ) → index < count → more_source sources bytes ≡ None → sources_at (count - index) sources bytes ≡ None
 no_source count index sources bytes l h = go (count - index) (omega arith)
   where
@@ -75,7 +75,7 @@ not_decoded bundle_faults.Form o p w h = w h
 not_decoded bundle_faults.TooLarge o p w h = absurd h
 not_decoded bundle_faults.NoMemory o p w h = tt
 
--- a payload whose sources cannot be read is no bundle
+-- a payload whose sources can't be read is no bundle
 pub no_sources : (payload head rest : List ℕ) (count : ℕ) → split 2 payload ≡ Some (head, rest) → count ≡ from_be_bytes w16 head → sources_at count [] rest ≡ None → bundle_of payload ≡ None
 no_sources payload head rest count h c n = ap (λ o. o >>= (λ p. counted (from_be_bytes w16 p.0) p.1)) h ∙ ap (λ m. counted m rest) (sym c) ∙ go (nat_lt 0 count && nat_le count 64)
   where

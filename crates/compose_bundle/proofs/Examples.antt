@@ -1,4 +1,4 @@
--- A bundle, written out: one source named r without content, and a certificate.
+-- A bundle, written out: one source named r, which is empty, and a certificate.
 use Rattle.std.proofs.Common.{◌≡◌, [], ◌∷◌, ◌++◌, refl}
 use Rattle.std.specs.Prelude.{codes, None}
 use Rattle.compose_bundle.specs.Bundle.{Bundle, bundle_bytes}

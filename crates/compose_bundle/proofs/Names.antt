@@ -48,13 +48,13 @@ at_middle : (P : List ℕ → Type 0) (before : List Source) (s : Source) (after
 at_middle P [] s after a = a.0
 at_middle P (x ∷ before) s after a = at_middle P before s after a.1
 
--- of distinct names each one is new after those before it
+-- each of distinct names is new after those before it
 pub new_among : (before : List Source) (s : Source) (after : List Source) → IsDistinct bytes_eq (names_of (before ++ s ∷ after)) → IsNew before s.name
 unfolding IsDistinct
 new_among [] s after d = tt
 new_among (x ∷ before) s after d = (flipped x.name s.name (at_middle (λ y. bytes_eq x.name y ≡ false) before s after d.0), new_among before s after d.1)
 
--- the names of no sources are distinct
+-- no names are distinct names
 pub none_distinct : IsDistinct bytes_eq (names_of [])
 unfolding IsDistinct
 none_distinct = tt

@@ -1,4 +1,4 @@
--- A payload is at most one bundle, and the one that is found.
+-- A payload is at most one bundle, the one that is decoded.
 use Rattle.std.proofs.Common.{◌≡◌, ℕ, suc, zero, ◌<◌, ◌≤◌, ◌^◌, List, [], ◌∷◌, ◌++◌, Bool, true, false, cond, length, nat_lt, nat_le, refl, sym, ◌∙◌, ap, ap₂, subst, arith, get_or, Fits, w8, leb-true, ltb-true}
 use Rattle.std.specs.Prelude.{Option, Some, None, Result, Ok, Err, MatchResult, flat_map, if◌then◌else◌, ◌&&◌}
 use Rattle.std.specs.Int.{to_be_bytes, from_be_bytes, w16, w32}
@@ -21,7 +21,7 @@ use Rattle.compose_bundle.specs.declared.BundleFault.TheVariants as bundle_fault
 use Rattle.compose_bundle.proofs.Names.{IsNew, new_from, not_taken, still_distinct, new_among, none_distinct}
 use Rattle.compose_bundle.proofs.Splits.{bound, split_append, sized_2, sized_4, split_whole, sized_2_whole, sized_4_whole, left_bytes, right_bytes, two_again}
 
--- ---- the parts of what is written
+-- ---- the parts of the written bytes
 
 abbrev pub source_parts : Source → List ℕ → List ℕ
 source_parts s x = to_be_bytes w16 (length s.name) ++ (s.name ++ (to_be_bytes w32 (length s.bytes) ++ (s.bytes ++ x)))
@@ -45,7 +45,7 @@ bundle_in_parts b = four (to_be_bytes w16 (length b.sources)) (flat_map source_b
 first_source : (s : Source) (sources : List Source) (x : List ℕ) → flat_map source_bytes (s ∷ sources) ++ x ≡ source_bytes s ++ (flat_map source_bytes sources ++ x)
 first_source s sources x = ap (λ (y : List ℕ). y ++ x) (flat_map-cons source_bytes s sources) ∙ append_assoc (source_bytes s) (flat_map source_bytes sources) x
 
--- ---- what is written is found again
+-- ---- a bundle that is written is found again
 
 source_again : (s : Source) (x : List ℕ) → SourceFits s → source_at (source_bytes s ++ x) ≡ Some (s, x)
 source_again s x f =
@@ -94,7 +94,7 @@ found payload b h = ap bundle_of h.is ∙ bundle_again b h.fits
 pub one : (payload : List ℕ) (a b : Bundle) → IsBundle payload a → IsBundle payload b → a ≡ b
 one payload a b h k = same_Some a b (sym (found payload a h) ∙ found payload b k)
 
--- ---- what is found was written so
+-- ---- a bundle that is found was written this way
 
 record SourceRead (bytes : List ℕ) (s : Source) (x : List ℕ) : Type 0 where
   whole : bytes ≡ source_bytes s ++ x
@@ -231,7 +231,7 @@ module _ (payload head rest : List ℕ) (b : Bundle) (whole : payload ≡ head +
                 ∙ sym (bundle_in_parts b);
           }
 
--- the bundle that is decoded of a payload of bytes is the one that the payload is
+-- the bundle that is decoded from a payload of bytes is the payload's bundle
 pub only : (payload : List ℕ) (b : Bundle) → AreBytes payload → bundle_of payload ≡ Some b → IsBundle payload b
 only payload b are h =
     let p = bound (split 2 payload) (λ p. counted (from_be_bytes w16 p.0) p.1) b h in
@@ -239,7 +239,7 @@ only payload b are h =
     let are' : AreBytes (p.value.0 ++ p.value.1) = subst AreBytes first.whole are in
     counted_read payload p.value.0 p.value.1 b first.whole first.long (left_bytes p.value.0 p.value.1 are') (right_bytes p.value.0 p.value.1 are') (from_be_bytes w16 p.value.0) refl p.gives
 
--- what is no bundle, none is found in
+-- nothing is decoded from a payload that is no bundle
 pub none : (payload : List ℕ) → AreBytes payload → ((b : Bundle) → IsBundle payload b → ⊥) → bundle_of payload ≡ None
 none payload are not_one = go (bundle_of payload) refl
   where
@@ -247,7 +247,7 @@ none payload are not_one = go (bundle_of payload) refl
     go None e = e
     go (Some b) e = absurd (not_one b (only payload b are e))
 
--- what is decoded is what the payload is
+-- the decoded bundle is the payload's bundle
 pub read_so : (payload : List ℕ) → AreBytes payload → {X : Type 0} (view : X → Bundle) (result : Result X BundleFault)
     → MatchResult result (λ x. bundle_of payload ≡ Some (view x)) (λ fault. NotDecoded fault (bundle_of payload))
     → MatchResult result (λ x. IsBundle payload (view x)) (λ fault. NotRead fault payload)
@@ -256,7 +256,7 @@ read_so payload are view (Err bundle_faults.Form) h = λ b k. absurd (let no : S
 read_so payload are view (Err bundle_faults.TooLarge) h = h
 read_so payload are view (Err bundle_faults.NoMemory) h = tt
 
--- numbers of eight bits are bytes
+-- numbers below 256 are bytes
 pub are_bytes : (payload : List ℕ) → ((i : ℕ) → Fits w8 (get_or payload i 0)) → AreBytes payload
 are_bytes [] f = tt
 are_bytes (x ∷ payload) f = (Fits-lt-pow (f 0), are_bytes payload (λ i. f (suc i)))

@@ -41,7 +41,7 @@ take_more sources index s e =
     let l = slice_get_within sources index s e in
     ap (λ n. take n sources) (add-one index) ∙ take-suc sources index s l ∙ ap (λ (y : Source). take index sources ++ y ∷ []) (get_or_from_slice_get sources index s s e)
 
--- where the first sources and the next one have lengths that fit, the first sources with that one do
+-- if the lengths of the first sources and of the next one fit, those of the sources with that one fit
 pub lengths_more : (sources : List Source) (index : ℕ) (s : Source) → slice_get sources index ≡ Some s → AllByRecursion HasLengths (take index sources) → HasLengths s
     → AllByRecursion HasLengths (take (index + 1) sources)
 lengths_more sources index s e a h = subst (λ (ss : List Source). AllByRecursion HasLengths ss) (sym (take_more sources index s e)) (all_push HasLengths (take index sources) s a h)
@@ -49,7 +49,7 @@ lengths_more sources index s e a h = subst (λ (ss : List Source). AllByRecursio
 pub start : (sources : List Source) (items : List ℕ) → items ≡ [] ++ to_be_bytes w16 (length sources) → items ≡ so_far sources 0
 start sources items e = e ∙ sym (append-nil (to_be_bytes w16 (length sources)))
 
--- the bytes of the first sources, and then those of the next one, are those of one source more
+-- the bytes of the first sources, followed by those of the next one, are those of one more source
 pub bytes_more : (sources : List Source) (index : ℕ) (s : Source) → slice_get sources index ≡ Some s → so_far sources index ++ source_bytes s ≡ so_far sources (index + 1)
 bytes_more sources index s e =
     let head = to_be_bytes w16 (length sources) in

@@ -10,13 +10,13 @@ use Rattle.std.proofs.lemmas.Option.{same_Some}
 use Rattle.compose_bundle.specs.Bundle.{AreBytes}
 use Rattle.compose_bundle.specs.Decoded.{◌>>=◌, split, sized_by_2, sized_by_4}
 
--- what a bind gives, both of its parts gave
+-- both parts of a bind have a result if it has one
 pub record Bound {A B : Type 0} (o : Option A) (f : A → Option B) (y : B) : Type 0 where
   pub value : A
   pub is : o ≡ Some value
   pub gives : f value ≡ Some y
 
--- where two steps together give something, the first gave a value and the second gave this from it
+-- if two steps together have a result, the first has a value, and the second has this result for it
 pub bound : {A B : Type 0} (o : Option A) (f : A → Option B) (y : B) → (o >>= f) ≡ Some y → Bound o f y
 bound None f y h = cc
 bound (Some a) f y h = record { value = a; is = refl; gives = h }
@@ -30,13 +30,13 @@ split_append a x n e =
     ∙ ap (λ b. cond {A = Option (List ℕ × List ℕ)} b (Some (take (length a) (a ++ x), drop (length a) (a ++ x))) None) (le-leb (length a) (length (a ++ x)) (omega (arith, length-append a x)))
     ∙ ap₂ (λ (p q : List ℕ). let r : Option (List ℕ × List ℕ) = Some (p, q) in r) (take-append_seam a x) (drop-append_seam a x)
 
--- a part behind its length in two bytes is read back, with what follows it
+-- a part after its length in two bytes is read back, with what follows it
 pub sized_2 : (a x : List ℕ) → length a < 2 ^ 16 → sized_by_2 (to_be_bytes w16 (length a) ++ (a ++ x)) ≡ Some (a, x)
 sized_2 a x l =
     ap (λ o. o >>= (λ p. split (from_be_bytes w16 p.0) p.1)) (split_append (to_be_bytes w16 (length a)) (a ++ x) 2 refl)
     ∙ split_append a x (from_be_bytes w16 (to_be_bytes w16 (length a))) (from_be_bytes-to_be_bytes_2 (length a) l)
 
--- a part behind its length in four bytes is read back, with what follows it
+-- a part after its length in four bytes is read back, with what follows it
 pub sized_4 : (a x : List ℕ) → length a < 2 ^ 32 → sized_by_4 (to_be_bytes w32 (length a) ++ (a ++ x)) ≡ Some (a, x)
 sized_4 a x l =
     ap (λ o. o >>= (λ p. split (from_be_bytes w32 p.0) p.1)) (split_append (to_be_bytes w32 (length a)) (a ++ x) 4 refl)
@@ -48,7 +48,7 @@ pub record Split (n : ℕ) (bytes a x : List ℕ) : Type 0 where
   pub long : length a ≡ n
   pub whole : bytes ≡ a ++ x
 
--- bytes that are split are the two parts together, and the first is as long as was asked
+-- bytes that are split are the two parts together, and the first has the given length
 pub split_whole : (n : ℕ) (bytes a x : List ℕ) → split n bytes ≡ Some (a, x) → Split n bytes a x
 split_whole n bytes a x h = go (nat_le n (length bytes)) refl h
   where
@@ -60,12 +60,12 @@ split_whole n bytes a x h = go (nat_le n (length bytes)) refl h
         record { long = ap length (sym first) ∙ length-take-le n bytes (leb-true n (length bytes) e); whole = sym (take-append-drop n bytes) ∙ ap₂ (λ (p q : List ℕ). p ++ q) first second }
     go false e h = cc
 
--- where two parts together are bytes, the first part is
+-- if two parts together are bytes, the first part is
 pub left_bytes : (a x : List ℕ) → AreBytes (a ++ x) → AreBytes a
 left_bytes [] x h = tt
 left_bytes (y ∷ a) x h = (h.0, left_bytes a x h.1)
 
--- where two parts together are bytes, the second part is
+-- if two parts together are bytes, the second part is
 pub right_bytes : (a x : List ℕ) → AreBytes (a ++ x) → AreBytes x
 right_bytes [] x h = h
 right_bytes (y ∷ a) x h = right_bytes a x h.1

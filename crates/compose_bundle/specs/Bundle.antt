@@ -1,4 +1,4 @@
--- A bundle: what the payload of a load carries, the sources of a table and the text of a certificate (this project's protocol).
+-- A bundle: the payload of a load, with the sources of a table and the text of a certificate (this project's protocol).
 use Rattle.std.specs.Prelude.{◌≡◌, ℕ, ◌<◌, ◌≤◌, ◌^◌, List, ◌++◌, length, map, flat_map, IsUtf8}
 use Rattle.std.specs.Int.{to_be_bytes, w16, w32}
 use Rattle.std.specs.List.{AllByRecursion, IsDistinct}
@@ -18,7 +18,7 @@ source_bytes s = to_be_bytes w16 (length s.name) ++ s.name ++ to_be_bytes w32 (l
 abbrev pub bundle_bytes : Bundle → List ℕ
 bundle_bytes b = to_be_bytes w16 (length b.sources) ++ flat_map source_bytes b.sources ++ to_be_bytes w32 (length b.certificate) ++ b.certificate
 
--- the name is text, and both lengths fit their bytes
+-- the name is UTF-8, and both lengths fit into their bytes
 pub record SourceFits (s : Source) : Type 0 where
   pub name : length s.name < 2 ^ 16
   pub text : IsUtf8 s.name
@@ -40,6 +40,6 @@ pub record IsBundle (payload : List ℕ) (b : Bundle) : Type 0 where
   pub fits : BundleFits b
   pub is : payload ≡ bundle_bytes b
 
--- a payload's numbers are bytes
+-- the payload's numbers are bytes
 abbrev pub AreBytes : List ℕ → Type 0
 AreBytes payload = AllByRecursion (λ b. b < 2 ^ 8) payload

@@ -3,7 +3,7 @@ ghost use Rattle.std.specs.Prelude.{◌≡◌, List, ℕ, Some};
 ghost use Rattle.compose_bundle.specs.Bundle.{Bundle, IsBundle, AreBytes};
 ghost use Rattle.compose_bundle.specs.Decoded.{bundle_of};
 
-/// A payload is at most one bundle, and `bundle_of` is the one that it is.
+/// A payload is at most one bundle, and `bundle_of` returns it.
 pub fn law_one_bundle()
     ensures one { (payload : List ℕ) (a b : Bundle) → IsBundle payload a → IsBundle payload b
         → a ≡ b }

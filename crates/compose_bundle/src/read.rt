@@ -1,4 +1,4 @@
-//! A bundle is read from a payload.
+//! Reading a bundle from a payload.
 ghost use Rattle.std.specs.Prelude.{◌≡◌, ◌<◌, ◌≤◌, [], Some, None, length, IfOk, MatchOption, MatchResult, option_map};
 ghost use Rattle.std.specs.Int.{from_be_bytes, w16, w32};
 ghost use Rattle.compose_bundle.specs.Bundle.{IsBundle};
@@ -10,23 +10,27 @@ use crate::BundleFault;
 use compose_read::{SourceFault, Sources};
 use std::alloc::{AllocError, Global};
 
-/// The most sources of a bundle.
+/// The largest number of sources in a bundle.
 const MOST_SOURCES: u16 = 64;
 
 /// The sources of a table, the root first, and the text of a certificate.
 #[derive(Drop)]
 pub struct Bundle<'b> {
+    /// The sources of the table; the first one is its root.
     pub sources: Sources,
+    /// The text of the certificate.
     pub certificate: &'b [u8],
 }
 
-/// The bundle that the payload is.
+/// Reads a payload as a bundle.
 ///
-/// A payload is two bytes with the number of sources, 1 to 64; for each source two bytes with the length of its name, the name, four
-/// bytes with the length of its content, the content; four bytes with the length of the certificate, and the certificate. Nothing
-/// follows. All numbers are big-endian; the names are UTF-8 and distinct. O(bytes); the contents are copied, the certificate is lent.
+/// A payload is two bytes with the number of sources, 1 to 64; for each source two bytes with the
+/// length of its name, the name, four bytes with the length of its content, and the content; four
+/// bytes with the length of the certificate, and the certificate. Nothing follows. All numbers are
+/// big-endian; the names are UTF-8 and distinct. O(bytes); the contents are copied, the certificate
+/// is borrowed.
 ///
-/// Form where the payload is no bundle, NoMemory where a growth was refused.
+/// Errors: `Form` if the payload is not a bundle, `NoMemory` if memory runs out.
 pub fn read_bundle(alloc: Global, payload: &[u8]) -> Result<Bundle<'_>, BundleFault>
     ensures { MatchResult result
         (λ b. IsBundle payload.now
@@ -36,7 +40,7 @@ pub fn read_bundle(alloc: Global, payload: &[u8]) -> Result<Bundle<'_>, BundleFa
     decode(alloc, payload)
 }
 
-/// The bundle that the payload is, part by part.
+/// Decodes the payload part by part.
 fn decode(alloc: Global, bytes: &[u8]) -> Result<Bundle<'_>, BundleFault>
     ensures { MatchResult result
         (λ b. bundle_of bytes.now
@@ -65,7 +69,7 @@ fn decode(alloc: Global, bytes: &[u8]) -> Result<Bundle<'_>, BundleFault>
     })
 }
 
-/// So many sources, and the bytes after them.
+/// Reads `count` sources, and returns them with the bytes after them.
 fn read_sources(alloc: Global, count: u16, bytes: &[u8]) -> Result<(Sources, &[u8]), BundleFault>
     requires { count ≤ 64 }
     ensures { MatchResult result (λ p. sources_at count [] bytes.now ≡ Some (p.0, p.1.now))
@@ -82,7 +86,7 @@ fn read_sources(alloc: Global, count: u16, bytes: &[u8]) -> Result<(Sources, &[u
     Ok((sources, rest))
 }
 
-/// Adds the source that the bytes begin with, and gives the bytes after it.
+/// Adds the source at the beginning of the bytes, and returns the bytes after it.
 fn read_source<'b>(
     alloc: Global,
     sources: &mut Sources,
@@ -112,7 +116,7 @@ fn read_source<'b>(
     }
 }
 
-/// A copy of these bytes, in one allocation of their size. Linear.
+/// Returns a copy of these bytes, in one allocation of their size. Linear.
 fn copied(alloc: Global, bytes: &[u8]) -> Result<Vec<u8>, AllocError>
     ensures { IfOk result (λ copy. copy.items ≡ bytes.now) }
 {
@@ -121,7 +125,7 @@ fn copied(alloc: Global, bytes: &[u8]) -> Result<Vec<u8>, AllocError>
     Ok(copy)
 }
 
-/// A number of two bytes, and the bytes after it.
+/// Splits off a number of two bytes.
 fn split_count(bytes: &[u8]) -> Option<(u16, &[u8])>
     ensures { MatchOption result (split 2 bytes.now ≡ None)
         (λ p. (head : _) × (split 2 bytes.now ≡ Some (head, p.1.now))
@@ -131,7 +135,7 @@ fn split_count(bytes: &[u8]) -> Option<(u16, &[u8])>
     Some((u16::from_be_bytes([head[0], head[1]]), rest))
 }
 
-/// So many bytes as the first two say, and the bytes after them.
+/// Splits off a piece whose length is in the first two bytes.
 fn split_by_2(bytes: &[u8]) -> Option<(&[u8], &[u8])>
     ensures { option_map (λ p. (p.0.now, p.1.now)) result ≡ sized_by_2 bytes.now }
 {
@@ -139,7 +143,7 @@ fn split_by_2(bytes: &[u8]) -> Option<(&[u8], &[u8])>
     rest.split_at_checked(usize::from(u16::from_be_bytes([head[0], head[1]])))
 }
 
-/// So many bytes as the first four say, and the bytes after them.
+/// Splits off a piece whose length is in the first four bytes.
 fn split_by_4(bytes: &[u8]) -> Option<(&[u8], &[u8])>
     ensures { option_map (λ p. (p.0.now, p.1.now)) result ≡ sized_by_4 bytes.now }
 {

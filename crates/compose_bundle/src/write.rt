@@ -1,4 +1,4 @@
-//! A bundle is written as the payload of a load.
+//! Writing a bundle as the payload of a load.
 ghost use Rattle.std.specs.Prelude.{◌≡◌, ◌<◌, ◌++◌, ◌^◌, length, slice_get, Some, [], ◌∷◌};
 ghost use Rattle.std.specs.Int.{to_be_bytes, w16, w32};
 ghost use Rattle.compose_read.specs.Lines.{Source};
@@ -9,13 +9,14 @@ use crate::BundleFault;
 use compose_read::Sources;
 use std::alloc::Global;
 
-/// The greatest payload of a load, in bytes.
+/// The largest payload of a load, in bytes.
 const MAX_PAYLOAD: usize = 8_388_608;
 
-/// The payload that is the bundle of these sources, the root first, and this certificate; `read_bundle` gives them back. O(bytes).
+/// Returns the bundle of these sources, the root first, and this certificate, as a payload that
+/// `read_bundle` reads as the same bundle. O(bytes).
 ///
-/// TooLarge where no load can carry it: there is no source, a name has more than 65,535 bytes, or the payload would have more than
-/// 8,388,608. NoMemory where a growth was refused.
+/// Errors: `TooLarge` if no load can carry it: there is no source, a name has more than 65,535
+/// bytes, or the payload would have more than 8,388,608. `NoMemory` if memory runs out.
 pub fn write_bundle(
     alloc: Global,
     sources: &Sources,
@@ -84,7 +85,7 @@ fn put_sized_by_4(payload: &mut Vec<u8>, piece: &[u8]) -> Result<(), BundleFault
     put(payload, piece)
 }
 
-/// Appends the piece, where the whole stays within the greatest payload.
+/// Appends the piece if the whole is not larger than the largest payload.
 fn put(payload: &mut Vec<u8>, piece: &[u8]) -> Result<(), BundleFault>
     ensures { AppendsAlways payload.old.items piece.now result payload.new.items }
 {

@@ -1,4 +1,4 @@
--- What is read of a text spells it.
+-- A text that is read as a certificate spells it.
 use Rattle.std.proofs.Common.{◌≡◌, ℕ, zero, suc, ◌+◌, List, [], ◌∷◌, ◌++◌, length, drop, map, Bool, true, false, cond, ◌&&◌, refl, sym, subst, ◌∙◌, ap, arith, append_assoc, append-nil, length-append, eqb-true}
 use Rattle.std.specs.Prelude.{◌==◌, if◌then◌else◌, nat_eq, nat_lt, nat_le, Option, Some, None, Result, Ok, Err, IfOk, bytes_eq, flat_map, codes}
 use Rattle.std.specs.Option.{option_map, option_map_or}
@@ -101,7 +101,7 @@ typing_was line t h = go (divide 32 line) h (join_divide 32 line)
     go (c ∷ []) h j = cc
     go (c ∷ k ∷ ks) h j = told c k ks (character_of c) (keysyms_of (k ∷ ks)) refl refl h j
 
--- a line that starts so, and what follows
+-- a line that starts with these bytes, and what follows
 starts_was : (word line : List ℕ) → starts_with nat_eq line word ≡ true → line ≡ word ++ drop (length word) line
 starts_was [] line h = refl
 starts_was (b ∷ word) [] h = cc
@@ -230,7 +230,7 @@ pair_line_was n lines x h =
     let line = pair_was was.0 x.0 was.2 in
     (line.0, was.1 ∙ ap (λ l. l ∷ x.1) line.1)
 
--- counted keysyms, and nothing behind them
+-- counted keysyms, and nothing after them
 fresh_joined : (version count : ℕ) (lines rest : List (List ℕ)) (fresh : List ℕ) → (version == 1) ≡ false
     → (count == 0) ≡ false → nat_le count max_count ≡ true → lines ≡ counted (codes "fresh") count ∷ rest
     → list_all is_keysym fresh ≡ true → length fresh ≡ count → rest ≡ map keysym_text fresh ++ [] ∷ [] → AreFreshLines version lines fresh
@@ -280,7 +280,7 @@ lines_joined [] = refl
 lines_joined (line ∷ []) = sym (append-nil (line ++ 10 ∷ []))
 lines_joined (line ∷ next ∷ lines) = ap (λ text. line ++ 10 ∷ text) (lines_joined (next ∷ lines)) ∙ sym (append_assoc line (10 ∷ []) (ended (next ∷ lines)))
 
--- the parts that were read, one behind another, are the lines of the certificate
+-- the parts that were read, one after another, are the lines of the certificate
 parts_spell : (bytes : List ℕ) (version bound p q : ℕ × List (List ℕ)) (pairs : List (ℕ × ℕ) × List (List ℕ)) (typings : List Typing × List (List ℕ)) (fresh : List ℕ)
     → divide 10 bytes ≡ version_text version.0 ∷ version.1
     → (is_number bound.0 ≡ true) × (version.1 ≡ counted (codes "bound") bound.0 ∷ bound.1)
@@ -335,7 +335,7 @@ read_is_spelled bytes c h =
     (fresh_were version.0 (5 + p.0 + q.0) typings.1 fresh e6) in
     subst (Spells bytes) (ok_same (record { bound = bound.0; pairs = pairs.0; typings = typings.0; fresh = fresh }) c h6) spelled)))))))
 
--- what has a text is counted
+-- a certificate that has a text is counted
 pub is_counted-certificate : (c : Certificate) → is_certificate c ≡ true → is_counted c ≡ true
 is_counted-certificate c h =
     let p = certificate_parts c h in
@@ -350,13 +350,13 @@ is_counted-certificate c h =
         let p = typing_parts t a.0 in
         and_from (is_typed t) (list_all is_typed ts) (and_from (nat_lt 0 (length t.keys)) (nat_le (length t.keys) max_count) p.some p.few) (all ts a.1)
 
--- ---- what a reader that gives what the lines say gives of a spelled text
+-- ---- what an exact reader returns for a spelled text
 
--- a reader that gives what is read gives only a certificate that the bytes spell
+-- a reader that returns what is read returns only a certificate that the bytes spell
 pub found_from_exact : (bytes : List ℕ) (r : Result Certificate CertFault) → CertificateGives r (certificate_of bytes) → IfOk r (λ c. Spells bytes c)
 found_from_exact bytes (Ok c) e = read_is_spelled bytes c e
 found_from_exact bytes (Err f) e = tt
 
--- a reader that gives what is read gives the certificate that the bytes spell, unless memory runs out
+-- a reader that returns what is read returns the certificate that the bytes spell, unless memory runs out
 pub only_from_exact : (bytes : List ℕ) (c : Certificate) (r : Result Certificate CertFault) → Spells bytes c → CertificateGives r (certificate_of bytes) → CertificateGives r (Ok c)
 only_from_exact bytes c r s e = subst (CertificateGives r) (spelled_is_read bytes c s) e

@@ -1,4 +1,4 @@
--- What a line says is what is read of its parts.
+-- A line is read part by part.
 use Rattle.std.proofs.Common.{◌≡◌, ℕ, ◌<◌, ◌≤◌, List, [], ◌∷◌, ◌++◌, length, Bool, true, false, cond, ◌&&◌, refl, sym, ◌∙◌, ap, arith, eqb-true}
 use Rattle.std.specs.Prelude.{◌==◌, Some, None, Option, Result, Ok, Err, bytes_eq}
 use Rattle.std.specs.Option.{option_map, option_map_or, ok_or}
@@ -38,7 +38,7 @@ join at [] = []
 join at (part ∷ []) = part
 join at (part ∷ next ∷ parts) = part ++ at ∷ join at (next ∷ parts)
 
--- bytes that are divided are joined again
+-- bytes that were divided are joined again
 pub join_divide : (at : ℕ) (bytes : List ℕ) → join at (divide at bytes) ≡ bytes
 join_divide at [] = refl
 join_divide at (b ∷ bytes) = go (b == at) refl (divide_first at bytes) (join_divide at bytes)
@@ -51,7 +51,7 @@ join_divide at (b ∷ bytes) = go (b == at) refl (divide_first at bytes) (join_d
         onto first [] = refl
         onto first (next ∷ others) = refl
 
--- what stands as one part is the whole
+-- a single part is the whole
 pub divide_alone : (at : ℕ) (bytes part : List ℕ) → divide at bytes ≡ part ∷ [] → part ≡ bytes
 divide_alone at bytes part e = ap (join at) (sym e) ∙ join_divide at bytes
 
@@ -68,14 +68,14 @@ written_was text test x word v h = go (test x && bytes_eq word (text x)) refl h
         (ap test (sym same) ∙ parts.0, (bytes_decides word (text x)).0 parts.1 ∙ ap text same)
     go false e h = cc
 
--- a number has no blank in it
+-- a number has no blank
 number_alone : (word : List ℕ) (n : ℕ) → number_of word ≡ Some n → divide 32 word ≡ word ∷ []
 number_alone word n h =
     let was = written_was decimal is_number (digits_value 10 word) word n h in
     let small = ltb-true n 0x100000000 was.0 in
     word_alone word (ap plain was.1 ∙ decimal_plain n (omega arith))
 
--- two words are a pair where both are numbers, and the second is never two words
+-- two words are a pair if both are numbers; the second is never two words
 pub pair_told : (line old new : List ℕ) → divide 32 line ≡ old ∷ divide 32 new → pair_of line ≡ both (number_of old) (number_of new)
 pair_told line old new e = ap pair_of_words e ∙ go (divide 32 new) refl
   where
@@ -92,7 +92,7 @@ pair_told line old new e = ap pair_of_words e ∙ go (divide 32 new) refl
     go (w ∷ []) d = ap (λ ds. both (number_of old) (number_of ds)) (divide_alone 32 new w d)
     go (w ∷ x ∷ ws) d = no_number w x ws d (number_of new) refl
 
--- a character and the keys behind it
+-- a character and the keys after it
 pub typing_told : (line character keys : List ℕ) → divide 32 line ≡ character ∷ divide 32 keys
     → typing_of line ≡ option_map (λ x. let t : Typing = record { character = x.0; keys = x.1 } in t) (both (character_of character) (keysyms_of (divide 32 keys)))
 typing_told line character keys e =
@@ -100,12 +100,12 @@ typing_told line character keys e =
     ap typing_of_words (e ∙ ap (λ ds. character ∷ ds) h.is)
     ∙ ap (λ ds. option_map (λ x. let t : Typing = record { character = x.0; keys = x.1 } in t) (both (character_of character) (keysyms_of ds))) (sym h.is)
 
--- what is given where an option has a value came from the value
+-- a result of an option came from its value
 pub some_from_ok : {X : Type 0} (o : Option X) (e : CertFault) (x : X) → option_map_or (λ v. Ok v) o (Err e) ≡ Ok x → o ≡ Some x
 some_from_ok None e x h = cc
 some_from_ok (Some v) e x h = cc
 
--- a line of a character and keysyms, each of which is read, is read as their typing
+-- a line of a character and keysyms, each of which can be read, is read as their typing
 pub typing_read : (line word words : List ℕ) (character : ℕ) (keys : List ℕ) (n : ℕ) → divide 32 line ≡ word ∷ divide 32 words → Some character ≡ character_of word
     → option_map_or (λ v. Ok v) (keysyms_of (divide 32 words)) (Err (NotText n)) ≡ Ok keys
     → option_map_or (λ v. Ok v) (typing_of line) (Err (NotText n)) ≡ Ok (record { character = character; keys = keys })
@@ -116,7 +116,7 @@ typing_read line word words character keys n d c k =
 
 -- ---- a line before others
 
--- a line of a form, with another one behind it, is read, and the lines behind it are left
+-- a line of this form that is followed by another part is read, and the lines after it are left
 pub line_read : {A : Type 0} (form : List ℕ → Option A) (n : ℕ) (bytes line rest : List ℕ) (x : A) → divide 10 bytes ≡ line ∷ divide 10 rest → form line ≡ Some x
     → line_at form n (divide 10 bytes) ≡ Ok (x, divide 10 rest)
 line_read form n bytes line rest x d e =
@@ -124,7 +124,7 @@ line_read form n bytes line rest x d e =
     let parts : divide 10 bytes ≡ line ∷ h.first ∷ h.others = d ∙ ap (λ ls. line ∷ ls) h.is in
     ap (line_at form n) parts ∙ rw (h.is, e) refl
 
--- a line of another form is refused by its number
+-- a line of another form is the fault, with its number
 pub line_refused : {A : Type 0} (form : List ℕ → Option A) (n : ℕ) (bytes line rest : List ℕ) → divide 10 bytes ≡ line ∷ divide 10 rest → form line ≡ None
     → line_at form n (divide 10 bytes) ≡ Err (NotText n)
 line_refused form n bytes line rest d e =
@@ -132,18 +132,18 @@ line_refused form n bytes line rest d e =
     let parts : divide 10 bytes ≡ line ∷ h.first ∷ h.others = d ∙ ap (λ ls. line ∷ ls) h.is in
     ap (line_at form n) parts ∙ rw e refl
 
--- a last line, which no newline ends, is refused by its number
+-- a last line without a newline is the fault, with its number
 pub line_missing : {A : Type 0} (form : List ℕ → Option A) (n : ℕ) (bytes : List ℕ) → divide 10 bytes ≡ bytes ∷ [] → line_at form n (divide 10 bytes) ≡ Err (NotText n)
 line_missing form n bytes d = ap (line_at form n) d
 
--- what is refused for want of a value had none
+-- an option whose lack is the fault had no value
 pub none_from_err : {X : Type 0} (o : Option X) (e f : CertFault) → ◌≡◌ {A = Result X CertFault} (Err f) (ok_or o e) → (o ≡ None) × (f ≡ e)
 none_from_err None e f h = (refl, cc)
 none_from_err (Some x) e f h = cc
 
 -- ---- the end
 
--- where bytes are left, the end is missing, and the fault has the number of their line
+-- if bytes are left, the end is missing, and the fault has the number of their line
 pub end_behind : (n : ℕ) (bytes : List ℕ) → 0 < length bytes → end_at n (divide 10 bytes) ≡ Err (NotText n)
 end_behind n bytes l = go (divide 10 bytes) refl
   where
@@ -157,12 +157,12 @@ typing_line : (n : ℕ) (bytes line rest : List ℕ) (t : Typing) → divide 10 
     → line_at typing_of n (divide 10 bytes) ≡ Ok (t, divide 10 rest)
 typing_line n bytes line rest t d h = line_read typing_of n bytes line rest t d (some_from_ok (typing_of line) (NotText n) t h)
 
--- a typing with at most as many keysyms as may be is read, and the lines behind it are left
+-- a typing that doesn't have too many keysyms is read, and the lines after it are left
 pub typing_few : (n : ℕ) (bytes line rest : List ℕ) (t : Typing) → divide 10 bytes ≡ line ∷ divide 10 rest → option_map_or (λ v. Ok v) (typing_of line) (Err (NotText n)) ≡ Ok t
     → length t.keys ≤ max_count → typing_at n (divide 10 bytes) ≡ Ok (t, divide 10 rest)
 typing_few n bytes line rest t d h l = ap (λ r. r >>= if_few (λ (t : Typing). length t.keys)) (typing_line n bytes line rest t d h) ∙ rw (le-ltb max_count (length t.keys) l) refl
 
--- a typing with more keysyms than may be is too large
+-- a typing that has too many keysyms is too large
 pub typing_many : (n : ℕ) (bytes line rest : List ℕ) (t : Typing) → divide 10 bytes ≡ line ∷ divide 10 rest → option_map_or (λ v. Ok v) (typing_of line) (Err (NotText n)) ≡ Ok t
     → max_count < length t.keys → typing_at n (divide 10 bytes) ≡ Err TooLarge
 typing_many n bytes line rest t d h l = ap (λ r. r >>= if_few (λ (t : Typing). length t.keys)) (typing_line n bytes line rest t d h) ∙ rw (lt-ltb max_count (length t.keys) l) refl

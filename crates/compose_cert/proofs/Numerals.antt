@@ -1,4 +1,4 @@
--- A word spells a number exactly where it is digits with no zero before them.
+-- A word spells a number exactly if it consists of digits without leading zeros.
 use Rattle.std.proofs.Common.{◌≡◌, ◌⊎◌, inl, inr, ℕ, zero, suc, ◌+◌, ◌*◌, ◌/◌, ◌%◌, ◌<◌, ◌≤◌, ◌^◌, List, [], ◌∷◌, ◌++◌, length, get_or, drop, Bool, true, false, cond, not, ◌&&◌, ◌||◌, refl, sym, subst, ◌∙◌, ap, arith, append_assoc, length-append}
 use Rattle.std.specs.Prelude.{◌==◌, if◌then◌else◌, nat_lt, nat_le, Some, None, Option}
 use Rattle.std.specs.List.{list_all}
@@ -26,7 +26,7 @@ hexadecimal true = UpperHexadecimal
 abbrev is_hex : Bool → ℕ → Bool
 is_hex upper c = is_digit (hexadecimal upper) c
 
--- a digit is what is written of its value
+-- a digit is the text of its value
 abbrev writes_itself : Bool → ℕ → Bool
 writes_itself upper c = not (is_hex upper c) || (nat_lt (digit_value c) 16 && (digit_glyph upper (digit_value c) == c))
 
@@ -74,7 +74,7 @@ hex_writes_digit upper n l =
     above (inl a) s = ltb-true 48 (digit_glyph upper n) a
     above (inr z) s = absurd (omega (arith, eqb-true n 0 z))
 
--- ---- what is written of a number
+-- ---- the text of a number
 
 onto_digits : (upper : Bool) (k n : ℕ) (acc : List ℕ) → list_all (is_hex upper) acc ≡ true → list_all (is_hex upper) (digits_onto k 16 upper n acc) ≡ true
 onto_digits upper zero n acc h = h
@@ -90,7 +90,7 @@ onto_digits upper (suc k) n acc h = go (n / 16 == 0) (onto_digits upper k (n / 1
     go true g = more
     go false g = g
 
--- a number that isn't 0 is above it
+-- a number that isn't 0 is above 0
 pub positive : (n : ℕ) → (n == 0) ≡ false → 0 < n
 positive n e = omega (arith, eqb-false n 0 e)
 
@@ -108,7 +108,7 @@ onto_first upper (suc k) n acc h s = go (n / 16 == 0) refl (λ l. onto_first upp
     go true e g = let z = eqb-true (n / 16) 0 e in (hex_writes_digit upper (n % 16) (omega arith)).1 (omega arith)
     go false e g = g (positive (n / 16) e)
 
--- ---- what is written of the value of digits
+-- ---- the text of the value of digits
 
 last_digit : (c : ℕ) (cs : List ℕ) → (prefix : List ℕ) × (d : ℕ) × (c ∷ cs ≡ prefix ++ d ∷ [])
 last_digit c [] = ([], c, refl)
@@ -122,7 +122,7 @@ all_push : (p : ℕ → Bool) (prefix : List ℕ) (d : ℕ) → list_all p (pref
 all_push p [] d h = (refl, (and_parts (p d) true h).0)
 all_push p (c ∷ prefix) d h = let parts = and_parts (p c) (list_all p (prefix ++ d ∷ [])) h in let rest = all_push p prefix d parts.1 in (and_from (p c) (list_all p prefix) parts.0 rest.0, rest.1)
 
--- a value is at least what it starts from
+-- a value is at least the value from which it starts
 pub value_grows : (k : Notation) (n : ℕ) (ds : List ℕ) → n ≤ digits_value_after (radix k) n ds
 value_grows k n [] = omega arith
 value_grows Decimal n (c ∷ ds) = omega (arith, value_grows Decimal (n * 10 + digit_value c) ds)
@@ -130,13 +130,13 @@ value_grows LowerHexadecimal n (c ∷ ds) = omega (arith, value_grows LowerHexad
 value_grows EitherHexadecimal n (c ∷ ds) = omega (arith, value_grows EitherHexadecimal (n * 16 + digit_value c) ds)
 value_grows UpperHexadecimal n (c ∷ ds) = omega (arith, value_grows UpperHexadecimal (n * 16 + digit_value c) ds)
 
--- ---- digits with no zero before them, written again
+-- ---- digits without leading zeros, written again
 
 onto_step : (upper : Bool) (k n v d : ℕ) (acc : List ℕ) → n / 16 ≡ v → digit_glyph upper (n % 16) ≡ d
     → digits_onto (suc k) 16 upper n acc ≡ cond (v == 0) (d ∷ acc) (digits_onto k 16 upper v (d ∷ acc))
 onto_step upper k n v d acc q r = rw (q, r) refl
 
--- a number that isn't m, and not below it, is above it
+-- a number that isn't m and isn't below m is above m
 above_from : (m n : ℕ) → m ≤ n → (n ≡ m → ⊥) → m < n
 above_from m n l h = go (cases_eq n m)
   where
@@ -215,7 +215,7 @@ hex_parts upper n l = (onto_digits upper 64 n [] refl, λ s. onto_first upper 64
 
 -- ---- each notation
 
--- what is written of a number: digits of this value, with no zero before them
+-- the text of a number: digits of this value, without leading zeros
 pub record IsWritten (k : Notation) (n : ℕ) (ds : List ℕ) : Type 0 where
   pub digits : list_all (is_digit k) ds ≡ true
   pub some : 0 < length ds
@@ -244,7 +244,7 @@ digits_decimal_again (c ∷ ds) h =
     let parts = and_parts (is_between 48 57 c) (list_all (is_digit Decimal) ds) h in
     (omega (arith, digit_value_digit c (from 48 57 c parts.0, up_to 48 57 c parts.0), up_to 48 57 c parts.0), digits_decimal_again ds parts.1)
 
--- the numeral of a number has digits of its notation, no zero before them, and the number for its value
+-- the numeral of a number has digits of its notation, no leading zeros, and the number as its value
 pub is_written : (k : Notation) (n : ℕ) → is_one_case k ≡ true → n < 2 ^ 32 → IsWritten k n (numeral k n)
 is_written EitherHexadecimal n o l = absurd (false≢true o)
 is_written Decimal n o l =
@@ -257,7 +257,7 @@ is_written Decimal n o l =
 is_written LowerHexadecimal n o l = let w = hex_written false n l in record { digits = (hex_parts false n l).0; some = w.0; no_zero = w.1; value = w.2 }
 is_written UpperHexadecimal n o l = let w = hex_written true n l in record { digits = (hex_parts true n l).0; some = w.0; no_zero = w.1; value = w.2 }
 
--- digits without a zero before them are the numeral of their value
+-- digits without leading zeros are the numeral of their value
 pub written_again : (k : Notation) (ds : List ℕ) → is_one_case k ≡ true → list_all (is_digit k) ds ≡ true → 0 < length ds → (get_or ds 0 0 ≡ 48 → length ds ≡ 1) → digits_value (radix k) ds < 2 ^ 32
     → numeral k (digits_value (radix k) ds) ≡ ds
 written_again EitherHexadecimal ds o a s f l = absurd (false≢true o)
@@ -267,11 +267,11 @@ written_again UpperHexadecimal ds o a s f l = hex_again true ds a s f l
 
 -- ---- what a word spells
 
--- the value of digits, if they are digits of the notation and the value is no greater than the most
+-- the value of digits, if they are digits of the notation and the value is at most the given one
 abbrev pub value_up_to : Notation → ℕ → List ℕ → Option ℕ
 value_up_to k most word = if list_all (is_digit k) word && nat_le (digits_value (radix k) word) most then Some (digits_value (radix k) word) else None
 
--- a digit taken from the beginning of what is left
+-- a digit taken from the beginning of the rest
 pub digit_taken : (k : Notation) (value digit i : ℕ) (word : List ℕ) → i < length word → Some digit ≡ (if is_digit k (get_or word i 0) then Some (digit_value (get_or word i 0)) else None)
     → list_all (is_digit k) (drop i word) ≡ list_all (is_digit k) word → digits_value_after (radix k) value (drop i word) ≡ digits_value (radix k) word
     → (list_all (is_digit k) (drop (i + 1) word) ≡ list_all (is_digit k) word) × (digits_value_after (radix k) (value * radix k + digit) (drop (i + 1) word) ≡ digits_value (radix k) word)
@@ -282,14 +282,14 @@ digit_taken k value digit i word l h a v =
       ap (λ d. digits_value_after (radix k) (value * radix k + d) (drop (i + 1) word)) (sym is.1) ∙ sym (at_drop_more (digits_value_after (radix k) value) word i 0 l) ∙ v,
     )
 
--- a value that is too great stays so
+-- a value that is too large stays too large
 pub too_great : (k : Notation) (most more i : ℕ) (word : List ℕ) → most < more → digits_value_after (radix k) more (drop i word) ≡ digits_value (radix k) word → None ≡ value_up_to k most word
 too_great k most more i word l v =
     let e : nat_le (digits_value (radix k) word) most ≡ false = lt-leb (digits_value (radix k) word) most (omega (arith, value_grows k more (drop i word))) in
     let both : (list_all (is_digit k) word && nat_le (digits_value (radix k) word) most) ≡ false = and_right (list_all (is_digit k) word) (nat_le (digits_value (radix k) word) most) e in
     rw both refl
 
--- a word without a zero before it spells its value, or no number where it has none
+-- a word without leading zeros spells its value, or no number if it has none
 pub spelled_by_value : (k : Notation) (most : ℕ) (word : List ℕ) → is_one_case k ≡ true → most < 2 ^ 32 → 0 < length word → (get_or word 0 0 ≡ 48 → length word ≡ 1)
     → IsSpelled (numeral k) most word (value_up_to k most word)
 spelled_by_value k most word o m s f = go (list_all (is_digit k) word && nat_le (digits_value (radix k) word) most) refl

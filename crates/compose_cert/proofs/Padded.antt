@@ -1,4 +1,4 @@
--- A character's number is spelled by at least four digits, and by more only without a zero before them.
+-- A character's number is spelled by at least four digits; more than four have no leading zeros.
 use Rattle.std.proofs.Common.{◌≡◌, ◌⊎◌, inl, inr, ℕ, zero, suc, ◌+◌, ◌-◌, ◌<◌, ◌≤◌, ◌^◌, List, [], ◌∷◌, ◌++◌, length, get_or, replicate, Bool, true, false, cond, ◌&&◌, refl, sym, subst, ◌∙◌, ap, arith, length-append}
 use Rattle.std.specs.Prelude.{nat_le, Some, None}
 use Rattle.std.specs.List.{list_all}
@@ -11,7 +11,7 @@ use Rattle.compose_cert.specs.Numerals.{padded, is_digit, IsSpelled}
 use Rattle.compose_cert.proofs.Words.{zeros}
 use Rattle.compose_cert.proofs.Numerals.{IsWritten, is_written, written_again, value_up_to}
 
--- digits with the zeros before them taken away
+-- digits without their leading zeros
 record Stripped (word : List ℕ) : Type 0 where
   count : ℕ
   rest : List ℕ
@@ -36,7 +36,7 @@ all_zeros : (count : ℕ) (ds : List ℕ) → list_all (is_digit UpperHexadecima
 all_zeros zero ds h = h
 all_zeros (suc count) ds h = all_zeros count ds h
 
--- the zeros that fill up to four digits are those that stand there
+-- the zeros that pad to four digits are those of the word
 filled : (count : ℕ) (word rest : List ℕ) → word ≡ replicate count 48 ++ rest → 4 ≤ length word → (get_or word 0 0 ≡ 48 → length word ≡ 4) → 4 - length rest ≡ count
 filled zero word rest is l f = omega (arith, ap length is)
 filled (suc count) word rest is l f =
@@ -53,7 +53,7 @@ padded_again word a l f small =
     let same : digits 16 true (digits_value 16 word) ≡ r.rest = ap (digits 16 true) value ∙ written_again UpperHexadecimal r.rest refl all r.some r.no_zero (omega arith) in
     ap (λ ds. replicate (4 - length ds) 48 ++ ds) same ∙ ap (λ n. replicate n 48 ++ r.rest) (filled r.count word r.rest r.is l f) ∙ sym r.is
 
--- what is written of a character's number
+-- the text of a character's number
 record IsPadded (n : ℕ) (word : List ℕ) : Type 0 where
   digits : list_all (is_digit UpperHexadecimal) word ≡ true
   four : 4 ≤ length word
@@ -74,11 +74,12 @@ is_padded n l =
         absurd (omega (arith, w.no_zero bare))
     first (suc count) e w size z = omega arith
 
--- the digits of a character's number, with zeros before them, have that number for their value
+-- the padded digits of a character's number have that number as their value
 pub padded_value : (n : ℕ) → n ≤ 0x10ffff → digits_value 16 (padded n) ≡ n
 padded_value n l = (is_padded n (omega arith)).value
 
--- a word of four digits or more, without a zero before a longer one, spells its value, or no character where it has none
+-- a word of at least four digits, without leading zeros if it is longer, spells its value, or no character if it has
+-- none
 pub padded_by_value : (word : List ℕ) → 4 ≤ length word → (get_or word 0 0 ≡ 48 → length word ≡ 4) → IsSpelled padded 0x10ffff word (value_up_to UpperHexadecimal 0x10ffff word)
 padded_by_value word l f = go (list_all (is_digit UpperHexadecimal) word && nat_le (digits_value 16 word) 0x10ffff) refl
   where
@@ -92,6 +93,6 @@ padded_by_value word l f = go (list_all (is_digit UpperHexadecimal) word && nat_
         let both = and_from (list_all (is_digit UpperHexadecimal) word) (nat_le (digits_value 16 word) 0x10ffff) w.digits (le-leb (digits_value 16 word) 0x10ffff (omega (arith, w.value))) in
         false≢true (sym e ∙ both)
 
--- a word of more than four digits with a zero before them spells no character
+-- a word of more than four digits with a leading zero spells no character
 pub zero_pads_none : (word : List ℕ) → 4 < length word → get_or word 0 0 ≡ 48 → (n : ℕ) → n ≤ 0x10ffff → word ≡ padded n → ⊥
 zero_pads_none word l z n small is = let w = subst (IsPadded n) (sym is) (is_padded n (omega arith)) in omega (arith, w.no_zero z)

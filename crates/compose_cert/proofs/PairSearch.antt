@@ -1,4 +1,4 @@
--- What a binary search among rising pairs finds.
+-- The result of a binary search among increasing pairs.
 use Rattle.std.proofs.Common.{◌≡◌, ◌⊎◌, ℕ, ◌-◌, ◌<◌, ◌≤◌, List, Bool, true, false, ◌&&◌, length, take, drop, get_or, refl, sym, ◌∙◌, ap, arith, inl, inr, eqb-true, nat_cmp, Ordering, Less, Equal, Greater}
 use Rattle.std.specs.Prelude.{◌==◌, is_ok, slice_range, Result, Ok, Err}
 use Rattle.std.specs.List.{list_any}
@@ -49,14 +49,14 @@ compare i j p = elim (cases_Bool (is_pair_before p (i, j))) [
   ]
 ]
 
--- ---- rising pairs
+-- ---- increasing pairs
 
 no_more_than_greater : (o : Ordering) → ordering_index o ≤ 2
 no_more_than_greater Less = omega arith
 no_more_than_greater Equal = omega arith
 no_more_than_greater Greater = omega arith
 
--- what comes before a pair compares as no more
+-- a pair that comes before another doesn't compare as greater than it
 no_more : (i j : ℕ) (p q : ℕ × ℕ) → is_pair_before p q ≡ true → ordering_index (compared i j p) ≤ ordering_index (compared i j q)
 no_more i j p q h = go (compare i j q)
   where
@@ -102,7 +102,7 @@ is_other i j p h = go (compare i j p)
       | inr g ↦ (let clash : Equal ≡ Greater = sym e ∙ g in cc)
     ]
 
--- a test that fails at each place
+-- a test that fails at each index
 none_passes : (q : ℕ × ℕ → Bool) (xs : List (ℕ × ℕ)) → ((k : ℕ) → k < length xs → q (get_or xs k (0, 0)) ≡ false) → list_any q xs ≡ false
 none_passes q xs f = list_any_none q xs (All-from_get_or (λ x. q x ≡ false) xs (0, 0) f)
 
@@ -112,7 +112,7 @@ pub found_pair : (pairs : List (ℕ × ℕ)) (i j : ℕ) (r : Result ℕ ℕ) �
 found_pair pairs i j (Ok k) range found e = list_any_at (λ p. p.0 == i && p.1 == j) pairs k (0, 0) range (is_equal i j (get_or pairs k (0, 0)) (found (0, 0)))
 found_pair pairs i j (Err k) range found e = cc
 
--- a binary search among rising pairs tells whether the numbers are a pair
+-- a binary search among increasing pairs finds the numbers exactly if they are a pair
 pub searched_pair : (pairs : List (ℕ × ℕ)) (i j : ℕ) (r : Result ℕ ℕ) → pairs_rise pairs ≡ true → IsSearchInRange r (length pairs) → IsBinarySearchResult (compared i j) pairs r
     → is_ok r ≡ has_pair pairs i j
 searched_pair pairs i j (Ok k) rise range found = sym (found_pair pairs i j (Ok k) range found refl)

@@ -1,4 +1,4 @@
--- What rises, with one more behind it.
+-- Increasing lists, and one more element after them.
 use Rattle.std.proofs.Common.{◌≡◌, ◌⊎◌, inl, inr, ℕ, zero, suc, ◌+◌, ◌-◌, ◌<◌, ◌≤◌, List, [], ◌∷◌, ◌++◌, length, get_or, Bool, true, false, ◌&&◌, refl, sym, ◌∙◌, ap, arith, lt-ltb, length-append}
 use Rattle.std.specs.Prelude.{nat_lt, nat_le, Some, Err}
 use Rattle.std.specs.List.{list_all, list_any}
@@ -16,7 +16,7 @@ first_rises r (s ∷ rs) h =
     let p = and_parts (nat_le r.0 r.1 && nat_lt r.1 s.0) (ranges_rise (s ∷ rs)) h in
     ((and_parts (nat_le r.0 r.1) (nat_lt r.1 s.0) p.0).0, p.1)
 
--- above the end of the last of rising ranges is above the end of each of them
+-- a keysym above the end of the last of increasing ranges is above the end of each of them
 pub above_ranges : (rs : List (ℕ × ℕ)) (k : ℕ) → ranges_rise rs ≡ true → 0 < length rs → nat_lt (get_or rs (length rs - 1) (0, 0)).1 k ≡ list_all (λ r. nat_lt r.1 k) rs
 above_ranges [] k h l = absurd (omega arith)
 above_ranges (r ∷ []) k h l = one (nat_lt r.1 k)
@@ -43,7 +43,7 @@ above_ranges (r ∷ s ∷ rs) k h l =
         i ∙ e ∙ sym (and_from (nat_lt r.1 k) (list_all (λ r. nat_lt r.1 k) (s ∷ rs)) (lt-ltb r.1 k (omega (arith, ltb-true r.1 s.0 a, leb-true s.0 s.1 b))) e)
     go false e i a b = i ∙ e ∙ sym (and_right (nat_lt r.1 k) (list_all (λ r. nat_lt r.1 k) (s ∷ rs)) e)
 
--- above the last of rising characters is above each of them
+-- a character above the last of increasing characters is above each of them
 pub above_characters : (cs : List ℕ) (c : ℕ) → keys_rise cs ≡ true → 0 < length cs → nat_lt (get_or cs (length cs - 1) 0) c ≡ list_all (λ d. nat_lt d c) cs
 above_characters [] c h l = absurd (omega arith)
 above_characters (d ∷ []) c h l = one (nat_lt d c)
@@ -85,7 +85,7 @@ characters_push (d ∷ e ∷ cs) c h b =
     let q = and_parts (nat_lt d c) (list_all (λ d. nat_lt d c) (e ∷ cs)) b in
     and_from (nat_lt d e) (keys_rise (e ∷ (cs ++ c ∷ []))) p.0 (characters_push (e ∷ cs) c p.1 q.1)
 
--- a range above the others, where there is room, may be put behind them in a repertoire
+-- a range above the others can be added to a repertoire if there is room
 pub range_added : (r : Repertoire) (first last : ℕ) → IsRepertoire r → list_all (λ k. nat_lt k.1 first) r.keys ≡ true → first ≤ last → length r.keys < max_entries
     → IsRepertoire (record r { keys = r.keys ++ (first, last) ∷ [] })
 range_added r first last s b l m = record {
@@ -95,7 +95,7 @@ range_added r first last s b l m = record {
   ranges_rise = ranges_push r.keys first last s.ranges_rise b l;
 }
 
--- a character above the others, where there is room, may be put behind them in a repertoire
+-- a character above the others can be added to a repertoire if there is room
 pub character_added : (r : Repertoire) (c : ℕ) → IsRepertoire r → list_all (λ d. nat_lt d c) r.characters ≡ true → length r.characters < max_entries
     → IsRepertoire (record r { characters = r.characters ++ c ∷ [] })
 character_added r c s b m = record {
@@ -105,28 +105,28 @@ character_added r c s b m = record {
   ranges_rise = s.ranges_rise;
 }
 
--- ---- what is refused
+-- ---- faults
 
--- a range that doesn't begin above the others is refused by the number of its line
+-- a range that doesn't begin above the others is the fault, with the number of its line
 pub range_falls : (n first last : ℕ) (r : Repertoire) → length r.characters ≡ 0 → list_all (λ k. nat_lt k.1 first) r.keys ≡ false → with_entry n (Some (Keys first last)) r ≡ Err (NotRising n)
 range_falls n first last r e b = rw (le-ltb 0 (length r.characters) (omega arith), b) refl
 
--- a range where there is no room for another one is too many
+-- if there is no room for another range, there are too many
 pub ranges_many : (n first last : ℕ) (r : Repertoire) → length r.characters ≡ 0 → list_all (λ k. nat_lt k.1 first) r.keys ≡ true → max_entries ≤ length r.keys
     → with_entry n (Some (Keys first last)) r ≡ Err TooMany
 ranges_many n first last r e b m = rw (le-ltb 0 (length r.characters) (omega arith), b, le-leb max_entries (length r.keys) m) refl
 
--- a character that isn't above the others is refused by the number of its line
+-- a character that isn't above the others is the fault, with the number of its line
 pub character_falls : (n c : ℕ) (r : Repertoire) → list_all (λ d. nat_lt d c) r.characters ≡ false → with_entry n (Some (Character c)) r ≡ Err (NotRising n)
 character_falls n c r b = rw b refl
 
--- a character where there is no room for another one is too many
+-- if there is no room for another character, there are too many
 pub characters_many : (n c : ℕ) (r : Repertoire) → list_all (λ d. nat_lt d c) r.characters ≡ true → max_entries ≤ length r.characters → with_entry n (Some (Character c)) r ≡ Err TooMany
 characters_many n c r b m = rw (b, le-leb max_entries (length r.characters) m) refl
 
 -- ---- the ranges, one by one
 
--- each of rising ranges ends no lower than it begins
+-- none of increasing ranges ends below its beginning
 pub range_goes_up : (rs : List (ℕ × ℕ)) (i : ℕ) → ranges_rise rs ≡ true → i < length rs → (get_or rs i (0, 0)).0 ≤ (get_or rs i (0, 0)).1
 range_goes_up [] i h l = absurd (omega arith)
 range_goes_up (r ∷ rs) zero h l = leb-true r.0 r.1 (first_rises r rs h).0
@@ -141,7 +141,7 @@ first_below r (s ∷ rs) (suc j) h l =
     let b = leb-true s.0 s.1 (first_rises s rs p.1).0 in
     omega (arith, first_below s rs j p.1 (omega arith))
 
--- of rising ranges an earlier one ends below the beginning of a later one
+-- an earlier one of increasing ranges ends below the beginning of a later one
 pub ranges_apart : (rs : List (ℕ × ℕ)) (i j : ℕ) → ranges_rise rs ≡ true → i < j → j < length rs → (get_or rs i (0, 0)).1 < (get_or rs j (0, 0)).0
 ranges_apart [] i j h a l = absurd (omega arith)
 ranges_apart (r ∷ rs) i zero h a l = absurd (omega arith)
@@ -163,7 +163,7 @@ in_none (r ∷ rs) k n = or_from (is_between r.0 r.1 k) (list_any (λ r. is_betw
     out (inl a) = and_right (nat_le r.0 k) (nat_le k r.1) (lt-leb k r.1 a)
     out (inr b) = and_left (nat_le r.0 k) (nat_le k r.1) (lt-leb r.0 k b)
 
--- what ends below k, and what begins above it, as far as one range says
+-- the ranges that end below k, and those that begin above it, by the comparison with one range
 pub ends_below : (rs : List (ℕ × ℕ)) (m k : ℕ) → ranges_rise rs ≡ true → m < length rs → (get_or rs m (0, 0)).1 < k → (i : ℕ) → i < m + 1 → (get_or rs i (0, 0)).1 < k
 ends_below rs m k h l b i a = go (cases_lt i m)
   where
@@ -171,7 +171,7 @@ ends_below rs m k h l b i a = go (cases_lt i m)
     go (inl c) = omega (arith, ranges_apart rs i m h c l, range_goes_up rs m h l)
     go (inr c) = let e : i ≡ m = omega arith in omega (arith, ap (λ j. (get_or rs j (0, 0)).1) e)
 
--- a keysym below the beginning of one of rising ranges is below that of each one behind it
+-- a keysym below the beginning of one of increasing ranges is below that of each range after it
 pub begins_above : (rs : List (ℕ × ℕ)) (m k : ℕ) → ranges_rise rs ≡ true → k < (get_or rs m (0, 0)).0 → (i : ℕ) → m ≤ i → i < length rs → k < (get_or rs i (0, 0)).0
 begins_above rs m k h b i a l = go (cases_lt m i)
   where
@@ -179,7 +179,7 @@ begins_above rs m k h b i a l = go (cases_lt m i)
     go (inl c) = omega (arith, ranges_apart rs m i h c l, range_goes_up rs m h (omega arith))
     go (inr c) = let e : i ≡ m = omega arith in omega (arith, ap (λ j. (get_or rs j (0, 0)).0) e)
 
--- a keysym above all ranges before an index and below all from there on is in none
+-- a keysym above all ranges before an index, and below all from there on, is in none
 pub in_none_of_all : (rs : List (ℕ × ℕ)) (low high k : ℕ) → high ≤ low → ((i : ℕ) → i < low → (get_or rs i (0, 0)).1 < k) → ((i : ℕ) → high ≤ i → i < length rs → k < (get_or rs i (0, 0)).0)
     → list_any (λ r. is_between r.0 r.1 k) rs ≡ false
 in_none_of_all rs low high k l b a = in_none rs k (λ i m. go i m (cases_lt i low))

@@ -8,7 +8,7 @@ use Rattle.compose_model.specs.Certificate.{Typing, Certificate}
 use Rattle.compose_cert.specs.Spelling.{counted, pair_text, typing_text, version_line, fresh_lines, text_of, ended, max_count, is_number, are_numbers, is_character, is_spelled, is_typed, is_typing, are_counted, is_counted, is_certificate}
 use Rattle.compose_cert.proofs.Written.{ended-append}
 
--- a typing whose parts are right and counted is a typing
+-- a typing whose parts are in order and counted is a typing
 all_typings : (ts : List Typing) → list_all is_spelled ts ≡ true → list_all is_typed ts ≡ true → list_all is_typing ts ≡ true
 all_typings [] s t = refl
 all_typings (x ∷ ts) s t =
@@ -20,7 +20,7 @@ all_typings (x ∷ ts) s t =
     (and_from (is_character x.character && nat_lt 0 (length x.keys)) (nat_le (length x.keys) max_count) (and_from (is_character x.character) (nat_lt 0 (length x.keys)) p.0 q.0) q.1) p.1 in
     and_from (is_typing x) (list_all is_typing ts) one (all_typings ts a.1 b.1)
 
--- counted parts that are numbers, typings and keysyms make a certificate
+-- counted parts that are numbers, typings and keysyms are a certificate
 pub certificate_from_parts : (c : Certificate) → is_counted c ≡ true → c.bound < 2 ^ 32 → list_all are_numbers c.pairs ≡ true → list_all is_spelled c.typings ≡ true → list_all is_keysym c.fresh ≡ true
     → is_certificate c ≡ true
 certificate_from_parts c n b ps ts fs =
@@ -40,7 +40,7 @@ certificate_from_parts c n b ps ts fs =
     (and_from x2 (list_all are_numbers c.pairs)
     (and_from x1 (nat_le (length c.pairs) max_count) (lt-ltb c.bound 0x100000000 b) e.0) ps) e.1) (all_typings c.typings ts d.1)) a.1) fs
 
--- the four parts of the text, one behind another
+-- the four parts of the text, one after another
 pub parts_are_text : (head pairs typings whole : List ℕ) (c : Certificate)
     → head ≡ ended (version_line c.fresh ∷ counted (codes "bound") c.bound ∷ counted (codes "pairs") (length c.pairs) ∷ [])
     → pairs ≡ head ++ ended (map pair_text c.pairs)

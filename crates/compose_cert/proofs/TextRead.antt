@@ -1,4 +1,4 @@
--- The text of a certificate is read as that certificate.
+-- Reading the text of a certificate returns that certificate.
 use Rattle.std.proofs.Common.{◌≡◌, ℕ, ◌+◌, ◌<◌, ◌^◌, List, [], ◌∷◌, ◌++◌, length, map, Bool, true, false, not, ◌&&◌, refl, ◌∙◌, ap, arith, append_assoc, append-nil, eqb-true, lt-ltb}
 use Rattle.std.specs.Prelude.{◌==◌, Option, Some, Result, Ok, nat_lt, nat_le, flat_map, codes}
 use Rattle.std.specs.Option.{option_map}
@@ -50,14 +50,14 @@ keysyms_again (k ∷ keys) a =
     let first : keysym_of (keysym_text k) ≡ Some k = keysym_again k parts.0 in
     rw (first, keysyms_again keys parts.1) refl
 
--- the parts of what a typing keeps to
+-- the conditions on a typing, part by part
 pub record IsTyping (t : Typing) : Type 0 where
   pub character : is_character t.character ≡ true
   pub some : nat_lt 0 (length t.keys) ≡ true
   pub few : nat_le (length t.keys) max_count ≡ true
   pub keysyms : list_all is_keysym t.keys ≡ true
 
--- what a typing keeps to, part by part
+-- a typing meets the conditions
 pub typing_parts : (t : Typing) → is_typing t ≡ true → IsTyping t
 typing_parts t h =
     let a = and_parts (is_character t.character && nat_lt 0 (length t.keys) && nat_le (length t.keys) max_count) (list_all is_keysym t.keys) h in
@@ -179,7 +179,7 @@ fresh_again (k ∷ ks) n few a =
     times_again (line_at keysym_of) keysym_text is_keysym (λ n k rest h l. line_again keysym_of n (keysym_text k) rest k (keysym_again k h) l) (k ∷ ks) (1 + n) ([] ∷ []) a (omega arith) in
     rw (counts, not_zero k ks, keys) refl
 
--- the parts of what a certificate keeps to
+-- the conditions on a certificate, part by part
 pub record IsCertificate (c : Certificate) : Type 0 where
   pub bound : is_number c.bound ≡ true
   pub few_pairs : nat_le (length c.pairs) max_count ≡ true
@@ -189,7 +189,7 @@ pub record IsCertificate (c : Certificate) : Type 0 where
   pub few_fresh : nat_le (length c.fresh) max_count ≡ true
   pub fresh : list_all is_keysym c.fresh ≡ true
 
--- what a certificate keeps to, part by part
+-- a certificate meets the conditions
 pub certificate_parts : (c : Certificate) → is_certificate c ≡ true → IsCertificate c
 certificate_parts c h =
     let x1 = is_number c.bound in
@@ -230,31 +230,31 @@ lines_are c p =
     (all_cons (counted (codes "typings") (length c.typings)) fourth (decimal_line (length c.typings) (omega arith))
     (all_append is_line (map typing_text c.typings) (fresh_lines c.fresh) (all_map typing_text is_typing typing_is_line c.typings p.typings) (fresh_are_lines c.fresh p.few_fresh p.fresh))))))
 
--- the steps of reading, each behind the one before
+-- the steps of reading, each after the one before
 abbrev pub after_fresh : ℕ → List (ℕ × ℕ) → List Typing → List ℕ → Result Certificate CertFault
 after_fresh bound pairs typings fresh = Ok (record { bound = bound; pairs = pairs; typings = typings; fresh = fresh })
 
--- the certificate that is read behind the typings
+-- the certificate that is read after the typings
 abbrev pub after_typings : ℕ → ℕ → ℕ → List (ℕ × ℕ) → ℕ → List Typing × List (List ℕ) → Result Certificate CertFault
 after_typings version bound p pairs q typings = fresh_at version (5 + p + q) typings.1 >>= after_fresh bound pairs typings.0
 
--- the certificate that is read behind the number of typings
+-- the certificate that is read after the number of typings
 abbrev pub after_typing_count : ℕ → ℕ → ℕ → List (ℕ × ℕ) → ℕ × List (List ℕ) → Result Certificate CertFault
 after_typing_count version bound p pairs q = times typing_at q.0 (5 + p) q.1 >>= after_typings version bound p pairs q.0
 
--- the certificate that is read behind the pairs
+-- the certificate that is read after the pairs
 abbrev pub after_pairs : ℕ → ℕ → ℕ → List (ℕ × ℕ) × List (List ℕ) → Result Certificate CertFault
 after_pairs version bound p pairs = count_at (codes "typings") (4 + p) pairs.1 >>= after_typing_count version bound p pairs.0
 
--- the certificate that is read behind the number of pairs
+-- the certificate that is read after the number of pairs
 abbrev pub after_count : ℕ → ℕ → ℕ × List (List ℕ) → Result Certificate CertFault
 after_count version bound p = times (line_at pair_of) p.0 4 p.1 >>= after_pairs version bound p.0
 
--- the certificate that is read behind the bound
+-- the certificate that is read after the bound
 abbrev pub after_bound : ℕ → ℕ × List (List ℕ) → Result Certificate CertFault
 after_bound version bound = count_at (codes "pairs") 3 bound.1 >>= after_count version bound.0
 
--- the certificate that is read behind the version
+-- the certificate that is read after the version
 abbrev pub after_version : ℕ × List (List ℕ) → Result Certificate CertFault
 after_version version = line_at (number_behind (codes "bound")) 2 version.1 >>= after_bound version.0
 
@@ -289,11 +289,11 @@ lines_again c p =
     ∙ ap (λ r. r >>= after_pairs (version c.fresh) c.bound (length c.pairs)) pairs ∙ ap (λ r. r >>= after_typing_count (version c.fresh) c.bound (length c.pairs) c.pairs) typing_counts
     ∙ ap (λ r. r >>= after_typings (version c.fresh) c.bound (length c.pairs) c.pairs (length c.typings)) typings ∙ ap (λ r. r >>= after_fresh c.bound c.pairs c.typings) fresh
 
--- the text of a certificate is read back
+-- reading the text of a certificate returns the certificate
 pub certificate_again : (c : Certificate) → is_certificate c ≡ true → certificate_of (text_of c) ≡ Ok c
 certificate_again c h = let p = certificate_parts c h in ap certificate_at (lines_divided (lines_of_text c) (lines_are c p)) ∙ lines_again c p
 
--- a certificate that the bytes spell is read of them
+-- reading bytes that spell a certificate returns it
 pub spelled_is_read : (bytes : List ℕ) (c : Certificate) → Spells bytes c → certificate_of bytes ≡ Ok c
 spelled_is_read bytes c s = ap certificate_of s.is ∙ certificate_again c s.fits
 

@@ -1,4 +1,4 @@
--- So many lines, one behind another, as a loop reads them.
+-- A number of lines, one after another, as a loop reads them.
 use Rattle.std.proofs.Common.{◌≡◌, ℕ, suc, ◌+◌, ◌-◌, ◌<◌, List, [], ◌∷◌, ◌++◌, refl, sym, ◌∙◌, ap, arith, append_assoc}
 use Rattle.std.specs.Prelude.{Result, Ok, Err}
 use Rattle.compose_text.specs.Results.{◌>>=◌}
@@ -13,7 +13,7 @@ regrouped xs x (Err e) = refl
 first_left : (count i : ℕ) → i < count → count - i ≡ suc (count - (i + 1))
 first_left count i l = omega arith
 
--- where one more of so many is read, those before it and it stand before the others
+-- if one more is read, it comes after those before it and before the others
 pub times_more : {A : Type 0} (one : ℕ → List (List ℕ) → Result (A × List (List ℕ)) CertFault) (xs : List A) (count i n : ℕ) (lines rest : List (List ℕ)) (x : A)
     (whole : Result (List A × List (List ℕ)) CertFault)
     → i < count → one (n + i) lines ≡ Ok (x, rest) → behind xs (times one (count - i) (n + i) lines) ≡ whole → behind (xs ++ x ∷ []) (times one (count - (i + 1)) (n + (i + 1)) rest) ≡ whole
@@ -23,7 +23,7 @@ times_more one xs count i n lines rest x whole l e h =
     ap (λ k. behind (xs ++ x ∷ []) (times one (count - (i + 1)) k rest)) next ∙ regrouped xs x (times one (count - (i + 1)) (1 + (n + i)) rest)
     ∙ ap (behind xs) (sym step) ∙ ap (λ k. behind xs (times one k (n + i) lines)) (sym (first_left count i l)) ∙ h
 
--- the fault of one of so many is that of all
+-- the fault of one is the fault of all
 pub times_stop : {A : Type 0} (one : ℕ → List (List ℕ) → Result (A × List (List ℕ)) CertFault) (xs : List A) (count i n : ℕ) (lines : List (List ℕ)) (e : CertFault)
     (whole : Result (List A × List (List ℕ)) CertFault)
     → i < count → one (n + i) lines ≡ Err e → behind xs (times one (count - i) (n + i) lines) ≡ whole → whole ≡ Err e

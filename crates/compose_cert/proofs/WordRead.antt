@@ -1,4 +1,4 @@
--- What a word spells is what is read of it.
+-- A word is read as the value that it spells.
 use Rattle.std.proofs.Common.{◌≡◌, inl, inr, ℕ, zero, suc, ◌<◌, ◌≤◌, List, [], ◌∷◌, length, get_or, drop, take, Bool, true, false, cond, not, ◌&&◌, refl, sym, ◌∙◌, ap, arith, lt-ltb, eq-eqb}
 use Rattle.std.specs.Prelude.{◌==◌, nat_eq, nat_le, Some, None, Option, bytes_eq}
 use Rattle.std.specs.List.{starts_with}
@@ -18,7 +18,7 @@ use Rattle.compose_cert.specs.Reading.{written, number_of, keysym_of, character_
 use Rattle.compose_cert.proofs.Padded.{padded_value}
 use Rattle.compose_cert.proofs.Words.{number_again, keysym_again, character_again}
 
--- nothing is read where the text of the value is another
+-- nothing is read if the value has another text
 unwritten : (text : ℕ → List ℕ) (test : ℕ → Bool) (x : ℕ) (word : List ℕ) → (test x ≡ true → word ≡ text x → ⊥) → written text test x word ≡ None
 unwritten text test x word h = go (test x && bytes_eq word (text x)) refl
   where
@@ -26,12 +26,12 @@ unwritten text test x word h = go (test x && bytes_eq word (text x)) refl
     go true e = let parts = and_parts (test x) (bytes_eq word (text x)) e in absurd (h parts.0 ((bytes_decides word (text x)).0 parts.1))
     go false e = refl
 
--- a word that spells a number, or none, is read as it
+-- a word that spells a number, or none, is read as this result
 pub number_told : (word : List ℕ) (r : Option ℕ) → IsSpelled (numeral Decimal) 4294967295 word r → r ≡ number_of word
 number_told word None h = sym (unwritten decimal is_number (digits_value 10 word) word (λ t e. let l = ltb-true (digits_value 10 word) 0x100000000 t in h (digits_value 10 word) (omega arith) e))
 number_told word (Some n) h = sym (ap number_of h.1 ∙ number_again n (lt-ltb n 0x100000000 (omega (arith, h.0))))
 
--- a word that spells a keysym, or none, is read as it
+-- a word that spells a keysym, or none, is read as this result
 pub keysym_told : (word : List ℕ) (r : Option ℕ) → IsSpelled (numeral LowerHexadecimal) 0x1fffffff word r → r ≡ keysym_of word
 keysym_told word None h = sym (unwritten keysym_text is_keysym (digits_value 16 word) word (λ t e. h (digits_value 16 word) (leb-true (digits_value 16 word) 0x1fffffff t) e))
 keysym_told word (Some n) h = sym (ap keysym_of h.1 ∙ keysym_again n (le-leb n 0x1fffffff h.0))
@@ -49,7 +49,7 @@ prefix_is (a ∷ b ∷ word) h =
 prefixed : (word : List ℕ) (n : ℕ) → starts_with nat_eq word (85 ∷ 43 ∷ []) ≡ true → drop 2 word ≡ padded n → word ≡ character_text n
 prefixed word n h e = prefix_is word h ∙ ap (λ ds. 85 ∷ 43 ∷ ds) e
 
--- a word that spells no character behind its first two bytes is read as none
+-- a word that spells no character after its first two bytes is read as none
 pub no_character_told : (word : List ℕ) → IsSpelled padded 0x10ffff (drop 2 word) None → None ≡ character_of word
 no_character_told word h = sym (unwritten character_text is_character (digits_value 16 (drop 2 word)) word
     (λ t e. let l = leb-true (digits_value 16 (drop 2 word)) 0x10ffff (and_parts (nat_le (digits_value 16 (drop 2 word)) 0x10ffff) (not (is_surrogate (digits_value 16 (drop 2 word)))) t).0 in
@@ -67,7 +67,7 @@ gap_is_none n t (inl b) =
     false≢true (ap not (sym s) ∙ parts.1)
 gap_is_none n t (inr b) = omega (arith, leb-true n 0x10ffff (and_parts (nat_le n 0x10ffff) (not (is_surrogate n)) t).0)
 
--- a word that spells a number behind `U+` is read as its character, or as none where it is a surrogate
+-- a word that spells a number after `U+` is read as its character, or as none if it is a surrogate
 pub character_told : (word : List ℕ) (n : ℕ) (r : Option ℕ) → starts_with nat_eq word (85 ∷ 43 ∷ []) ≡ true → IsSpelled padded 0x10ffff (drop 2 word) (Some n) → SomeIff r (IsScalar n) n
     → MatchOption r (OutOfScalarRange n) (λ _. InScalarRange n) → r ≡ character_of word
 character_told word n (Some x) h s v m = ap Some v.1 ∙ sym (ap character_of (prefixed word n h s.1) ∙ character_again n (range_is_character n s.0 m))
@@ -75,9 +75,9 @@ character_told word n None h s v m =
     let value : digits_value 16 (drop 2 word) ≡ n = ap (digits_value 16) s.1 ∙ padded_value n s.0 in
     sym (unwritten character_text is_character (digits_value 16 (drop 2 word)) word (λ t e. gap_is_none n (ap is_character (sym value) ∙ t) m))
 
--- ---- parts round a byte
+-- ---- the parts before and after a byte
 
--- bytes are divided at their first divider, and what follows it is divided on
+-- bytes are divided at their first divider, and what follows it is divided further
 pub divide_found : (at : ℕ) (bytes : List ℕ) (i : ℕ) → i < length bytes → get_or bytes i 0 ≡ at → ((k : ℕ) → k < i → get_or bytes k 0 ≡ at → ⊥)
     → divide at bytes ≡ take i bytes ∷ divide at (drop (suc i) bytes)
 divide_found at [] i l e n = absurd (omega arith)

@@ -1,4 +1,4 @@
--- Words and lines, divided again where they were joined, and numbers read as they were written.
+-- Words and lines that are joined are divided again, and numbers that are written are read again.
 use Rattle.std.proofs.Common.{◌≡◌, ℕ, suc, zero, ◌-◌, ◌<◌, ◌≤◌, ◌^◌, List, [], ◌∷◌, ◌++◌, length, drop, replicate, Bool, true, false, cond, not, refl, ◌∙◌, ap, arith, append_assoc, eqb-true, lt-ltb}
 use Rattle.std.specs.Prelude.{◌==◌, Some, nat_lt, nat_le, codes, bytes_eq}
 use Rattle.std.specs.Cmp.Lexicographic.{bytes_decides}
@@ -16,16 +16,16 @@ use Rattle.compose_cert.specs.Reading.{written, number_of, keysym_of, character_
 
 -- ---- dividing
 
--- bytes above the blank, so neither a blank nor a newline
+-- bytes above the blank, that is, neither a blank nor a newline
 abbrev pub plain : List ℕ → Bool
 plain bs = list_all (λ b. nat_lt 32 b) bs
 
--- bytes above the blank, two lists in a row, are bytes above the blank
+-- bytes above the blank, followed by bytes above the blank, are bytes above the blank
 pub plain_append : (a b : List ℕ) → plain a ≡ true → plain b ≡ true → plain (a ++ b) ≡ true
 plain_append [] b p q = q
 plain_append (x ∷ a) b p q = let parts = and_parts (nat_lt 32 x) (plain a) p in and_from (nat_lt 32 x) (plain (a ++ b)) parts.0 (plain_append a b parts.1 q)
 
--- bytes are divided at the first divider, where none stands before it
+-- bytes are divided at the first divider if none comes before it
 pub divide_at : (at : ℕ) (p : ℕ → Bool) → ((b : ℕ) → p b ≡ true → (b == at) ≡ false) → (part rest : List ℕ) → list_all p part ≡ true → divide at (part ++ at ∷ rest) ≡ part ∷ divide at rest
 divide_at at p differs [] rest h = go (at == at) refl
   where
@@ -50,7 +50,7 @@ above_differs at b l h = go (b == at) refl
     go true e = absurd (omega (arith, eqb-true b at e, ltb-true 32 b h))
     go false e = refl
 
--- a word of bytes above the blank is the first part of what is divided at the blank behind it
+-- a word of bytes above the blank is the first part when its bytes are divided at the blank after it
 pub word_divided : (word rest : List ℕ) → plain word ≡ true → divide 32 (word ++ 32 ∷ rest) ≡ word ∷ divide 32 rest
 word_divided word rest h = divide_at 32 (λ b. nat_lt 32 b) (λ b h. above_differs 32 b (omega arith) h) word rest h
 
@@ -58,11 +58,11 @@ word_divided word rest h = divide_at 32 (λ b. nat_lt 32 b) (λ b h. above_diffe
 pub word_alone : (word : List ℕ) → plain word ≡ true → divide 32 word ≡ word ∷ []
 word_alone word h = divide_last 32 (λ b. nat_lt 32 b) (λ b h. above_differs 32 b (omega arith) h) word h
 
--- a line holds no newline
+-- a line has no newline
 abbrev pub is_line : List ℕ → Bool
 is_line bs = list_all (λ b. not (b == 10)) bs
 
--- lines that end with a newline are divided into themselves, and nothing behind the last
+-- lines that end with a newline are divided into themselves, and nothing comes after the last
 pub lines_divided : (lines : List (List ℕ)) → list_all is_line lines ≡ true → divide 10 (ended lines) ≡ lines ++ [] ∷ []
 lines_divided [] h = refl
 lines_divided (line ∷ lines) h =
@@ -108,16 +108,16 @@ hex_plain upper n h = digits_plain 16 (digits 16 upper n) (omega arith) (digits_
 written_again : (text : ℕ → List ℕ) (test : ℕ → Bool) (x y : ℕ) → y ≡ x → test x ≡ true → written text test y (text x) ≡ Some x
 written_again text test x y e h = rw (e, h, same_bytes (text x)) refl
 
--- the number of 32 bits that is written is read back
+-- a 32-bit number that is written is read back
 pub number_again : (n : ℕ) → is_number n ≡ true → number_of (decimal n) ≡ Some n
 number_again n h = let l = ltb-true n 0x100000000 h in written_again decimal is_number n (digits_value 10 (decimal n)) (digits_is_IsNumeral 10 false (omega arith) (omega arith) n (omega arith)).1 h
 
--- the keysym that is written is read back
+-- a keysym that is written is read back
 pub keysym_again : (k : ℕ) → is_keysym k ≡ true → keysym_of (keysym_text k) ≡ Some k
 keysym_again k h =
     let l = leb-true k 0x1fffffff h in written_again keysym_text is_keysym k (digits_value 16 (keysym_text k)) (digits_is_IsNumeral 16 false (omega arith) (omega arith) k (omega arith)).1 h
 
--- zeros before hexadecimal digits leave their value
+-- leading zeros don't change the value of hexadecimal digits
 pub zeros : (k : ℕ) (ds : List ℕ) → digits_value 16 (replicate k 48 ++ ds) ≡ digits_value 16 ds
 zeros zero ds = refl
 zeros (suc k) ds = zeros k ds
@@ -126,7 +126,7 @@ zeros (suc k) ds = zeros k ds
 pub character_below : (c : ℕ) → is_character c ≡ true → c ≤ 0x10ffff
 character_below c h = leb-true c 0x10ffff (and_parts (nat_le c 0x10ffff) (not (is_surrogate c)) h).0
 
--- the character that is written is read back
+-- a character that is written is read back
 pub character_again : (c : ℕ) → is_character c ≡ true → character_of (character_text c) ≡ Some c
 character_again c h =
     let l = character_below c h in

@@ -1,4 +1,4 @@
--- The words of bytes are the first word and those behind it.
+-- The words of bytes are the first word and those after it.
 use Rattle.std.proofs.Common.{◌≡◌, ℕ, zero, suc, ◌+◌, ◌<◌, List, [], ◌∷◌, length, get_or, drop, take, map, Bool, true, false, cond, refl, sym, ◌∙◌, ap, arith, eq-eqb}
 use Rattle.std.specs.Prelude.{◌==◌, ◌||◌, nat_lt, filter}
 use Rattle.std.specs.List.{position_or_len}
@@ -14,7 +14,7 @@ comment_step b line e =
     let next : 1 + position_or_len (λ b. b == 35) line ≡ suc (position_or_len (λ b. b == 35) line) = omega arith in
     rw e (ap (λ n. take n (b ∷ line)) next)
 
--- before the first `#` of a line stands what comes before its comment
+-- the bytes before the first `#` of a line are those before its comment
 pub comment_found : (line : List ℕ) (i : ℕ) → i < length line → get_or line i 0 ≡ 35 → ((k : ℕ) → k < i → get_or line k 0 ≡ 35 → ⊥) → take i line ≡ before_comment line
 comment_found [] i l e n = absurd (omega arith)
 comment_found (b ∷ line) zero l e n = rw (eq-eqb b 35 e) refl
@@ -27,7 +27,7 @@ comment_unfound (b ∷ line) n = ap (λ bs. b ∷ bs) (comment_unfound line (λ 
 
 -- ---- words
 
--- what is no blank stands for itself
+-- a byte that is no blank is unchanged
 plain : (b : ℕ) → is_blank b ≡ false → (plain_blank b ≡ b) × ((b == 32) ≡ false)
 plain b h = (ap (λ t. cond t 32 b) h, go (b == 32) (b == 9) (b == 13) h)
   where
@@ -53,7 +53,7 @@ some_kept : (word : List ℕ) (words : List (List ℕ)) → 0 < length word → 
 some_kept [] words l = absurd (omega arith)
 some_kept (b ∷ word) words l = rw (lt-ltb 0 (length (b ∷ word)) l) refl
 
--- bytes that begin with no blank have their first word up to their first blank
+-- bytes that don't begin with a blank have their first word before their first blank
 pub word_found : (bytes : List ℕ) (i : ℕ) → i < length bytes → is_blank (get_or bytes 0 0) ≡ false → is_blank (get_or bytes i 0) ≡ true → ((k : ℕ) → k < i → is_blank (get_or bytes k 0) ≡ false)
     → words_in bytes ≡ take i bytes ∷ words_in (drop (suc i) bytes)
 word_found [] i l f e n = absurd (omega arith)
@@ -62,6 +62,6 @@ word_found (b ∷ bytes) (suc i) l f e n =
     ap (λ parts. filter (λ word. nat_lt 0 (length word)) parts) (parts_found (b ∷ bytes) (suc i) l e n)
     ∙ some_kept (take (suc i) (b ∷ bytes)) (divide 32 (map plain_blank (drop (suc (suc i)) (b ∷ bytes)))) (omega arith)
 
--- bytes that are some, and have no blank, are one word
+-- bytes that are not empty, and have no blank, are one word
 pub word_unfound : (bytes : List ℕ) → 0 < length bytes → ((k : ℕ) → k < length bytes → is_blank (get_or bytes k 0) ≡ false) → words_in bytes ≡ bytes ∷ []
 word_unfound bytes l n = ap (λ parts. filter (λ word. nat_lt 0 (length word)) parts) (parts_unfound bytes n) ∙ some_kept bytes [] l

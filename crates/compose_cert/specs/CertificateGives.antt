@@ -1,4 +1,4 @@
--- What the readers give, unless memory ran out.
+-- What the readers return, unless memory runs out.
 use Rattle.std.specs.Prelude.{◌≡◌, Result, Ok, Err}
 use Rattle.compose_model.specs.Certificate.{Certificate, Repertoire}
 use Rattle.compose_cert.specs.declared.CertFault.{CertFault}

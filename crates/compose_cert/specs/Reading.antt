@@ -1,4 +1,4 @@
--- A certificate's text read line by line: its certificate, or the fault of the first faulty line.
+-- Reading a certificate's text line by line: the certificate, or the fault of the first faulty line.
 use Rattle.std.specs.Prelude.{ℕ, Bool, ◌+◌, ◌&&◌, ◌==◌, nat_eq, nat_lt, zero, suc, if◌then◌else◌, List, [], ◌∷◌, ◌++◌, length, drop, Option, Some, None, Result, Ok, Err, bytes_eq, codes}
 use Rattle.std.specs.Option.{option_map_or, option_map}
 use Rattle.std.specs.List.{starts_with}
@@ -12,9 +12,9 @@ use Rattle.compose_cert.specs.Spelling.{character_text, keysym_text, is_number, 
 use Rattle.compose_cert.specs.declared.CertFault.{CertFault}
 use Rattle.compose_cert.specs.declared.CertFault.TheVariants.{NotText, TooLarge}
 
--- ---- words: each is what is written of the value that its digits have
+-- ---- words: a word has to be the text of the value of its digits
 
--- x, if it passes and the word is its text
+-- x, if it passes the test and the word is its text
 abbrev pub written : (ℕ → List ℕ) → (ℕ → Bool) → ℕ → List ℕ → Option ℕ
 written text test x word = if test x && bytes_eq word (text x) then Some x else None
 
@@ -34,7 +34,7 @@ character_of word = written character_text is_character (digits_value 16 (drop 2
 abbrev pub version_of : List ℕ → Option ℕ
 version_of line = if bytes_eq line (codes "compose-certificate 1") then Some 1 else if bytes_eq line (codes "compose-certificate 2") then Some 2 else None
 
--- the number behind this word and a blank
+-- the number after this word and a blank
 abbrev pub number_behind : List ℕ → List ℕ → Option ℕ
 number_behind word line = if starts_with nat_eq line (word ++ 32 ∷ []) then number_of (drop (length word + 1) line) else None
 
@@ -59,11 +59,12 @@ abbrev pub typing_of_words : List (List ℕ) → Option Typing
 typing_of_words (c ∷ k ∷ ks) = option_map (λ x. let t : Typing = record { character = x.0; keys = x.1 } in t) (both (character_of c) (keysyms_of (k ∷ ks)))
 typing_of_words _ = None
 
--- a character and one or more keysyms, with a blank before each of these
+-- a character and one or more keysyms, with a blank before each keysym
 abbrev pub typing_of : List ℕ → Option Typing
 typing_of line = typing_of_words (divide 32 line)
 
--- ---- lines in a row. `n` is the number of the first of them; a line counts where a newline ends it, so where another part follows
+-- ---- lines in a row. `n` is the number of the first of them. A line counts only if a newline ends it, that is, if
+-- another part follows
 
 -- a line of this form
 abbrev pub line_at : {A : Type 0} → (List ℕ → Option A) → ℕ → List (List ℕ) → Result (A × List (List ℕ)) CertFault
@@ -71,7 +72,7 @@ line_at form n [] = Err (NotText n)
 line_at form n (line ∷ []) = Err (NotText n)
 line_at form n (line ∷ next ∷ lines) = option_map_or (λ x. Ok (x, next ∷ lines)) (form line) (Err (NotText n))
 
--- what was read, if there is not too much of it
+-- what was read, if it is not too large
 abbrev pub if_few : {A : Type 0} → (A → ℕ) → A × List (List ℕ) → Result (A × List (List ℕ)) CertFault
 if_few size x = if nat_lt max_count (size x.0) then Err TooLarge else Ok x
 
@@ -81,7 +82,7 @@ count_at word n lines = line_at (number_behind word) n lines >>= if_few (λ coun
 abbrev pub typing_at : ℕ → List (List ℕ) → Result (Typing × List (List ℕ)) CertFault
 typing_at n lines = line_at typing_of n lines >>= if_few (λ t. length t.keys)
 
--- so many, one behind another
+-- as many of these as the count, one after another
 abbrev pub times : {A : Type 0} → (ℕ → List (List ℕ) → Result (A × List (List ℕ)) CertFault) → ℕ → ℕ → List (List ℕ) → Result (List A × List (List ℕ)) CertFault
 times one zero n lines = Ok ([], lines)
 times one (suc count) n lines = do

@@ -20,11 +20,11 @@ max_entries = 65536
 
 -- ---- a line
 
--- tabs and carriage returns are spaces (code 32), as other blanks are
+-- tabs and carriage returns count as spaces (code 32)
 abbrev pub plain_blank : ℕ → ℕ
 plain_blank b = if is_blank b then 32 else b
 
--- what stands before a comment (code 35)
+-- the bytes before a comment (code 35)
 abbrev pub before_comment : List ℕ → List ℕ
 before_comment line = before_first (λ b. b == 35) line
 
@@ -46,21 +46,21 @@ range_entry (Some first) (Some last) = if nat_le first last then Some (Keys firs
 range_entry (Some first) None = None
 range_entry None last = None
 
--- no word; `keys` and two numbers; or a character; or a line of another form
+-- no word; `keys` and two numbers; or a character. None for a line of another form
 abbrev pub entry_of : List (List ℕ) → Option Entry
 entry_of [] = Some Nothing
 entry_of (word ∷ []) = option_map (λ c. Character c) (character_form word)
 entry_of (word ∷ first ∷ last ∷ []) = if bytes_eq word (codes "keys") then range_entry (number_form first) (number_form last) else None
 entry_of _ = None
 
--- a range goes upwards
+-- the last key of a range isn't below its first
 abbrev pub IsOrdered : Entry → Type 0
 IsOrdered (Keys first last) = first ≤ last
 IsOrdered _ = Unit {0}
 
 -- ---- all lines
 
--- the repertoire with what line n says: ranges rise and stand before the characters, and these rise
+-- the repertoire with the content of line n; ranges increase and come before the characters, which increase as well
 abbrev pub with_entry : ℕ → Option Entry → Repertoire → Result Repertoire RepertoireFault
 with_entry n None r = Err (BadLine n)
 with_entry n (Some Nothing) r = Ok r
@@ -75,7 +75,7 @@ with_entry n (Some (Character c)) r =
 abbrev pub line_entry : List ℕ → Option Entry
 line_entry line = if is_utf8 line then entry_of (words_of line) else None
 
--- the repertoire with what these lines say, numbered on from n
+-- the repertoire with the content of these lines, the first of which has the number n
 abbrev pub lines_on : ℕ → List (List ℕ) → Result Repertoire RepertoireFault → Result Repertoire RepertoireFault
 lines_on n lines (Err fault) = Err fault
 lines_on n [] (Ok r) = Ok r
@@ -85,15 +85,15 @@ lines_on n (line ∷ lines) (Ok r) = lines_on (1 + n) lines (with_entry n (line_
 abbrev pub repertoire_of : List ℕ → Result Repertoire RepertoireFault
 repertoire_of bytes = lines_on 1 (lines_of bytes) (Ok (record { characters = []; keys = [] }))
 
--- ---- what a repertoire is
+-- ---- the properties of a repertoire
 
--- each range goes upwards, and begins above the end of the one before
+-- no range is empty, and each begins above the end of the one before
 abbrev pub ranges_rise : List (ℕ × ℕ) → Bool
 ranges_rise [] = true
 ranges_rise (r ∷ []) = nat_le r.0 r.1
 ranges_rise (r ∷ s ∷ ranges) = nat_le r.0 r.1 && nat_lt r.1 s.0 && ranges_rise (s ∷ ranges)
 
--- the characters strictly rise, and there are at most 65,536 of them and of the ranges
+-- the characters are strictly increasing, and there are at most 65,536 of them and of the ranges
 pub record IsRepertoire (r : Repertoire) : Type 0 where
   pub rise : IsTrue (keys_rise r.characters)
   pub few : length r.characters ≤ max_entries

@@ -12,7 +12,7 @@ use Rattle.compose_model.specs.Certificate.{Typing, Certificate}
 abbrev pub counted : List ℕ → ℕ → List ℕ
 counted word n = word ++ 32 ∷ decimal n
 
--- `U+` and upper case digits, at least four
+-- `U+` and at least four upper-case digits
 abbrev pub character_text : ℕ → List ℕ
 character_text c = codes "U+" ++ replicate (4 - length (digits 16 true c)) 48 ++ digits 16 true c
 
@@ -25,7 +25,7 @@ pair_text p = decimal p.0 ++ 32 ∷ decimal p.1
 abbrev pub typing_text : Typing → List ℕ
 typing_text t = character_text t.character ++ flat_map (λ k. 32 ∷ keysym_text k) t.keys
 
--- version 2 says the fresh keysyms; a certificate without any is of version 1
+-- version 2 has fresh keysyms; a certificate without any is of version 1
 abbrev pub version_line : List ℕ → List ℕ
 version_line [] = codes "compose-certificate 1"
 version_line (k ∷ fresh) = codes "compose-certificate 2"
@@ -51,7 +51,7 @@ ended lines = flat_map (λ line. line ++ 10 ∷ []) lines
 abbrev pub text_of : Certificate → List ℕ
 text_of c = ended (lines_of_text c)
 
--- ---- what has a text
+-- ---- which certificates have a text
 
 abbrev pub max_count : ℕ
 max_count = 1048576
@@ -62,7 +62,7 @@ is_number n = nat_lt n 0x100000000
 abbrev pub are_numbers : ℕ × ℕ → Bool
 are_numbers p = is_number p.0 && is_number p.1
 
--- a number up to 10FFFF, no surrogate
+-- a number up to 10FFFF that is no surrogate
 abbrev pub is_character : ℕ → Bool
 is_character c = nat_le c 0x10ffff && not (is_surrogate c)
 
@@ -85,7 +85,7 @@ pub record Spells (bytes : List ℕ) (c : Certificate) : Type 0 where
   pub fits : IsTrue (is_certificate c)
   pub is : bytes ≡ text_of c
 
--- ---- what a certificate may be made of
+-- ---- the limits of a certificate's parts
 
 -- 1 to 1,048,576 keys
 abbrev pub is_typed : Typing → Bool
@@ -95,6 +95,6 @@ is_typed t = nat_lt 0 (length t.keys) && nat_le (length t.keys) max_count
 abbrev pub are_counted : List (ℕ × ℕ) → List Typing → Bool
 are_counted pairs typings = nat_le (length pairs) max_count && nat_le (length typings) max_count && list_all is_typed typings
 
--- the same of a certificate, and not too many fresh keysyms
+-- the same for a whole certificate, and not too many fresh keysyms
 abbrev pub is_counted : Certificate → Bool
 is_counted c = are_counted c.pairs c.typings && nat_le (length c.fresh) max_count

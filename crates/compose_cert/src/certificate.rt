@@ -14,7 +14,7 @@ use keysym_core::Keysym;
 use std::alloc::Global;
 use std::marker::Model;
 
-/// A character, and keys that type it.
+/// A character, and the keys that type it.
 #[derive(Drop)]
 pub struct Typing {
     character: char,
@@ -28,21 +28,21 @@ impl Model for Typing {
 }
 
 impl Typing {
-    /// These keys for this character.
+    /// Makes a typing of a character and the keys that type it.
     pub fn new(character: char, keys: Vec<Keysym>) -> Typing
         ensures { result ≡ record { character = character; keys = keys.items } }
     {
         Typing { character, keys }
     }
 
-    /// The character. O(1).
+    /// Returns the character. O(1).
     pub fn character(&self) -> char
         ensures { result ≡ self.now.character }
     {
         self.character
     }
 
-    /// The keys that type it. O(1).
+    /// Returns the keys that type the character. O(1).
     pub fn keys(&self) -> &[Keysym]
         ensures { result.now ≡ self.now.keys }
     {
@@ -50,7 +50,7 @@ impl Typing {
     }
 }
 
-/// What a checker looks at to see that a new table follows an old one.
+/// A certificate: what a checker reads to verify that a new table follows an old one.
 #[derive(Drop)]
 pub struct Certificate {
     bound: u32,
@@ -82,8 +82,8 @@ impl Model for Certificate {
 }
 
 impl Certificate {
-    /// The certificate without fresh keysyms; none where there are more than 1,048,576 pairs, typings or keys of one typing,
-    /// or a typing without keys. O(pairs + typings).
+    /// Makes a certificate without fresh keysyms. `None` if there are more than 1,048,576 pairs,
+    /// typings or keys of one typing, or if a typing has no keys. O(pairs + typings).
     pub fn new(bound: u32, pairs: Vec<(u32, u32)>, typings: Vec<Typing>) -> Option<Certificate>
         ensures { result
             ≡ (if are_counted pairs.items typings.items then Some
@@ -107,7 +107,9 @@ impl Certificate {
         })
     }
 
-    /// The certificate that the bytes spell, or the fault of the first faulty line. O(bytes).
+    /// Reads the certificate that the bytes spell. O(bytes).
+    ///
+    /// Errors: that of the first faulty line, `NotText` or `TooLarge`; or `NoMemory`.
     pub fn read(alloc: Global, bytes: &[u8]) -> Result<Certificate, CertFault>
         ensures exact { CertificateGives result (certificate_of bytes.now) }
         ensures found { IfOk result (λ c. Spells bytes.now c) }
@@ -117,7 +119,9 @@ impl Certificate {
         read_lines(alloc, bytes)
     }
 
-    /// The text that spells the certificate. O(its length).
+    /// Returns the text that spells the certificate. O(its length).
+    ///
+    /// Errors: `NoMemory` only.
     pub fn write_text(&self, alloc: Global) -> Result<String, CertFault>
         ensures ok { IfOk result (λ text. Spells (string_bytes text) self.now) }
         ensures err { IfErr result (λ e. e ≡ CertFault.NoMemory) }
@@ -130,28 +134,29 @@ impl Certificate {
         Ok(text)
     }
 
-    /// How many keysyms may be pending. O(1).
+    /// Returns the bound: the largest number of keysyms that may be pending. O(1).
     pub fn bound(&self) -> u32
         ensures { result ≡ self.now.bound }
     {
         self.bound
     }
 
-    /// The pairs: each an old node's and a new node's number. O(1).
+    /// Returns the pairs, each the number of an old node and the number of a new node. O(1).
     pub fn pairs(&self) -> &[(u32, u32)]
         ensures { result.now ≡ self.now.pairs }
     {
         self.pairs.as_slice()
     }
 
-    /// How many pairs there are. O(1).
+    /// Returns the number of pairs. O(1).
     pub fn pair_count(&self) -> usize
         ensures { result ≡ length self.now.pairs }
     {
         self.pairs().len()
     }
 
-    /// The old node's and the new node's number at this index. O(1).
+    /// Returns the pair at this index, counted from 0: the number of an old node and that of a new
+    /// node. O(1).
     pub fn pair(&self, index: usize) -> (u32, u32)
         requires { index < length self.now.pairs }
         ensures { slice_get self.now.pairs index ≡ Some result }
@@ -159,8 +164,8 @@ impl Certificate {
         self.pairs()[index]
     }
 
-    /// Whether these numbers are a pair, for pairs that strictly rise.
-    /// O(log pairs of the old node) if they are one, and else O(log pairs).
+    /// Returns whether these numbers are a pair. The pairs have to be strictly increasing. O(log
+    /// pairs of the old node) if they are one, and else O(log pairs).
     pub fn has_pair(&self, old: u32, new: u32) -> bool
         requires { IsTrue (model.pairs_rise self.now.pairs) }
         ensures { result ≡ model.has_pair self.now.pairs old new }
@@ -168,21 +173,21 @@ impl Certificate {
         self.pairs.contains(old, new)
     }
 
-    /// The typings. O(1).
+    /// Returns the typings. O(1).
     pub fn typings(&self) -> &[Typing]
         ensures { result.now ≡ self.now.typings }
     {
         self.typings.as_slice()
     }
 
-    /// How many typings there are. O(1).
+    /// Returns the number of typings. O(1).
     pub fn typing_count(&self) -> usize
         ensures { result ≡ length self.now.typings }
     {
         self.typings.len()
     }
 
-    /// The typing at this index. O(1).
+    /// Returns the typing at this index, counted from 0. O(1).
     pub fn typing(&self, index: usize) -> &Typing
         requires { index < length self.now.typings }
         ensures { slice_get self.now.typings index ≡ Some result.now }
@@ -190,14 +195,14 @@ impl Certificate {
         &self.typings[index]
     }
 
-    /// How many fresh keysyms there are. O(1).
+    /// Returns the number of fresh keysyms. O(1).
     pub fn fresh_count(&self) -> usize
         ensures { result ≡ length self.now.fresh }
     {
         self.fresh.len()
     }
 
-    /// The fresh keysym at this index. O(1).
+    /// Returns the fresh keysym at this index, counted from 0. O(1).
     pub fn fresh(&self, index: usize) -> Keysym
         requires { index < length self.now.fresh }
         ensures { slice_get self.now.fresh index ≡ Some result }
@@ -205,7 +210,8 @@ impl Certificate {
         self.fresh[index]
     }
 
-    /// The certificate with these fresh keysyms in place of its own; none where there are more than 1,048,576. O(1).
+    /// Replaces the fresh keysyms of the certificate by these; `None` if there are more than
+    /// 1,048,576. O(1).
     pub fn with_fresh(self, fresh: Vec<Keysym>) -> Option<Certificate>
         ensures { result
             ≡ (if nat_le (length fresh.items) max_count then Some
@@ -228,7 +234,7 @@ impl Certificate {
         })
     }
 
-    /// The fresh keysyms. O(1).
+    /// Returns the fresh keysyms. O(1).
     pub fn fresh_keys(&self) -> &[Keysym]
         ensures { result.now ≡ self.now.fresh }
     {
@@ -236,7 +242,7 @@ impl Certificate {
     }
 }
 
-/// The certificate that the lines say, or the fault of the first faulty one.
+/// Reads the certificate from its lines; the first faulty line is the error.
 fn read_lines(alloc: Global, bytes: &[u8]) -> Result<Certificate, CertFault>
     ensures { CertificateGives result (certificate_of bytes.now) }
 {
@@ -256,10 +262,10 @@ fn read_lines(alloc: Global, bytes: &[u8]) -> Result<Certificate, CertFault>
     })
 }
 
-/// The most pairs, typings, keys of a typing and fresh keysyms.
+/// The largest number of pairs, typings, keys of one typing and fresh keysyms.
 pub const MOST: usize = 1_048_576;
 
-/// Whether each typing has 1 to 1,048,576 keys.
+/// Returns whether each typing has 1 to 1,048,576 keys.
 fn are_typed(typings: &[Typing]) -> bool
     ensures { result ≡ list_all is_typed typings.now }
 {

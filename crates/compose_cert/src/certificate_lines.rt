@@ -11,7 +11,10 @@ use crate::certificate_words::{character_of, keysym_of, number_of, split_at_byte
 use keysym_core::Keysym;
 use std::alloc::Global;
 
-/// The line with this number, and what follows its newline. O(its bytes).
+/// Splits off the line with this number. Returns the line, and what follows its newline. O(its
+/// bytes).
+///
+/// Errors: `NotText` with this line number if the bytes have no newline.
 pub fn take_line(bytes: &[u8], line: usize) -> Result<(&[u8], &[u8]), CertFault>
     ensures ok { IfOk result (λ x. divide 10 bytes.now ≡ x.0.now ∷ divide 10 x.1.now) }
     ensures err { IfErr result
@@ -20,7 +23,7 @@ pub fn take_line(bytes: &[u8], line: usize) -> Result<(&[u8], &[u8]), CertFault>
     split_at_byte(bytes, b'\n').ok_or(CertFault::NotText { line })
 }
 
-/// The version that the first line says.
+/// Returns the version in the first line, 1 or 2.
 pub fn version_of(line: &[u8]) -> Option<u8>
     ensures { result ≡ reading.version_of line.now }
 {
@@ -33,7 +36,7 @@ pub fn version_of(line: &[u8]) -> Option<u8>
     None
 }
 
-/// The number behind a word. The blank between them ends the word that is handed over.
+/// Returns the number after a word. The word is given with the blank that ends it.
 pub fn number_behind(line: &[u8], word: &[u8]) -> Option<u32>
     ensures { (name : List ℕ) → word.now ≡ name ++ 32 ∷ []
         → result ≡ reading.number_behind name line.now }
@@ -44,7 +47,7 @@ pub fn number_behind(line: &[u8], word: &[u8]) -> Option<u32>
     number_of(&line[word.len()..])
 }
 
-/// A pair: two numbers with a blank between them.
+/// Returns a pair: two numbers with a blank between them.
 pub fn pair_of(line: &[u8]) -> Option<(u32, u32)>
     ensures { result ≡ reading.pair_of line.now }
 {
@@ -54,7 +57,9 @@ pub fn pair_of(line: &[u8]) -> Option<(u32, u32)>
     Some((old, new))
 }
 
-/// A typing: a character and its keys, with a blank before each.
+/// Returns a typing: a character and its keys, with a blank before each key.
+///
+/// Errors: `NotText` with this line number if the text is no typing, or `NoMemory`.
 pub fn typing_of(alloc: Global, text: &[u8], line: usize) -> Result<Typing, CertFault>
     ensures { Says (λ t. t) result
         (option_map_or Ok (reading.typing_of text.now) (Err (CertFault.NotText line))) }
@@ -65,7 +70,7 @@ pub fn typing_of(alloc: Global, text: &[u8], line: usize) -> Result<Typing, Cert
     Ok(Typing::new(character, keys))
 }
 
-/// Keysyms with a blank between them.
+/// Returns keysyms with a blank between them.
 fn keysyms_of(alloc: Global, words: &[u8], line: usize) -> Result<Vec<Keysym>, CertFault>
     ensures { Says (λ keys. keys.items) result
         (option_map_or Ok (reading.keysyms_of (divide 32 words.now))

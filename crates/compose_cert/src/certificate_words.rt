@@ -7,14 +7,14 @@ ghost use Rattle.compose_cert.specs.Reading as reading;
 use crate::numeral::{Notation, number_in, value_of};
 use keysym_core::Keysym;
 
-/// A number of 32 bits: decimal digits.
+/// Returns a 32-bit number in decimal digits.
 pub fn number_of(word: &[u8]) -> Option<u32>
     ensures { result ≡ reading.number_of word.now }
 {
     number_in(word, Notation::Decimal, u32::MAX)
 }
 
-/// A keysym: lower case hexadecimal digits.
+/// Returns a keysym in lower-case hexadecimal digits.
 pub fn keysym_of(word: &[u8]) -> Option<Keysym>
     ensures { result ≡ reading.keysym_of word.now }
 {
@@ -22,7 +22,7 @@ pub fn keysym_of(word: &[u8]) -> Option<Keysym>
     Keysym::new(number)
 }
 
-/// A character: `U+` and upper case hexadecimal digits, zeros before them up to four digits.
+/// Returns a character: `U+` and upper-case hexadecimal digits, padded with zeros to four digits.
 pub fn character_of(word: &[u8]) -> Option<char>
     ensures { result ≡ reading.character_of word.now }
 {
@@ -33,7 +33,7 @@ pub fn character_of(word: &[u8]) -> Option<char>
     char::from_u32(number)
 }
 
-/// The number up to `10FFFF` that is written by at least four digits, and by more only without a zero before them.
+/// Returns a number up to `10FFFF` in at least four digits; more than four don't begin with a zero.
 fn code_point(digits: &[u8]) -> Option<u32>
     ensures { IsSpelled padded 0x10ffff digits.now result }
 {
@@ -46,7 +46,8 @@ fn code_point(digits: &[u8]) -> Option<u32>
     value_of(digits, Notation::UpperHexadecimal, 0x10ffff)
 }
 
-/// What stands before the first such byte, and what follows it. O(bytes before).
+/// Splits the bytes at the first such byte. Returns what comes before and after it. O(bytes
+/// before).
 pub fn split_at_byte(bytes: &[u8], at: u8) -> Option<(&[u8], &[u8])>
     ensures cases { MatchOption result (divide at bytes.now ≡ bytes.now ∷ [])
         (λ x. divide at bytes.now ≡ x.0.now ∷ divide at x.1.now) }

@@ -1,4 +1,4 @@
-//! What a line of a repertoire says.
+//! The content of a line of a repertoire.
 ghost use Rattle.std.specs.Prelude.{◌≡◌, IfSome};
 ghost use Rattle.std.specs.Str.{is_utf8};
 ghost use Rattle.keysym_core.specs.Names.{number_form};
@@ -8,15 +8,18 @@ use crate::repertoire_words::{before_comment, character_form, first_word, number
 use keysym_core::Keysym;
 use std::str;
 
-/// What a line says: nothing, a range of keys, or a character.
+/// The content of a line.
 #[derive(Clone, Copy)]
 pub enum Entry {
+    /// An empty line or a comment.
     Nothing,
+    /// A range of keys: its first and its last keysym.
     Keys(Keysym, Keysym),
+    /// A character that people need.
     Character(char),
 }
 
-/// What the line says; none where it is of no form. O(bytes).
+/// Returns the content of the line, or `None` if it has none of the forms. O(bytes).
 pub fn line_entry(line: &[u8]) -> Option<Entry>
     ensures same { result ≡ repertoire.line_entry line.now }
     ensures ordered { IfSome result repertoire.IsOrdered }
@@ -27,7 +30,7 @@ pub fn line_entry(line: &[u8]) -> Option<Entry>
     entry_of(before_comment(line))
 }
 
-/// Whether the bytes are UTF-8. O(bytes).
+/// Returns whether the bytes are UTF-8. O(bytes).
 fn is_text(bytes: &[u8]) -> bool
     ensures { result ≡ is_utf8 bytes.now }
 {
@@ -37,7 +40,7 @@ fn is_text(bytes: &[u8]) -> bool
     }
 }
 
-/// No word; `keys` and two numbers; or a character.
+/// Returns the entry of a line with no word; with `keys` and two numbers; or with a character.
 fn entry_of(content: &[u8]) -> Option<Entry>
     ensures same { result ≡ repertoire.entry_of (repertoire.words_in content.now) }
     ensures ordered { IfSome result repertoire.IsOrdered }
@@ -56,7 +59,7 @@ fn entry_of(content: &[u8]) -> Option<Entry>
     range_entry(first, last)
 }
 
-/// A range whose last key isn't below its first.
+/// Returns a range whose last key isn't below its first.
 fn range_entry(first: &[u8], last: &[u8]) -> Option<Entry>
     ensures same { result ≡ repertoire.range_entry (number_form first.now) (number_form last.now) }
     ensures ordered { IfSome result repertoire.IsOrdered }

@@ -1,15 +1,18 @@
 //! The texts of certificates and repertoires.
 //!
-//! A certificate says in lines of ASCII that a new table follows an old one: a bound on the keys, pairs of nodes, a key sequence for each
-//! character that people need, and the fresh keysyms. [`Certificate::read`] takes exactly one text for each certificate, the one that
-//! [`Certificate::write_text`] gives. A repertoire lists characters and the keys that people have; its text may have comments.
+//! A certificate is evidence that a new table follows an old one, in lines of ASCII: a bound on the
+//! number of pending keysyms, pairs of nodes, a key sequence for each character that people need,
+//! and the fresh keysyms. [`Certificate::read`] accepts exactly one text for each certificate, the
+//! one that [`Certificate::write_text`] returns. A repertoire lists the characters that people need
+//! and the keys that they have; its text may have comments.
 //!
 //! ```text
 //! let repertoire = Repertoire::read(alloc, b"keys 0x20 0x7e\nkeys 0xff20 0xff20\nU+00E9\n")?;
 //! repertoire.characters()    // ['é']
 //! ```
 //!
-//! What a text spells is a relation (`specs/`), apart from the readers; `law_one_certificate` says that they agree.
+//! A relation in `specs/`, separate from the readers, defines what a text spells;
+//! `law_one_certificate` is the law that the two agree.
 #![tactic(auto)]
 
 ghost use Rattle.std.specs.Prelude.{◌≡◌, ℕ, List, Ok};
@@ -33,16 +36,16 @@ pub use repertoire::Repertoire;
 use std::alloc::{AllocError, AllocFailed};
 use thiserror::Error;
 
-/// The first fault of a certificate's text. `line` counts from 1.
+/// The first fault of a certificate's text. `line` is counted from 1.
 #[derive(Debug, PartialEq, Eq, Drop, Error)]
 pub enum CertFault {
-    /// This line departs from the form, or is missing.
+    /// This line doesn't have its form, or is missing.
     #[error("1 NotText line={line}")]
     NotText { line: usize },
     /// A count is above 1,048,576.
     #[error("2 TooLarge")]
     TooLarge,
-    /// Memory was refused.
+    /// A memory allocation failed.
     #[error("3 NoMemory")]
     NoMemory,
 }
@@ -67,19 +70,19 @@ impl<T: Drop> From<AllocFailed<T>> for CertFault {
     }
 }
 
-/// The first fault of a repertoire. `line` counts from 1.
+/// The first fault of a repertoire. `line` is counted from 1.
 #[derive(Debug, PartialEq, Eq, Drop, Error)]
 pub enum RepertoireFault {
-    /// This line is of no form, or stands where it can't.
+    /// This line has none of the forms, or is a range of keys after a character.
     #[error("1 BadLine line={line}")]
     BadLine { line: usize },
-    /// This line isn't above the one before it.
+    /// The range or the character on this line isn't above those before it.
     #[error("2 NotRising line={line}")]
     NotRising { line: usize },
     /// There are more than 65,536 ranges or characters.
     #[error("3 TooMany")]
     TooMany,
-    /// Memory was refused.
+    /// A memory allocation failed.
     #[error("4 NoMemory")]
     NoMemory,
 }
@@ -94,7 +97,8 @@ impl<T: Drop> From<AllocFailed<T>> for RepertoireFault {
     }
 }
 
-/// A text spells one certificate at most, this is read, and what is read is spelled so.
+/// A text spells at most one certificate; reading the text returns that certificate; and a text
+/// that is read as a certificate spells it.
 pub fn law_one_certificate()
     ensures one { (bytes : List ℕ) (c d : model.Certificate) → Spells bytes c → Spells bytes d
         → c ≡ d }

@@ -1,4 +1,5 @@
-//! Numbers, read as they are written: without a zero before the digits, and in one case of letters.
+//! Numbers in the only way that a certificate writes them: without leading zeros, and with letters
+//! in one case.
 ghost use Rattle.std.specs.Prelude.{◌≡◌, ◌<◌, ◌≤◌, Some, None, if◌then◌else◌, ◌&&◌, nat_le, IsTrue};
 ghost use Rattle.std.specs.List.{list_all};
 ghost use Rattle.std.specs.Str.Parse.{digits_value};
@@ -8,14 +9,18 @@ ghost use Rattle.compose_cert.specs.Numerals.{radix, numeral, is_digit, is_one_c
 /// The digits in which a number is written.
 #[derive(Clone, Copy)]
 pub enum Notation {
+    /// Decimal digits.
     Decimal,
+    /// Hexadecimal digits, with `a` to `f`.
     LowerHexadecimal,
+    /// Hexadecimal digits, with `A` to `F`.
     UpperHexadecimal,
+    /// Hexadecimal digits, with letters of either case.
     EitherHexadecimal,
 }
 
 impl Notation {
-    /// How many digits there are.
+    /// Returns the number of different digits.
     fn radix(self) -> u64
         ensures { result ≡ radix self }
     {
@@ -27,7 +32,7 @@ impl Notation {
         }
     }
 
-    /// The value of a digit; none if the byte is no digit.
+    /// Returns the value of a digit, or `None` if the byte is no digit.
     fn digit(self, byte: u8) -> Option<u8>
         ensures { result ≡ (if is_digit self byte then Some (digit_value byte) else None) }
     {
@@ -42,7 +47,7 @@ impl Notation {
     }
 }
 
-/// The number up to `most` whose digits these are. O(digits).
+/// Returns the number up to `most` that has these digits. O(digits).
 pub fn number_in(word: &[u8], notation: Notation, most: u32) -> Option<u32>
     requires { IsTrue (is_one_case notation) }
     ensures { IsSpelled (numeral notation) most word.now result }
@@ -56,7 +61,8 @@ pub fn number_in(word: &[u8], notation: Notation, most: u32) -> Option<u32>
     value_of(word, notation, most)
 }
 
-/// The value of the digits, zeros before them too, if it is at most `most`. O(digits).
+/// Returns the value of the digits, with leading zeros or without, if it is at most `most`.
+/// O(digits).
 pub fn value_of(word: &[u8], notation: Notation, most: u32) -> Option<u32>
     ensures { result
         ≡ (if list_all (is_digit notation) word.now

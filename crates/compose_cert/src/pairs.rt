@@ -1,4 +1,4 @@
-//! Pairs of nodes, and an index in which one is looked up.
+//! Pairs of nodes, with an index.
 ghost use Rattle.std.specs.Prelude.{◌≡◌, ℕ, slice_range, IfOk, IfErr, IsTrue, true};
 ghost use Rattle.compose_model.specs.Certificate as words;
 
@@ -6,7 +6,8 @@ use crate::CertFault;
 use std::alloc::Global;
 use std::marker::Model;
 
-/// Pairs of an old node's and a new node's number, and where those of each old node begin.
+/// Pairs of the numbers of an old and a new node, and the index at which the pairs of each old node
+/// begin.
 #[derive(Drop)]
 pub struct IndexedPairs {
     pairs: Vec<(u32, u32)>,
@@ -22,7 +23,9 @@ impl Model for IndexedPairs {
 }
 
 impl IndexedPairs {
-    /// These pairs with their index, or `NoMemory`. O(pairs).
+    /// Makes the pairs with their index. O(pairs).
+    ///
+    /// Errors: `NoMemory` only.
     pub fn read(alloc: Global, pairs: Vec<(u32, u32)>) -> Result<IndexedPairs, CertFault>
         ensures ok { IfOk result (λ indexed. indexed ≡ pairs.items) }
         ensures err { IfErr result (λ fault. fault ≡ CertFault.NoMemory) }
@@ -31,7 +34,7 @@ impl IndexedPairs {
         Ok(IndexedPairs { pairs, begins })
     }
 
-    /// These pairs with their index; without it where memory is refused. O(pairs).
+    /// Makes the pairs with their index, or without it if memory runs out. O(pairs).
     pub fn new(pairs: Vec<(u32, u32)>) -> IndexedPairs
         ensures { result ≡ pairs.items }
     {
@@ -43,15 +46,15 @@ impl IndexedPairs {
         IndexedPairs { pairs, begins }
     }
 
-    /// The pairs. O(1).
+    /// Returns the pairs. O(1).
     pub fn as_slice(&self) -> &[(u32, u32)]
         ensures { result.now ≡ self.now }
     {
         self.pairs.as_slice()
     }
 
-    /// Whether these numbers are a pair, where the pairs strictly rise.
-    /// O(log pairs of the old node) if they are one, and else O(log pairs).
+    /// Returns whether these numbers are a pair. The pairs have to be strictly increasing. O(log
+    /// pairs of the old node) if they are one, and else O(log pairs).
     pub fn contains(&self, old: u32, new: u32) -> bool
         requires { IsTrue (words.pairs_rise self.now) }
         ensures { result ≡ words.has_pair self.now old new }
@@ -59,7 +62,7 @@ impl IndexedPairs {
         is_found(self.pairs_of(old), old, new) || is_found(&self.pairs, old, new)
     }
 
-    /// The pairs of the old node, as far as the index has them. O(1).
+    /// Returns the pairs of the old node, as far as they are in the index. O(1).
     fn pairs_of(&self, old: u32) -> &[(u32, u32)]
         ensures { (begin : ℕ) × ((end : ℕ) × (result.now ≡ slice_range self.now begin end)) }
     {
@@ -72,7 +75,8 @@ impl IndexedPairs {
         &self.pairs[..0]
     }
 
-    /// Where the pairs of the old node with this number begin; the end where the index doesn't have it. O(1).
+    /// Returns the index at which the pairs of the old node with this number begin, or `end` if the
+    /// node is not in the index. O(1).
     fn begin_of(&self, old: usize, end: usize) -> usize {
         match self.begins.get(old) {
             Some(begin) => *begin,
@@ -81,7 +85,7 @@ impl IndexedPairs {
     }
 }
 
-/// Whether these numbers are found among the pairs by binary search. O(log pairs).
+/// Returns whether these numbers are found among the pairs by binary search. O(log pairs).
 fn is_found(pairs: &[(u32, u32)], old: u32, new: u32) -> bool
     ensures is_there { result ≡ true → words.has_pair pairs.now old new ≡ true }
     ensures exact { IsTrue (words.pairs_rise pairs.now)
@@ -90,7 +94,8 @@ fn is_found(pairs: &[(u32, u32)], old: u32, new: u32) -> bool
     pairs.binary_search(&(old, new)).is_ok()
 }
 
-/// Where the pairs of each old node begin, up to the first number that has none. O(pairs).
+/// Returns the indexes at which the pairs of each old node begin, up to the first number that has
+/// none. O(pairs).
 fn begins_of(alloc: Global, pairs: &[(u32, u32)]) -> Result<Vec<usize>, CertFault>
     ensures { IfErr result (λ fault. fault ≡ CertFault.NoMemory) }
 {

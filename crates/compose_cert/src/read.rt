@@ -1,4 +1,4 @@
-//! A certificate read line by line, where the first faulty line decides.
+//! Reads a certificate line by line; the first faulty line is the error.
 ghost use Rattle.std.specs.Prelude.{◌≡◌, ◌≢◌, ◌+◌, ◌<◌, ◌≤◌, ◌++◌, ◌∷◌, [], ℕ, List, Ok, Err, length, IfOk, IfErr, ◌^◌};
 ghost use Rattle.compose_text.specs.Lines.{divide};
 ghost use Rattle.compose_cert.specs.Says.{Says};
@@ -12,7 +12,9 @@ use crate::certificate_words::keysym_of;
 use keysym_core::Keysym;
 use std::alloc::Global;
 
-/// The version, and what follows the first line.
+/// Reads the version, and returns it with what follows the first line.
+///
+/// Errors: `NotText` for line 1.
 pub fn version_at(bytes: &[u8]) -> Result<(u8, &[u8]), CertFault>
     ensures { Says (λ x. (x.0, divide 10 x.1.now)) result
         (reading.line_at reading.version_of 1 (divide 10 bytes.now)) }
@@ -22,7 +24,9 @@ pub fn version_at(bytes: &[u8]) -> Result<(u8, &[u8]), CertFault>
     Ok((version, rest))
 }
 
-/// The number behind this word and a blank, and what follows its line.
+/// Reads the number after this word and a blank, and returns it with what follows its line.
+///
+/// Errors: `NotText` with this line number if the line has another form or is missing.
 pub fn number_at<'a>(
     bytes: &'a [u8],
     word: &[u8],
@@ -38,7 +42,10 @@ pub fn number_at<'a>(
     Ok((number, rest))
 }
 
-/// The count behind this word and a blank, at most 1,048,576, and what follows its line.
+/// Reads the count after this word and a blank, and returns it with what follows its line.
+///
+/// Errors: `NotText` with this line number if the line has another form or is missing; `TooLarge`
+/// if the count is above 1,048,576.
 pub fn count_at<'a>(
     bytes: &'a [u8],
     word: &[u8],
@@ -58,7 +65,7 @@ pub fn count_at<'a>(
     Ok((count, rest))
 }
 
-/// A pair, and what follows its line.
+/// Reads a pair, and returns it with what follows its line.
 fn pair_at(bytes: &[u8], line: usize) -> Result<((u32, u32), &[u8]), CertFault>
     ensures { Says (λ x. (x.0, divide 10 x.1.now)) result
         (reading.line_at reading.pair_of line (divide 10 bytes.now)) }
@@ -68,7 +75,7 @@ fn pair_at(bytes: &[u8], line: usize) -> Result<((u32, u32), &[u8]), CertFault>
     Ok((pair, rest))
 }
 
-/// A typing with at most 1,048,576 keys, and what follows its line.
+/// Reads a typing with at most 1,048,576 keys, and returns it with what follows its line.
 fn typing_at(alloc: Global, bytes: &[u8], line: usize) -> Result<(Typing, &[u8]), CertFault>
     ensures { Says (λ x. (x.0, divide 10 x.1.now)) result
         (reading.typing_at line (divide 10 bytes.now)) }
@@ -81,7 +88,10 @@ fn typing_at(alloc: Global, bytes: &[u8], line: usize) -> Result<(Typing, &[u8])
     Ok((typing, rest))
 }
 
-/// So many pairs, and what follows their lines.
+/// Reads `count` pairs, the first of them on line `line`, and returns them with what follows their
+/// lines.
+///
+/// Errors: `NotText` for the first line that is no pair or is missing, or `NoMemory`.
 pub fn pairs_at(
     alloc: Global,
     bytes: &[u8],
@@ -102,7 +112,11 @@ pub fn pairs_at(
     Ok((pairs, rest))
 }
 
-/// So many typings, and what follows their lines.
+/// Reads `count` typings, the first of them on line `line`, and returns them with what follows
+/// their lines.
+///
+/// Errors: that of the first faulty line, `NotText` or, for more than 1,048,576 keys, `TooLarge`;
+/// or `NoMemory`.
 pub fn typings_at(
     alloc: Global,
     bytes: &[u8],
@@ -123,7 +137,7 @@ pub fn typings_at(
     Ok((typings, rest))
 }
 
-/// So many keysyms, and what follows their lines.
+/// Reads `count` keysyms, and returns them with what follows their lines.
 fn keys_at(
     alloc: Global,
     bytes: &[u8],
@@ -145,7 +159,11 @@ fn keys_at(
     Ok((keys, rest))
 }
 
-/// The fresh keysyms of a text of this version: none in version 1, and one or more in version 2.
+/// Reads the fresh keysyms of a text of this version: none in version 1, and at least one in
+/// version 2.
+///
+/// Errors: `NotText` for the first line that is faulty, missing or after the end; `TooLarge` if
+/// there are more than 1,048,576; or `NoMemory`.
 pub fn fresh_at(
     alloc: Global,
     version: u8,
@@ -163,7 +181,7 @@ pub fn fresh_at(
     some_fresh_at(alloc, bytes, line)
 }
 
-/// One fresh keysym or more.
+/// Reads one or more fresh keysyms.
 fn some_fresh_at(alloc: Global, bytes: &[u8], line: usize) -> Result<Vec<Keysym>, CertFault>
     requires { line < 2 ^ 32 }
     ensures { Says (λ keys. keys.items) result (reading.some_fresh_at line (divide 10 bytes.now)) }
@@ -177,7 +195,7 @@ fn some_fresh_at(alloc: Global, bytes: &[u8], line: usize) -> Result<Vec<Keysym>
     Ok(keys)
 }
 
-/// Nothing follows the last newline.
+/// Checks that nothing follows the last newline.
 fn end_at(bytes: &[u8], line: usize) -> Result<(), CertFault>
     ensures { Says (λ _. tt) result (reading.end_at line (divide 10 bytes.now)) }
 {
@@ -187,7 +205,7 @@ fn end_at(bytes: &[u8], line: usize) -> Result<(), CertFault>
     Err(CertFault::NotText { line })
 }
 
-/// The bytes of the shortest lines: `0 0`, `U+0000 0` and `0` with their newlines.
+/// The lengths of the shortest lines in bytes: `0 0`, `U+0000 0` and `0` with their newlines.
 const SHORTEST_PAIR: usize = 4;
 
 const SHORTEST_TYPING: usize = 9;

@@ -14,7 +14,7 @@ use keysym_core::Keysym;
 use std::alloc::Global;
 use std::marker::Model;
 
-/// Characters in strictly rising order, and keys in ranges.
+/// Characters in strictly increasing order, and keys in ranges.
 #[derive(Drop)]
 pub struct Repertoire {
     characters: Vec<char>,
@@ -31,7 +31,9 @@ impl Model for Repertoire {
 }
 
 impl Repertoire {
-    /// The repertoire that the bytes say, or the fault of the first faulty line. O(bytes).
+    /// Reads a repertoire. O(bytes).
+    ///
+    /// Errors: that of the first faulty line, `BadLine`, `NotRising` or `TooMany`; or `NoMemory`.
     pub fn read(alloc: Global, bytes: &[u8]) -> Result<Repertoire, RepertoireFault>
         ensures { RepertoireGives result (repertoire_of bytes.now) }
     {
@@ -48,21 +50,21 @@ impl Repertoire {
         Ok(Repertoire { characters, keys })
     }
 
-    /// The characters, which strictly rise. O(1).
+    /// Returns the characters, which are strictly increasing. O(1).
     pub fn characters(&self) -> &[char]
         ensures { result.now ≡ self.now.characters }
     {
         self.characters.as_slice()
     }
 
-    /// The first and the last keysym of each range of keys, which rise. O(1).
+    /// Returns the first and the last keysym of each range of keys, in increasing order. O(1).
     pub fn ranges(&self) -> &[(Keysym, Keysym)]
         ensures { result.now ≡ self.now.keys }
     {
         self.keys.as_slice()
     }
 
-    /// How many characters there are, at most 65,536; they strictly rise. O(1).
+    /// Returns the number of characters, at most 65,536; they are strictly increasing. O(1).
     pub fn count(&self) -> usize
         ensures count { result ≡ length self.now.characters }
         ensures sound { IsRepertoire self.now }
@@ -70,7 +72,7 @@ impl Repertoire {
         self.characters.len()
     }
 
-    /// The character at this index. O(1).
+    /// Returns the character at this index, counted from 0. O(1).
     pub fn char_at(&self, index: usize) -> char
         requires { index < length self.now.characters }
         ensures { slice_get self.now.characters index ≡ Some result }
@@ -78,7 +80,7 @@ impl Repertoire {
         self.characters[index]
     }
 
-    /// Whether the keysym is one of the keys. O(log ranges).
+    /// Returns whether the keysym is one of the keys. O(log ranges).
     pub fn is_key(&self, keysym: Keysym) -> bool
         ensures { result ≡ model.is_key self.now keysym }
     {
@@ -86,7 +88,8 @@ impl Repertoire {
     }
 }
 
-/// Adds what line `line` says: ranges rise and stand before the characters, and these rise.
+/// Adds the content of line `line`. Ranges increase and come before the characters, which increase
+/// as well.
 fn add_entry(
     characters: &mut Vec<char>,
     keys: &mut Vec<(Keysym, Keysym)>,
@@ -140,7 +143,7 @@ fn add_entry(
     }
 }
 
-/// Whether the keysym is above all ranges, so above the last one. O(1).
+/// Returns whether the keysym is above all ranges, that is, above the last one. O(1).
 fn is_above_ranges(ranges: &[(Keysym, Keysym)], keysym: Keysym) -> bool
     requires { IsTrue (ranges_rise ranges.now) }
     ensures { result ≡ list_all (λ r. nat_lt r.1 keysym) ranges.now }
@@ -152,7 +155,7 @@ fn is_above_ranges(ranges: &[(Keysym, Keysym)], keysym: Keysym) -> bool
     last.value() < keysym.value()
 }
 
-/// Whether the character is above all characters, so above the last one. O(1).
+/// Returns whether the character is above all characters, that is, above the last one. O(1).
 fn is_above_characters(characters: &[char], character: char) -> bool
     requires { IsTrue (keys_rise characters.now) }
     ensures { result ≡ list_all (λ d. nat_lt d character) characters.now }
@@ -163,10 +166,10 @@ fn is_above_characters(characters: &[char], character: char) -> bool
     characters[characters.len() - 1] < character
 }
 
-/// The most ranges, and the most characters.
+/// The largest number of ranges, and of characters.
 const MOST: usize = 65_536;
 
-/// Whether one of the ranges has the keysym, by binary search. O(log ranges).
+/// Returns whether one of the ranges has the keysym, by binary search. O(log ranges).
 fn is_in_ranges(ranges: &[(Keysym, Keysym)], keysym: Keysym) -> bool
     requires { IsTrue (ranges_rise ranges.now) }
     ensures { result ≡ list_any (λ r. is_between r.0 r.1 keysym) ranges.now }

@@ -7,7 +7,7 @@ ghost use Rattle.compose_cert.specs.Repertoire as repertoire;
 use crate::numeral::{Notation, value_of};
 use keysym_core::Keysym;
 
-/// `0x` and one to eight digits of either case, up to the greatest keysym.
+/// Returns a keysym: `0x` and one to eight digits of either case, up to the largest keysym.
 pub fn number_form(word: &[u8]) -> Option<Keysym>
     ensures { result ≡ names.number_form word.now }
 {
@@ -23,7 +23,7 @@ pub fn number_form(word: &[u8]) -> Option<Keysym>
     Keysym::new(number)
 }
 
-/// `U+` and four to six digits of either case, a character.
+/// Returns a character: `U+` and four to six digits of either case.
 pub fn character_form(word: &[u8]) -> Option<char>
     ensures { result ≡ repertoire.character_form word.now }
 {
@@ -38,7 +38,8 @@ pub fn character_form(word: &[u8]) -> Option<char>
     char::from_u32(number)
 }
 
-/// The first word of the bytes, and what follows it; none where there are blanks alone. O(bytes up to its end).
+/// Returns the first word of the bytes and what follows it, or `None` if there are only blanks.
+/// O(bytes up to its end).
 pub fn first_word(bytes: &[u8]) -> Option<(&[u8], &[u8])>
     ensures { MatchOption result (repertoire.words_in bytes.now ≡ [])
         (λ x. repertoire.words_in bytes.now ≡ x.0.now ∷ repertoire.words_in x.1.now) }
@@ -50,7 +51,7 @@ pub fn first_word(bytes: &[u8]) -> Option<(&[u8], &[u8])>
     Some(split_at_blank(start))
 }
 
-/// The bytes from the first one that is no blank.
+/// Returns the bytes from the first one that is no blank.
 fn without_blanks(bytes: &[u8]) -> &[u8]
     ensures same { repertoire.words_in result.now ≡ repertoire.words_in bytes.now }
     ensures first { 0 < length result.now → is_blank (slice_index result.now 0) ≡ false }
@@ -63,7 +64,7 @@ fn without_blanks(bytes: &[u8]) -> &[u8]
     &[]
 }
 
-/// The word that the bytes begin with, and what follows the blank that ends it.
+/// Returns the word at the beginning of the bytes, and what follows the blank that ends it.
 fn split_at_blank(bytes: &[u8]) -> (&[u8], &[u8])
     requires some { 0 < length bytes.now }
     requires first { is_blank (slice_index bytes.now 0) ≡ false }
@@ -77,14 +78,14 @@ fn split_at_blank(bytes: &[u8]) -> (&[u8], &[u8])
     (bytes, &[])
 }
 
-/// Whether the byte is a space, a tab or a carriage return.
+/// Returns whether the byte is a space, a tab or a carriage return.
 fn is_blank(byte: u8) -> bool
     ensures { result ≡ is_blank byte }
 {
     matches!(byte, b' ' | b'\t' | b'\r')
 }
 
-/// What stands before a comment.
+/// Returns what comes before a comment.
 pub fn before_comment(line: &[u8]) -> &[u8]
     ensures { result.now ≡ repertoire.before_comment line.now }
 {

@@ -1,4 +1,4 @@
-//! A certificate's text, line by line.
+//! Writes a certificate's text line by line.
 ghost use Rattle.std.specs.Prelude.{◌≡◌, [], ◌∷◌, ◌++◌, length, map, OnOk, string_bytes, IsTrue, codes, ◌&&◌, flat_map, if◌then◌else◌};
 ghost use Rattle.std.specs.List.{list_all};
 ghost use Rattle.keysym_core.specs.Keysym.{is_keysym};
@@ -9,7 +9,7 @@ use keysym_core::Keysym;
 use std::alloc::AllocError;
 use std::fmt::Write;
 
-/// The three lines before the pairs.
+/// Adds the three lines before the pairs. Errors: `AllocError` if memory runs out.
 pub fn add_head(
     text: &mut String,
     bound: u32,
@@ -22,7 +22,7 @@ pub fn add_head(
     write!(text, "bound {bound}\npairs {pair_count}\n")
 }
 
-/// The pairs' lines.
+/// Adds the lines of the pairs. Errors: `AllocError` if memory runs out.
 pub fn add_pairs(text: &mut String, pairs: &[(u32, u32)]) -> Result<(), AllocError>
     ensures text { OnOk result
         (string_bytes text.new ≡ string_bytes text.old ++ ended (map pair_text pairs.now)) }
@@ -35,7 +35,8 @@ pub fn add_pairs(text: &mut String, pairs: &[(u32, u32)]) -> Result<(), AllocErr
     Ok(())
 }
 
-/// The line with the number of typings, and the typings' lines.
+/// Adds the line with the number of typings, and the lines of the typings. Errors: `AllocError` if
+/// memory runs out.
 pub fn add_typings(text: &mut String, typings: &[Typing]) -> Result<(), AllocError>
     ensures text { OnOk result (string_bytes text.new ≡ string_bytes text.old ++ ended (counted (codes "typings") (length typings.now) ∷ map typing_text typings.now)) }
     ensures spelled { OnOk result (IsTrue (list_all is_spelled typings.now)) }
@@ -50,7 +51,7 @@ pub fn add_typings(text: &mut String, typings: &[Typing]) -> Result<(), AllocErr
     Ok(())
 }
 
-/// The lines of the fresh keysyms, if there are any.
+/// Adds the lines of the fresh keysyms, if there are any. Errors: `AllocError` if memory runs out.
 pub fn add_fresh(text: &mut String, fresh: &[Keysym]) -> Result<(), AllocError>
     ensures text { OnOk result
         (string_bytes text.new ≡ string_bytes text.old ++ ended (fresh_lines fresh.now)) }
@@ -68,7 +69,7 @@ pub fn add_fresh(text: &mut String, fresh: &[Keysym]) -> Result<(), AllocError>
     Ok(())
 }
 
-/// The first line.
+/// Returns the first line.
 fn version_of(fresh: &[Keysym]) -> &'static str
     ensures { result.now ≡ version_line fresh.now ++ 10 ∷ [] }
 {
@@ -78,7 +79,7 @@ fn version_of(fresh: &[Keysym]) -> &'static str
     }
 }
 
-/// A blank and the keysym, for each of the keys.
+/// Adds a blank and the keysym, for each of the keys.
 fn add_keys(text: &mut String, keys: &[Keysym]) -> Result<(), AllocError>
     ensures text { OnOk result
         (string_bytes text.new
@@ -92,7 +93,7 @@ fn add_keys(text: &mut String, keys: &[Keysym]) -> Result<(), AllocError>
     Ok(())
 }
 
-/// `U+` and at least four digits.
+/// Adds `U+` and at least four digits.
 fn add_character(text: &mut String, character: char) -> Result<(), AllocError>
     ensures text { OnOk result
         (string_bytes text.new ≡ string_bytes text.old ++ character_text character) }

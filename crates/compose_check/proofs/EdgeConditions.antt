@@ -1,4 +1,4 @@
--- The conditions at an edge, by where its key leads in both tables.
+-- The conditions at an edge, by the targets of its key in both tables.
 use Rattle.std.proofs.Common.{◌≡◌, ℕ, ◌+◌, ◌<◌, add_comm, length, drop, List, [], ◌∷◌, ◌++◌, Bool, true, false, not, refl, sym, ◌∙◌, ap, ap₂}
 use Rattle.std.specs.Prelude.{◌==◌, flat_map, slice_get, Option, Some, None}
 use Rattle.std.proofs.lemmas.Bool.{not_from_false, not_from_true}
@@ -20,14 +20,15 @@ use Rattle.compose_check.specs.Landing.{target_text, landing_text, landing_cance
 use Rattle.compose_fresh.proofs.Unmet.{drop_at, first_unmet-met, first_unmet-fault, unmet_before, met_before}
 use Rattle.compose_check.proofs.Landed.{root_alone, lands_cancelled, lands_text, lands_number}
 
--- the key leads from the old node u to the target, and from the new node with the number n it lands there
+-- the key leads from the old node u to the target, and from the new node with the number n to the landing
 pub record AtEdge (old new : List Definition) (u : List ℕ) (n k : ℕ) (target : Target) (landing : Option Target) : Type 0 where
   pub from : target_of old u k ≡ Some target
   pub to : target_of new (node new n) k ≡ landing
   pub fed : is_ignored k ≡ false
   pub root : is_empty (node new n) ≡ (n == 0)
 
--- where a key leads on from an old node and lands from a new one, it is not ignored, and the new node is the root exactly where its number is 0
+-- a key that leads on from an old node and lands from a new one is not ignored, and the new node is the root exactly if
+-- its number is 0
 pub at_edge : (old new : List Definition) (u : List ℕ) (n k : ℕ) (target : Target) (landing : Option Target) → target_of old u k ≡ Some target → target_of new (node new n) k ≡ landing
     → is_table old ≡ true → n < length (nodes new) → AtEdge old new u n k target landing
 at_edge old new u n k target landing from to sound in_range = record { from = from; to = to; fed = target_fed old u k target sound from; root = root_alone new n in_range }
@@ -68,7 +69,7 @@ module _ (names : KeysymNames) (pairs : List (ℕ × ℕ)) (index : ℕ) (old ne
     first : first_unmet (one_edge_conditions names old new pairs index u v k) ≡ first_unmet (texts ∷ lands ∷ [])
     first = first_unmet-met (not (is_cancel (effect new v k))) (Cancels index k) (texts ∷ lands ∷ []) (not_from_false (is_cancel (effect new v k)) (cancels_is ∙ on))
 
-    -- the texts are other ones
+    -- the texts differ
     pub edge_differs : same (landing_text names new k landing) (target_text old target) ≡ false → Some (TextDiffers index k) ≡ first_unmet (one_edge_conditions names old new pairs index u v k)
     edge_differs h = sym (first ∙ first_unmet-fault texts.met (TextDiffers index k) (lands ∷ []) (texts_are on ∙ h))
 
@@ -76,7 +77,7 @@ module _ (names : KeysymNames) (pairs : List (ℕ × ℕ)) (index : ℕ) (old ne
       second : first_unmet (one_edge_conditions names old new pairs index u v k) ≡ first_unmet (lands ∷ [])
       second = first ∙ first_unmet-met texts.met (TextDiffers index k) (lands ∷ []) (texts_are on ∙ agree)
 
-      -- the nodes are no pair
+      -- the nodes are not a pair
       pub edge_missing : has_pair pairs (landing_number (Some target)) (landing_number landing) ≡ false → Some (PairMissing index k) ≡ first_unmet (one_edge_conditions names old new pairs index u v k)
       edge_missing h = sym (second ∙ first_unmet-fault lands.met (PairMissing index k) [] (pairs_are ∙ h))
 

@@ -83,7 +83,7 @@ another_text_before : grown 2 all_pairs (typing_a ∷ record { character = 0xe9;
 unfolding encode_utf8
 another_text_before = refl
 
--- nor do keys that are not the repertoire's
+-- keys that are not the repertoire's don't count either
 another_key : grown 2 all_pairs (typing_a ∷ record { character = 0xe9; keys = 0xffe1 ∷ 0xfe51 ∷ 0x65 ∷ [] } ∷ []) ≡ Some (TypingWrong 0xe9)
 unfolding encode_utf8
 another_key = refl
@@ -137,7 +137,7 @@ fresh_ignored = refl
 fresh_used : with_fresh (0xff20 ∷ []) ≡ Some (FreshUsed 0xff20)
 fresh_used = refl
 
--- also where it stands in a sequence after its first keysym alone
+-- also if it comes only after the first keysym of a sequence
 fresh_used_later : with_fresh (0x27 ∷ []) ≡ Some (FreshUsed 0x27)
 fresh_used_later = refl
 

@@ -1,4 +1,4 @@
--- The groups of conditions one after another: where those so far are met, the first fault is that of the next.
+-- The groups of conditions, one after another: if those so far are met, the first fault is that of the next group.
 use Rattle.std.proofs.Common.{◌≡◌, List, ◌++◌, true, ◌&&◌, sym, ◌∙◌}
 use Rattle.std.specs.Prelude.{Some, None}
 use Rattle.std.proofs.lemmas.Bool.{and_parts}
@@ -34,11 +34,11 @@ module _ (names : KeysymNames) (old new : List Definition) (repertoire : Reperto
     behind_pairs : fault_of names old new repertoire c ≡ first_unmet (fresh ++ (starts ++ (edges ++ (bound ++ typings))))
     behind_pairs = met_before pairs (fresh ++ (starts ++ (edges ++ (bound ++ typings)))) no_pair
 
-    -- where the conditions on pairs are met, the first fault on fresh keysyms is the certificate's
+    -- if the conditions on pairs are met, the first fault of the fresh keysyms is the certificate's
     pub fresh_fault : (fault : CheckFault) → first_unmet fresh ≡ Some fault → Some fault ≡ fault_of names old new repertoire c
     fresh_fault fault h = sym (behind_pairs ∙ unmet_before fresh (starts ++ (edges ++ (bound ++ typings))) fault h)
 
-    -- pairs that have no fault rise, and are in range
+    -- pairs that have no fault are increasing and in range
     pub pairs_fit : (pairs_rise c.pairs ≡ true) × (pairs_in_range old new c.pairs ≡ true)
     pairs_fit =
         let all = and_parts (pairs_rise c.pairs) (pairs_in_range old new c.pairs && (has_pair c.pairs 0 0 && (rest_is_kept c.pairs && true))) (met_from_none pairs no_pair) in
@@ -48,7 +48,7 @@ module _ (names : KeysymNames) (old new : List Definition) (repertoire : Reperto
       behind_fresh : fault_of names old new repertoire c ≡ first_unmet (starts ++ (edges ++ (bound ++ typings)))
       behind_fresh = behind_pairs ∙ met_before fresh (starts ++ (edges ++ (bound ++ typings))) no_fresh
 
-      -- where those on pairs and fresh keysyms are met, the first fault on new starts is the certificate's
+      -- if those on pairs and fresh keysyms are met, the first fault of the new starts is the certificate's
       pub start_fault : (fault : CheckFault) → first_unmet starts ≡ Some fault → Some fault ≡ fault_of names old new repertoire c
       start_fault fault h = sym (behind_fresh ∙ unmet_before starts (edges ++ (bound ++ typings)) fault h)
 
@@ -56,7 +56,7 @@ module _ (names : KeysymNames) (old new : List Definition) (repertoire : Reperto
         behind_starts : fault_of names old new repertoire c ≡ first_unmet (edges ++ (bound ++ typings))
         behind_starts = behind_fresh ∙ met_before starts (edges ++ (bound ++ typings)) no_start
 
-        -- where those on pairs, fresh keysyms and starts are met, the first fault at an edge is the certificate's
+        -- if those on pairs, fresh keysyms and starts are met, the first fault at an edge is the certificate's
         pub edge_fault : (fault : CheckFault) → first_unmet edges ≡ Some fault → Some fault ≡ fault_of names old new repertoire c
         edge_fault fault h = sym (behind_starts ∙ unmet_before edges (bound ++ typings) fault h)
 
@@ -64,10 +64,11 @@ module _ (names : KeysymNames) (old new : List Definition) (repertoire : Reperto
           behind_edges : fault_of names old new repertoire c ≡ first_unmet (bound ++ typings)
           behind_edges = behind_starts ∙ met_before edges (bound ++ typings) no_edge
 
-          -- where all conditions but those on the bound and on typings are met, the first fault on the bound is the certificate's
+          -- if all conditions but those on the bound and the typings are met, the first fault of the bound is the
+          -- certificate's
           pub bound_fault : (fault : CheckFault) → first_unmet bound ≡ Some fault → Some fault ≡ fault_of names old new repertoire c
           bound_fault fault h = sym (behind_edges ∙ unmet_before bound typings fault h)
 
-          -- where all conditions but those on typings are met, the certificate has the fault that its typings have, or none
+          -- if all conditions but those on typings are met, the certificate has the fault of its typings, or none
           pub typing_faults : first_unmet bound ≡ None → first_unmet typings ≡ fault_of names old new repertoire c
           typing_faults h = sym (behind_edges ∙ met_before bound typings h)

@@ -1,4 +1,4 @@
--- What a landing says of the model's step.
+-- The step of the model, by where a key lands.
 use Rattle.std.proofs.Common.{◌≡◌, ℕ, zero, suc, ◌<◌, List, [], ◌∷◌, Bool, true, false, cond, not, length, get_or, refl, sym, ◌∙◌, ap, subst, arith, Less, nat_cmp}
 use Rattle.std.proofs.lemmas.Bool.{ne_eqb}
 use Rattle.std.specs.Prelude.{◌==◌, Option, Some, None, unwrap_or}
@@ -26,7 +26,7 @@ none_empty ([] ∷ xs) zero a h = absurd (let clash = a.0 in cc)
 none_empty ((k ∷ s) ∷ xs) zero a h = refl
 none_empty (x ∷ xs) (suc m) a h = none_empty xs m a.1 (omega arith)
 
--- a node is the root exactly where its number is 0
+-- a node is the root exactly if its number is 0
 pub root_alone : (table : List Definition) (n : ℕ) → n < length (nodes table) → is_empty (node table n) ≡ (n == 0)
 unfolding IsStrictlySortedBy
 root_alone table n h = go (nodes table) (root_first table).0 (root_first table).1 (nodes_sorted table) n h
@@ -84,7 +84,7 @@ module _ (names : KeysymNames) (table : List Definition) (p : List ℕ) (k : ℕ
             by true c = refl
             by false c = cc
 
-    -- the number of what is then pending
+    -- the number of the node that is pending then
     pub lands_number : number_of table (pending_by (effect table p k) p k) ≡ landing_number landing
     lands_number = ap (λ x. number_of table (pending_by x p k)) effect_is_at ∙ go landing led
       where

@@ -1,4 +1,4 @@
--- Pairs that rise, from one to the next.
+-- Increasing pairs, from one to the next.
 use Rattle.std.proofs.Common.{◌≡◌, ℕ, ◌+◌, ◌-◌, ◌≤◌, List, [], ◌∷◌, true, ◌&&◌, length, drop, refl, sym, ◌∙◌, ap, arith}
 use Rattle.std.specs.Prelude.{slice_get, Some}
 use Rattle.compose_model.specs.Certificate.{is_pair_before, pairs_rise}
@@ -14,7 +14,7 @@ next_rises xs i p q low e f =
     ap pairs_rise (drop_at xs (i - 1) p e ∙ ap (λ n. p ∷ drop n xs) same ∙ ap (λ ys. p ∷ ys) this)
     ∙ ap (λ ys. is_pair_before p q && pairs_rise ys) (sym this ∙ ap (λ n. drop n xs) back)
 
--- at most one pair always rises
+-- at most one pair is always increasing
 pub short_rises : (xs : List (ℕ × ℕ)) → length xs ≤ 1 → pairs_rise xs ≡ true
 short_rises [] h = refl
 short_rises (p ∷ []) h = refl

@@ -1,4 +1,4 @@
--- The parts of a check, read one after another.
+-- Reading the parts of a check, one after another.
 use Rattle.std.proofs.Common.{◌≡◌, ℕ, List, [], sym, ◌∙◌, ap, subst}
 use Rattle.std.specs.Prelude.{Result, Ok, Err}
 use Rattle.std.specs.Result.{IsErrAnd}
@@ -25,7 +25,7 @@ use Rattle.compose_check.specs.declared.verdict.Verdict.TheVariants.{Yes}
 use Rattle.compose_check.specs.declared.input.InputFault.{InputFault}
 use Rattle.compose_check.specs.declared.input.InputFault.TheVariants as faults
 
--- a migration without key names is not refused for a key name
+-- a migration without key names doesn't fail because of a key name
 module _ (old new : migrations.TableSources) (index : ℕ) where
   abbrev read_names : KeysymNames → Result migrations.NamedParts NoMigration
   read_names names = or_because no_key (keys_of names []) >>= (λ keys. Ok (record { names = names; keys = keys }))
@@ -49,7 +49,7 @@ module _ (old new : migrations.TableSources) (index : ℕ) where
   names_is (Ok names) e = old_is (record { names = names; keys = [] }) (first_table names old.sources old.rule) e
   names_is (Err fault) e = cc
 
--- a migration that was given no key names is never refused for one
+-- a migration that was given no key names never fails because of one
 pub no_key_name : (header : List ℕ) (old new : migrations.TableSources) (index : ℕ) → migration_of (record { header = header; key_names = []; old = old; new = new }) ≡ Err (no_key index) → ⊥
 no_key_name header old new index e = names_is old new index (names_of header) e
 
@@ -81,7 +81,7 @@ step_refused (faults.Certificate cert_faults.TooLarge) r f h = ap (λ r. r >>= f
 step_refused (faults.Certificate cert_faults.NoMemory) r f h = absurd h
 step_refused faults.NoMemory r f h = tt
 
--- an answer that is this fault gives what the fault gives
+-- a result that is this fault has the properties of the fault
 pub fault_gives : {P A : Type 0} (reads : P → A → Type 0) (r : Result A InputFault) (fault : InputFault) (said : Result P Unread) → IsErrAnd r (λ e. e ≡ fault)
     → InputRefused fault said → InputGives reads r said
 fault_gives reads (Ok a) fault said h g = absurd h
@@ -104,12 +104,12 @@ module _ (m : migrations.Parts) (repertoire certificate : List ℕ) where
     after_repertoire : certified_parts m repertoire certificate ≡ (or_because no_certificate (certificate_of certificate) >>= with_certificate r)
     after_repertoire = ap (λ x. x >>= with_repertoire) (is_read (or_because no_repertoire (repertoire_of repertoire)) r r_read)
 
-    -- where the repertoire is read, a fault of the certificate is the fault of the parts
+    -- if the repertoire is read, a fault of the certificate is the fault of the parts
     pub certificate_refused : (fault : InputFault) → InputRefused fault (or_because no_certificate (certificate_of certificate)) → InputRefused fault (certified_parts m repertoire certificate)
     certificate_refused fault h =
         subst (λ (s : Result Parts Unread). InputRefused fault s) (sym after_repertoire) (step_refused fault (or_because no_certificate (certificate_of certificate)) (with_certificate r) h)
 
-    -- where the repertoire and the certificate are read, these are the parts
+    -- if the repertoire and the certificate are read, these are the parts
     pub all_read : (c : Certificate) → IsRead (or_because no_certificate (certificate_of certificate)) c
         → certified_parts m repertoire certificate ≡ Ok (record { names = m.names; old = m.old; new = m.new; repertoire = r; certificate = c })
     all_read c c_read = after_repertoire ∙ ap (λ x. x >>= with_certificate r) (is_read (or_because no_certificate (certificate_of certificate)) c c_read)
@@ -139,10 +139,10 @@ module _ (input : Input) where
     after_migration : parts_of input ≡ certified m
     after_migration = ap (λ r. r >>= certified) (is_read (or_because no_migration (migration_of input.migration)) m m_read)
 
-    -- where the migration is read, the verdict on the parts with it is that on the parts of the input
+    -- if the migration is read, the verdict on the parts with it is that on the parts of the input
     pub verdict_gives : CheckGives r (parts_of input)
     verdict_gives = subst (λ (said : Result Parts Unread). CheckGives r said) (sym after_migration) (verdict_alone r (certified m) given)
 
-    -- and where it is yes, the parts of the input are as it promises
+    -- if that verdict is yes, its promises hold for the parts of the input
     pub yes_promises : (p : Parts) → parts_of input ≡ Ok p → r ≡ Ok Yes → Promises p
     yes_promises p e is = promised r (certified m) given p (sym after_migration ∙ e) is

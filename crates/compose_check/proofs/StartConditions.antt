@@ -1,4 +1,4 @@
--- The keysyms that begin sequences, by where they lead from the root.
+-- The keysyms that begin sequences, by their targets from the root.
 use Rattle.std.proofs.Common.{◌≡◌, ℕ, ◌<◌, List, [], ◌∷◌, ◌++◌, Bool, true, false, cond, ◌&&◌, ◌||◌, length, refl, sym, ◌∙◌, ap, subst, arith, inl, inr}
 use Rattle.std.specs.Prelude.{Some, None, is_some}
 use Rattle.std.specs.Option.{option_map_or}
@@ -20,7 +20,7 @@ use Rattle.compose_tree.proofs.Steps.{Leads, leads, ToNode, ToLeaf}
 pub has_root : (table : List Definition) → 0 < length (nodes table)
 has_root table = omega (arith, number_below table [] (root_is_node table), root_number table)
 
--- a keysym begins a sequence exactly where it leads somewhere
+-- a keysym begins a sequence exactly if it leads somewhere
 pub begins_somewhere : (table : List Definition) (p : List ℕ) (k : ℕ) → is_some (target_of table p k) ≡ has_edge table p k
 begins_somewhere table p k = go (is_node table (p ++ k ∷ [])) (is_sequence table (p ++ k ∷ [])) _ _
   where
@@ -30,7 +30,7 @@ begins_somewhere table p k = go (is_node table (p ++ k ∷ [])) (is_sequence tab
     go false false t u = refl
 
 module _ (names : KeysymNames) (new : List Definition) (k : ℕ) where
-  -- one that leads to a node is no whole sequence
+  -- a keysym that leads to a node is no whole sequence
   pub node_types_not : (n : NodeId) → is_prefix_free new ≡ true → target_of new [] k ≡ Some (Node n) → false ≡ types_itself names new k
   node_types_not n free to = sym (and_left (is_sequence new (k ∷ [])) (option_map_or (same (text names k)) (text_at new (k ∷ [])) false) (none leads_to))
     where
@@ -43,7 +43,7 @@ module _ (names : KeysymNames) (new : List Definition) (k : ℕ) where
         | inr e ↦ e
       ]
 
-  -- one that leads to a leaf is one, and gives its text
+  -- a keysym that leads to a leaf is a whole sequence, and commits the leaf's text
   pub leaf_types : (l : LeafId) (t : List ℕ) → target_of new [] k ≡ Some (Leaf l) → leaf_text new l.0 ≡ Some t → same (text names k) t ≡ types_itself names new k
   leaf_types l t to read =
       sym (ap (λ b. b && option_map_or (same (text names k)) (text_at new (k ∷ [])) false) leads_to.sequence ∙ ap (λ o. option_map_or (same (text names k)) o false) (sym leads_to.text ∙ read))

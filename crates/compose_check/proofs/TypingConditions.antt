@@ -45,11 +45,11 @@ module _ (names : KeysymNames) (new : List Definition) (repertoire : Repertoire)
           ∙ ap (λ us. first_unmet (typing_conditions names new repertoire (c ∷ drop (i + 1) chars) us)) (drop_at ts i t at_t)
           ∙ side_by_side c t (drop (i + 1) chars) (drop (i + 1) ts)
 
-      -- a typing that has a fault beside its character gives the first fault from its index on
+      -- a typing that has a fault is the first fault from its index on
       pub typing_unmet : (fault : CheckFault) → typing_fault names new repertoire c t ≡ Some fault → left i ≡ Some fault
       typing_unmet fault h = both_left ∙ ap (λ o. option_or o (left (i + 1))) h
 
-      -- past a typing that has no fault, the first fault is that of the typings behind it
+      -- after a typing that has no fault, the first fault is that of the typings after it
       pub typing_met : typing_fault names new repertoire c t ≡ None → left (i + 1) ≡ left i
       typing_met h = sym (both_left ∙ ap (λ o. option_or o (left (i + 1))) h)
 
@@ -71,7 +71,7 @@ same_as_none : (s : List ℕ) → same s [] ≡ is_empty s
 same_as_none [] = refl
 same_as_none (k ∷ s) = refl
 
--- where u is pending, w commits the character c at its last key and nothing before, and leaves nothing pending
+-- if u is pending, w commits the character c at its last key and nothing before, and leaves nothing pending
 abbrev pub types_from : KeysymNames → List Definition → List ℕ → List ℕ → ℕ → Bool
 types_from names table u w c = pointwise same (map (λ s. s.text) (steps_from names table u w)) (replicate (length w - 1) [] ++ encode_utf8 c ∷ []) && is_empty (pending_from table u w)
 
@@ -95,7 +95,7 @@ types_later names table u k w last c =
     count : length (k ∷ (w ++ last ∷ [])) - 1 ≡ suc (length (w ++ last ∷ []) - 1)
     count = omega (arith, length-append w (last ∷ []))
 
--- a character has bytes
+-- a character has at least one byte
 pub character_not_empty : (c : ℕ) → is_empty (encode_utf8 c) ≡ false
 character_not_empty c = go (encode_utf8 c) (omega (arith, length-encode c, len_utf8_bounds c))
   where

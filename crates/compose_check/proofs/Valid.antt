@@ -1,4 +1,4 @@
--- No condition fails exactly where the certificate is valid.
+-- No condition fails exactly if the certificate is valid.
 use Rattle.std.proofs.Common.{◌≡◌, ℕ, ◌+◌, ◌-◌, List, [], ◌∷◌, ◌++◌, Bool, true, false, cond, not, ◌&&◌, length, map, replicate, refl, sym, ◌∙◌, ap, ap₂, arith, ltb-false, le-ltb}
 use Rattle.std.specs.Prelude.{nat_lt, nat_le, flat_map, None, encode_utf8}
 use Rattle.std.specs.List.{list_all, AllByRecursion}
@@ -19,7 +19,7 @@ use Rattle.compose_check.specs.Conditions.{pair_conditions, start_condition, sta
 use Rattle.compose_fresh.proofs.Unmet.{all_met, met_from_none, none_from_met, all_met-flat_map}
 use Rattle.compose_fresh.proofs.FreshKeysyms.{are_fresh, fresh_is_met}
 
--- ---- what each group says
+-- ---- the meaning of each group
 
 starts_are : (names : KeysymNames) (fresh : List ℕ) (old new : List Definition) → all_met (start_conditions names fresh old new) ≡ new_starts_type_themselves names fresh old new
 starts_are names fresh old new = list_all-map (λ (d : Condition). d.met) (start_condition names fresh old new) (edges new [])
@@ -84,7 +84,7 @@ module _ (names : KeysymNames) (new : List Definition) where
   test_from_types w c t = and_from (pointwise same (typed w) (wanted w c)) (is_empty (pending new w)) (ap (pointwise same (typed w)) (sym t.texts) ∙ lists_from (typed w)) (ap is_empty t.rests)
 
   module _ (repertoire : Repertoire) where
-    -- what the conditions on the typings of these characters say
+    -- the meaning of the conditions on the typings of these characters
     record AreTyped (chars : List ℕ) (ts : List Typing) : Type 0 where
       pub characters : map (λ (t : Typing). t.character) ts ≡ chars
       pub by_keys : list_all (λ (t : Typing). list_all (is_key repertoire) t.keys) ts ≡ true
@@ -171,7 +171,7 @@ module _ (names : KeysymNames) (old new : List Definition) (repertoire : Reperto
       ∙ ap (λ b. all_met starts && b) (list_all-append (λ (d : Condition). d.met) kept (bound ++ typings)
       ∙ ap (λ b. all_met kept && b) (list_all-append (λ (d : Condition). d.met) bound typings))))
 
-  -- a certificate on which no condition fails is valid
+  -- a certificate for which no condition fails is valid
   pub valid_from_none : fault_of names old new repertoire c ≡ None → IsValid names old new repertoire c
   valid_from_none h =
       let all = sym all_are ∙ met_from_none (conditions names old new repertoire c) h in
@@ -198,7 +198,7 @@ module _ (names : KeysymNames) (old new : List Definition) (repertoire : Reperto
         fresh = are_fresh old c.fresh (none_from_met fresh of_fresh.0);
       }
 
-  -- on a valid certificate no condition fails
+  -- for a valid certificate no condition fails
   pub none_from_valid : IsValid names old new repertoire c → fault_of names old new repertoire c ≡ None
   none_from_valid v =
       none_from_met (conditions names old new repertoire c) (all_are

@@ -1,4 +1,4 @@
--- What a check on bytes answers, beside memory that is refused.
+-- The result of a check on bytes, unless memory runs out.
 use Rattle.std.specs.Prelude.{◌≡◌, [], Result, Ok, Err}
 use Rattle.keysym_core.specs.declared.fault.NameFault.TheVariants as name_faults
 use Rattle.compose_model.specs.Certificate.{IsValid, TypesAll}
@@ -28,7 +28,7 @@ input_of i = record {
   certificate = i.certificate.now;
 }
 
--- the fault says which part says nothing, and why; memory that is refused is the whole's own fault
+-- the fault names the part that can't be read, and the reason; running out of memory is a fault of the whole
 abbrev pub InputRefused : {P : Type 0} → InputFault → Result P Unread → Type 0
 InputRefused (Names name_faults.NoMemory) said = ⊥
 InputRefused (Names fault) said = said ≡ Err (no_migration (no_names fault))
@@ -40,22 +40,22 @@ InputRefused (Certificate cert_faults.NoMemory) said = ⊥
 InputRefused (Certificate fault) said = said ≡ Err (no_certificate fault)
 InputRefused NoMemory said = Unit {0}
 
--- what is read of the parts that are said, or the fault of the first one that says nothing
+-- the specified parts are read, or the fault of the first one that can't be read
 abbrev pub InputGives : {P A : Type 0} → (P → A → Type 0) → Result A InputFault → Result P Unread → Type 0
 InputGives {P} reads (Ok read) said = (parts : P) × (said ≡ Ok parts) × reads parts read
 InputGives reads (Err fault) said = InputRefused fault said
 
--- what yes promises
+-- the promises of the verdict yes
 pub record Promises (p : Parts) : Type 0 where
   pub valid : IsValid p.names p.old p.new p.repertoire p.certificate
   pub follows : Follows p.names p.certificate.fresh p.old p.new
   pub waits : Waits p.new p.certificate.bound
   pub types : TypesAll p.names p.new p.repertoire p.certificate.typings
 
--- this is the verdict on the parts, and where it is yes they are as it promises
+-- this is the verdict on the parts; if it is yes, its promises hold for them
 abbrev pub IsVerdict : Parts → Verdict → Type 0
 IsVerdict p verdict = (verdict ≡ verdict_on p) × (verdict ≡ Yes → Promises p)
 
--- the verdict on the parts that are said
+-- the verdict on the specified parts
 abbrev pub CheckGives : Result Verdict InputFault → Result Parts Unread → Type 0
 CheckGives result said = InputGives (λ parts verdict. verdict ≡ verdict_on parts) result said

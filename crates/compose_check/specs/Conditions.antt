@@ -1,4 +1,5 @@
--- The conditions on a certificate in the order in which they are looked at, each with the fault that is named where it is not met.
+-- The conditions on a certificate in the order in which they are checked, each with the fault that is reported if it is
+-- not met.
 use Rattle.std.specs.Prelude.{ℕ, Bool, false, not, ◌+◌, ◌-◌, ◌&&◌, ◌||◌, nat_lt, nat_le, if◌then◌else◌, List, [], ◌∷◌, ◌++◌, length, map, flat_map, replicate, Option, encode_utf8}
 use Rattle.std.specs.List.{list_all}
 use Rattle.std.specs.Cmp.Lexicographic.{pointwise}
@@ -12,13 +13,13 @@ use Rattle.compose_fresh.specs.declared.fault.CheckFault.TheVariants.{PairsNotRi
 use Rattle.compose_fresh.specs.Conditions.{Condition, condition, first_unmet}
 use Rattle.compose_fresh.specs.Fresh.{fresh_conditions}
 
--- ---- the pairs rise and are nodes, the roots are a pair, and the old root stands with the new root alone
+-- ---- the pairs are increasing and are nodes, the roots are a pair, and the old root is paired only with the new root
 abbrev pub pair_conditions : List Definition → List Definition → List (ℕ × ℕ) → List Condition
 pair_conditions old new pairs =
     condition (pairs_rise pairs) PairsNotRising ∷ condition (pairs_in_range old new pairs) NodeOutOfRange ∷
     condition (has_pair pairs 0 0) RootPairMissing ∷ condition (rest_is_kept pairs) RestBroken ∷ []
 
--- ---- what begins in the new table and not in the old one is fresh, or types itself
+-- ---- a keysym that begins a sequence in the new table and none in the old one is fresh, or types itself
 
 abbrev pub start_condition : KeysymNames → List ℕ → List Definition → List Definition → ℕ → Condition
 start_condition names fresh old new k = condition (has_edge old [] k || (has_key fresh k || types_itself names new k)) (NewStart k)
@@ -26,7 +27,7 @@ start_condition names fresh old new k = condition (has_edge old [] k || (has_key
 abbrev pub start_conditions : KeysymNames → List ℕ → List Definition → List Definition → List Condition
 start_conditions names fresh old new = map (start_condition names fresh old new) (edges new [])
 
--- ---- at each edge of the old node of a pair the new step does not cancel, commits the old text, and leads to a pair
+-- ---- at each edge of the old node of a pair, the new step does not cancel, commits the old text, and leads to a pair
 
 abbrev pub one_edge_conditions : KeysymNames → List Definition → List Definition → List (ℕ × ℕ) → ℕ → List ℕ → List ℕ → ℕ → List Condition
 one_edge_conditions names old new pairs index u v k =
@@ -35,7 +36,7 @@ one_edge_conditions names old new pairs index u v k =
     condition (not (is_cancel b.effect)) (Cancels index k) ∷ condition (same b.text a.text) (TextDiffers index k) ∷
     condition (has_pair pairs (number_of old a.pending) (number_of new b.pending)) (PairMissing index k) ∷ []
 
--- those of the pairs from this one on, which has the index `index`
+-- the conditions of the pairs from this one on, which has the index `index`
 abbrev pub edge_conditions_from : KeysymNames → List Definition → List Definition → List (ℕ × ℕ) → ℕ → List (ℕ × ℕ) → List Condition
 edge_conditions_from names old new pairs index [] = []
 edge_conditions_from names old new pairs index (p ∷ ps) =
@@ -54,7 +55,7 @@ bound_conditions_from bound index (p ∷ ps) = condition (nat_le (length p) boun
 abbrev pub bound_conditions : List Definition → ℕ → List Condition
 bound_conditions new bound = bound_conditions_from bound 0 (nodes new)
 
--- ---- the typings are those of the repertoire's characters in order, by its keys
+-- ---- the typings are those of the repertoire's characters in order, with its keys
 
 -- w commits the character c at its last key and nothing before, and leaves nothing pending
 abbrev pub types : KeysymNames → List Definition → List ℕ → ℕ → Bool
@@ -63,7 +64,7 @@ types names table w c = pointwise same (map (λ s. s.text) (run names table w)) 
 abbrev pub is_right : KeysymNames → List Definition → Repertoire → Typing → Bool
 is_right names new repertoire t = list_all (is_key repertoire) t.keys && types names new t.keys t.character
 
--- the characters and the typings side by side; one that stands alone is not met
+-- the characters and the typings side by side; one without a counterpart is not met
 abbrev pub typing_conditions : KeysymNames → List Definition → Repertoire → List ℕ → List Typing → List Condition
 typing_conditions names new repertoire [] [] = []
 typing_conditions names new repertoire [] (t ∷ ts) = condition false (TypingUnasked t.character) ∷ []

@@ -1,4 +1,4 @@
--- A check on bytes: what reading the parts gives, one after another, and the verdict on them.
+-- A check on bytes: reading the parts, one after another, and the verdict on them.
 use Rattle.std.specs.Prelude.{ℕ, List, Result, Ok}
 use Rattle.compose_text.specs.Results.{◌>>=◌}
 use Rattle.keysym_core.specs.Names.{KeysymNames}
@@ -14,13 +14,13 @@ use Rattle.compose_check.specs.Conditions.{fault_of}
 use Rattle.compose_check.specs.Verdict.{verdict_of}
 use Rattle.compose_check.specs.declared.verdict.Verdict.{Verdict}
 
--- what is handed in: a migration without key names, and two files
+-- the input: a migration without key names, and two files
 pub record Input : Type 0 where
   pub migration : GivenMigration
   pub repertoire : List ℕ
   pub certificate : List ℕ
 
--- what it says
+-- its parts
 pub record Parts : Type 0 where
   pub names : KeysymNames
   pub old : List Definition
@@ -28,13 +28,13 @@ pub record Parts : Type 0 where
   pub repertoire : Repertoire
   pub certificate : Certificate
 
--- the part that says nothing, and why
+-- the part that can't be read, and why
 pub data Unread : Type 0 where
   no_migration : NoMigration → Unread
   no_repertoire : RepertoireFault → Unread
   no_certificate : CertFault → Unread
 
--- the parts, or the first one that says nothing
+-- the parts, or the first one that can't be read
 abbrev pub parts_of : Input → Result Parts Unread
 parts_of input = do
   m ← or_because no_migration (migration_of input.migration)
@@ -42,7 +42,7 @@ parts_of input = do
   certificate ← or_because no_certificate (certificate_of input.certificate)
   Ok (record { names = m.names; old = m.old; new = m.new; repertoire = repertoire; certificate = certificate })
 
--- the parts of a migration that is read, or the first of the other two that says nothing
+-- the parts of a migration that was read, or the first of the other two that can't be read
 abbrev pub certified_parts : migrations.Parts → List ℕ → List ℕ → Result Parts Unread
 certified_parts m repertoire certificate = do
   r ← or_because no_repertoire (repertoire_of repertoire)

@@ -6,7 +6,7 @@ ghost use Rattle.compose_check.specs.Conditions.{bound_conditions};
 use compose_fresh::CheckFault;
 use compose_tree::{ComposeTable, NodeId};
 
-/// The first node that is longer than the bound. O(nodes).
+/// Returns the fault of the first node that is longer than the bound. O(nodes).
 pub(crate) fn check_bound<U: ComposeTable>(new: &U, bound: u32) -> Option<CheckFault>
     ensures { result ≡ first_unmet (bound_conditions (U.definitions new.now) bound) }
 {

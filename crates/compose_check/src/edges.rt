@@ -21,8 +21,9 @@ struct Pair {
     new: NodeId,
 }
 
-/// The first edge at which the new table does not do what the old one does, pair by pair.
-/// O(pairs × edges of their old nodes × (log new nodes + log edges of their new nodes)).
+/// Returns the fault of the first edge at which the new table does not do what the old one does,
+/// pair by pair. O(pairs × edges of their old nodes × (log new nodes + log edges of their new
+/// nodes)).
 pub(crate) fn check_edges<T: ComposeTable, U: ComposeTable>(
     old: &T,
     new: &U,
@@ -52,7 +53,7 @@ pub(crate) fn check_edges<T: ComposeTable, U: ComposeTable>(
     None
 }
 
-/// The first edge of the pair's old node that is not kept.
+/// Returns the fault of the first edge of the pair's old node that is not kept.
 fn check_pair<T: ComposeTable, U: ComposeTable>(
     old: &T,
     new: &U,
@@ -82,7 +83,8 @@ fn check_pair<T: ComposeTable, U: ComposeTable>(
     None
 }
 
-/// The first condition at the edge of this keysym, which leads to the target in the old table.
+/// Returns the fault of the first condition that fails at the edge of this keysym. The edge leads
+/// to the target in the old table.
 fn check_edge<T: ComposeTable, U: ComposeTable>(
     old: &T,
     new: &U,

@@ -1,4 +1,4 @@
-//! A check on bytes.
+//! Checking a certificate on bytes.
 ghost use Rattle.std.specs.Prelude.{◌≡◌, ◌≢◌, ℕ, Result, Ok};
 ghost use Rattle.compose_model.specs.Follows.{Follows, Waits};
 ghost use Rattle.compose_model.specs.Certificate.{IsValid, TypesAll};
@@ -19,53 +19,56 @@ use keysym_core::NameFault;
 use std::alloc::Global;
 use thiserror::Error;
 
-/// The parts of a check, in the order in which they are read. The root of a table is its first source.
+/// The input of a check, in the order in which it is read. The root of a table is its first source.
 #[derive(Clone, Copy)]
 pub struct CheckInput<'a> {
-    /// A header of names, which is added to the core names.
+    /// A header of keysym names, which are added to the core names.
     pub header: &'a [u8],
     /// The sources of the old table.
     pub old: &'a Sources,
     /// The sources of the new table.
     pub new: &'a Sources,
-    /// What is done with overlaps of the old table.
+    /// What is done in the old table if a sequence is a prefix of another one.
     pub old_rule: Rule,
-    /// What is done with overlaps of the new table.
+    /// What is done in the new table if a sequence is a prefix of another one.
     pub new_rule: Rule,
-    /// The characters that people need, and the keys that they have.
+    /// The text of the repertoire: the characters that people need, and the keys that they have.
     pub repertoire: &'a [u8],
     /// The certificate's text.
     pub certificate: &'a [u8],
 }
 
-/// The first part that says nothing, and why.
+/// The first part of the input that can't be read, and why.
 #[derive(Debug, PartialEq, Eq, Drop, Error)]
 pub enum InputFault {
-    /// The header is refused.
+    /// The header of names has a fault.
     #[error("1 Names: {0}")]
     Names(NameFault),
-    /// The old sources give no table.
+    /// The old table can't be read from its sources.
     #[error("2 Old: {0}")]
     Old(TableFault),
-    /// The new sources give no table.
+    /// The new table can't be read from its sources.
     #[error("3 New: {0}")]
     New(TableFault),
-    /// The repertoire is refused.
+    /// The repertoire has a fault.
     #[error("4 Repertoire: {0}")]
     Repertoire(RepertoireFault),
-    /// The text is no certificate.
+    /// The text of the certificate has a fault.
     #[error("5 Certificate: {0}")]
     Certificate(CertFault),
-    /// Memory was refused in this call.
+    /// A memory allocation failed.
     #[error("6 NoMemory")]
     NoMemory,
 }
 
-/// Looks at a certificate for a move from the old sources to the new ones, all of it as bytes. The parts are read in their order,
-/// and the first one that says nothing decides; both tables are read with the same names. O(bytes of all parts, sorting of the
+/// Checks a certificate for a move from the old sources to the new ones, given as bytes. The parts
+/// are read in order, and both tables with the same names. O(bytes of all parts, sorting of the
 /// definitions), and then as `check`.
 ///
-/// Where the answer is yes, typing goes on as `check` promises, on the tables that reading gives.
+/// Errors: the first part that can't be read (`Names`, `Old`, `New`, `Repertoire` or
+/// `Certificate`), or `NoMemory`.
+///
+/// If the verdict is `Yes`, the promise of `check` holds for the tables that were read.
 pub fn check_bytes<T: ComposeTable>(
     alloc: Global,
     input: &CheckInput<'_>,
@@ -84,7 +87,8 @@ pub fn check_bytes<T: ComposeTable>(
     check_migration(alloc, input, &migration)
 }
 
-/// The verdict on a migration that was read, with the repertoire and the certificate of the input.
+/// Returns the verdict on a migration that was read, with the repertoire and the certificate of the
+/// input.
 fn check_migration<T: ComposeTable>(
     alloc: Global,
     input: &CheckInput<'_>,
@@ -105,7 +109,7 @@ fn check_migration<T: ComposeTable>(
     ))
 }
 
-/// The names and both tables.
+/// Reads the names and both tables.
 fn read_migration<T: ComposeTable>(
     alloc: Global,
     input: &CheckInput<'_>,
@@ -131,7 +135,7 @@ fn read_migration<T: ComposeTable>(
     }
 }
 
-/// The fault of a migration without key names.
+/// Returns the fault of a migration without key names.
 fn input_fault(fault: MigrationFault) -> InputFault
     requires { (index : ℕ) → fault ≢ MigrationFault.Key index }
     ensures { (said : Result GivenParts NoMigration) → MigrationRefused fault said
@@ -152,7 +156,7 @@ fn input_fault(fault: MigrationFault) -> InputFault
     }
 }
 
-/// The characters that people need, and the keys that they have.
+/// Reads the repertoire.
 fn read_repertoire(alloc: Global, bytes: &[u8]) -> Result<Repertoire, InputFault>
     ensures { InputGives (λ said repertoire. said ≡ repertoire) result
         (or_because no_repertoire (repertoire_of bytes.now)) }
@@ -164,7 +168,7 @@ fn read_repertoire(alloc: Global, bytes: &[u8]) -> Result<Repertoire, InputFault
     }
 }
 
-/// The certificate.
+/// Reads the certificate.
 fn read_certificate(alloc: Global, bytes: &[u8]) -> Result<Certificate, InputFault>
     ensures { InputGives (λ said certificate. said ≡ certificate) result
         (or_because no_certificate (certificate_of bytes.now)) }

@@ -1,4 +1,4 @@
-//! Where a key leads from a node, and what is committed on the way.
+//! Where a key leads from a node, and the text that it commits.
 ghost use Rattle.std.specs.Prelude.{◌≡◌};
 ghost use Rattle.keysym_core.specs.Names as model;
 ghost use Rattle.compose_model.specs.Table.{same};
@@ -7,7 +7,7 @@ ghost use Rattle.compose_check.specs.Landing.{IsOf, IsLandingOf, target_text, la
 use compose_tree::{ComposeTable, NodeId, Target};
 use keysym_core::{Keysym, Names};
 
-/// The text that the table commits on the way to the target.
+/// Returns the text that the table commits when a key leads to the target.
 pub(crate) fn text_to<T: ComposeTable>(table: &T, target: Target) -> &str
     requires { IsOf (T.definitions table.now) target }
     ensures { result.now ≡ target_text (T.definitions table.now) target }
@@ -18,7 +18,8 @@ pub(crate) fn text_to<T: ComposeTable>(table: &T, target: Target) -> &str
     }
 }
 
-/// Whether the table commits the text at a key that leads there, or nowhere from rest.
+/// Returns whether the table commits the text at a key that leads there, or that leads nowhere at
+/// rest.
 pub(crate) fn commits<T: ComposeTable>(
     table: &T,
     names: &Names,
@@ -36,7 +37,7 @@ pub(crate) fn commits<T: ComposeTable>(
     }
 }
 
-/// Whether the text is that of the keysym itself.
+/// Returns whether the text is that of the keysym itself.
 pub(crate) fn is_own_text(names: &Names, keysym: Keysym, text: &str) -> bool
     ensures { result ≡ same (model.text names.now keysym) text.now }
 {
@@ -46,14 +47,14 @@ pub(crate) fn is_own_text(names: &Names, keysym: Keysym, text: &str) -> bool
     }
 }
 
-/// Whether a key that leads there from the node breaks off what is pending.
+/// Returns whether a key that leads there from the node cancels the pending keysyms.
 pub(crate) fn cancels(node: NodeId, landing: Option<Target>) -> bool
     ensures { result ≡ landing_cancels node.0 landing }
 {
     landing.is_none() && node.0 != 0
 }
 
-/// The number of the node that is pending once a key leads there.
+/// Returns the number of the node that is pending after a key that leads there.
 pub(crate) fn number_at(landing: Option<Target>) -> u32
     ensures { result ≡ landing_number landing }
 {

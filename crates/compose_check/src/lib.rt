@@ -1,15 +1,17 @@
 //! The checker of migrations from an old compose table to a new one.
 //!
-//! A certificate has pairs of an old and a new node, a bound, a typing for each character that people need, and the keysyms for
-//! which nothing is promised. [`check`] looks at the conditions on it in a fixed order, without memory, and answers yes, or no with
-//! the first condition that fails. Its contract is the promise to people who type with the old table: where the answer is yes,
-//! what they type goes on to give the same text, key by key.
+//! A certificate has pairs of an old and a new node, a bound, a typing for each character that
+//! people need, and the fresh keysyms, for which nothing is promised. [`check`] checks the
+//! conditions on it in a fixed order, without allocating memory. Its verdict is yes, or no with the
+//! first condition that fails. Its contract is the promise to people who type with the old table:
+//! after a yes, the new table gives the same text for what they type, key by key.
 //!
-//! An example: the old table is `<a> : "a"`, and the new one is empty. The certificate with the bound 0, the pair `0 0` and no
-//! typings is valid, since the key `a` gives its own text at rest. With `<b> <c> : "x"` in the new table the answer is
-//! `5 NewStart keysym=0x62`: who typed `b` before would wait for another key now.
+//! An example: the old table is `<a> : "a"`, and the new one is empty. The certificate with the
+//! bound 0, the pair `0 0` and no typings is valid, since at rest the key `a` gives its own text.
+//! If the new table has `<b> <c> : "x"`, the verdict is `5 NewStart keysym=0x62`: the key `b`,
+//! which gave its text at once before, would now wait for another key.
 //!
-//! Nothing here makes certificates, and nothing that makes them is used.
+//! Nothing here makes certificates, and this crate depends on nothing that makes them.
 #![tactic(auto)]
 
 mod bound;

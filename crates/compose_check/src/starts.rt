@@ -1,4 +1,4 @@
-//! The condition on the keysyms that begin a sequence in the new table and in none of the old.
+//! The condition on the keysyms that begin a sequence in the new table and none in the old one.
 ghost use Rattle.std.specs.Prelude.{◌≡◌, ◌||◌, [], Some, IsTrue};
 ghost use Rattle.compose_model.specs.Table.{has_key, is_prefix_free};
 ghost use Rattle.compose_model.specs.Nodes.{has_edge};
@@ -13,8 +13,9 @@ use compose_fresh::{CheckFault, is_among};
 use compose_tree::{ComposeTable, NodeId, Target};
 use keysym_core::{Keysym, Names};
 
-/// The first keysym that begins a sequence in the new table alone, is not fresh, and does not type itself.
-/// O(edges of the new root × (log edges of the old root + log fresh)).
+/// Returns the fault of the first keysym that begins a sequence only in the new table, is not
+/// fresh, and does not type itself. O(edges of the new root × (log edges of the old root + log
+/// fresh)).
 pub(crate) fn check_starts<T: ComposeTable, U: ComposeTable>(
     old: &T,
     new: &U,
@@ -36,7 +37,8 @@ pub(crate) fn check_starts<T: ComposeTable, U: ComposeTable>(
     None
 }
 
-/// Whether the keysym, which leads there from the new root, begins a sequence of the old table, is fresh, or types itself.
+/// Returns whether the keysym, which leads there from the new root, begins a sequence of the old
+/// table, is fresh, or types itself.
 fn is_kept<T: ComposeTable, U: ComposeTable>(
     old: &T,
     new: &U,
@@ -56,14 +58,15 @@ fn is_kept<T: ComposeTable, U: ComposeTable>(
     begins(old, keysym) || is_among(fresh, keysym) || types_itself(new, names, keysym, target)
 }
 
-/// Whether the keysym begins a sequence of the table.
+/// Returns whether the keysym begins a sequence of the table.
 fn begins<T: ComposeTable>(table: &T, keysym: Keysym) -> bool
     ensures { result ≡ has_edge (T.definitions table.now) [] keysym }
 {
     table.step(NodeId::ROOT, keysym).is_some()
 }
 
-/// Whether the keysym, which leads there from the root, is a whole sequence and gives its own text.
+/// Returns whether the keysym, which leads there from the root, is a whole sequence that commits
+/// its own text.
 fn types_itself<U: ComposeTable>(new: &U, names: &Names, keysym: Keysym, target: Target) -> bool
     requires leads { target_of (U.definitions new.now) [] keysym ≡ Some target }
     requires prefix_free { IsTrue (is_prefix_free (U.definitions new.now)) }

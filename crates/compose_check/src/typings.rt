@@ -1,4 +1,5 @@
-//! The conditions on the typings: each of the repertoire's characters in order, by its keys.
+//! The conditions on the typings: one for each character of the repertoire, in order, with the
+//! repertoire's keys.
 ghost use Rattle.std.specs.Prelude.{◌≡◌, List, length, drop, min, encode_utf8};
 ghost use Rattle.std.specs.List.{list_all};
 ghost use Rattle.keysym_core.specs.Names.{KeysymNames};
@@ -17,8 +18,9 @@ use compose_state::{ComposeState, FedText};
 use compose_tree::ComposeTable;
 use keysym_core::{Keysym, Names};
 
-/// The first character without a typing, typing that is wrong, or typing that is not asked for.
-/// O(keys of all typings × (log ranges of keys + pending keysyms × log edges of a node)).
+/// Returns the fault of the first character without a typing, typing that is wrong, or typing of a
+/// character that is not in the repertoire. O(keys of all typings × (log ranges of keys + pending
+/// keysyms × log edges of a node)).
 pub(crate) fn check_typings<U: ComposeTable>(
     new: &U,
     names: &Names,
@@ -46,7 +48,8 @@ pub(crate) fn check_typings<U: ComposeTable>(
     check_ends(repertoire, certificate, count)
 }
 
-/// The fault where the characters or the typings go on after the index at which the other ones end.
+/// Returns the fault if there are more characters than typings, or more typings than characters,
+/// after the index at which the others end.
 fn check_ends(repertoire: &Repertoire, certificate: &Certificate, end: usize) -> Option<CheckFault>
     requires { end ≡ min (length repertoire.now.characters) (length certificate.now.typings) }
     ensures { (names : KeysymNames) (new : List Definition)
@@ -68,7 +71,7 @@ fn check_ends(repertoire: &Repertoire, certificate: &Certificate, end: usize) ->
     None
 }
 
-/// The fault of the typing where the character is asked for.
+/// Returns the fault of the typing if the repertoire has the character at its index.
 fn check_typing<U: ComposeTable>(
     new: &U,
     names: &Names,
@@ -95,14 +98,15 @@ fn check_typing<U: ComposeTable>(
     None
 }
 
-/// Whether each of the keysyms is one of the repertoire's keys.
+/// Returns whether each of the keysyms is one of the repertoire's keys.
 fn are_keys(repertoire: &Repertoire, keysyms: &[Keysym]) -> bool
     ensures { result ≡ list_all (is_key repertoire.now) keysyms.now }
 {
     keysyms.iter().all(|keysym| repertoire.is_key(*keysym))
 }
 
-/// Whether the keys, from rest, commit the character at the last one and nothing before, and leave nothing pending.
+/// Returns whether the keys, starting at rest, commit the character at the last one and nothing
+/// before, and leave nothing pending.
 fn types<U: ComposeTable>(new: &U, names: &Names, keys: &[Keysym], character: char) -> bool
     ensures { result ≡ words.types names.now (U.definitions new.now) keys.now character }
 {
@@ -118,7 +122,7 @@ fn types<U: ComposeTable>(new: &U, names: &Names, keys: &[Keysym], character: ch
     is_character(state.feed(new, names, *last).text, character) && state.pending().is_empty()
 }
 
-/// Whether no text is committed.
+/// Returns whether no text is committed.
 fn is_empty(text: FedText<'_>) -> bool
     ensures { result ≡ step.is_empty (text_bytes text.entry) }
 {
@@ -129,7 +133,7 @@ fn is_empty(text: FedText<'_>) -> bool
     }
 }
 
-/// Whether the character is committed.
+/// Returns whether the character is committed.
 fn is_character(text: FedText<'_>, character: char) -> bool
     ensures { result ≡ same (text_bytes text.entry) (encode_utf8 character) }
 {

@@ -19,16 +19,16 @@ use compose_model::{law_bound, law_pairs_lift};
 use compose_tree::ComposeTable;
 use keysym_core::Names;
 
-/// What the checker answers to a certificate.
+/// The verdict of the checker on a certificate.
 #[derive(Clone, Copy, Debug, PartialEq, Eq, Drop)]
 pub enum Verdict {
     /// The certificate is valid.
     Yes,
-    /// It is not, and this is the first condition that it does not meet.
+    /// The certificate is not valid: this is the first condition that it does not meet.
     No(CheckFault),
 }
 
-/// No condition fails exactly where the certificate is valid.
+/// No condition fails exactly if the certificate is valid.
 pub fn law_conditions()
     ensures valid { (names : KeysymNames) (old new : List Definition)
         (repertoire : model.Repertoire) (c : model.Certificate)
@@ -38,15 +38,17 @@ pub fn law_conditions()
         → IsValid names old new repertoire c → fault_of names old new repertoire c ≡ None }
 {}
 
-/// Looks at a certificate for a move from the old table to the new one.
+/// Checks a certificate for a move from the old table to the new one.
 ///
-/// Where the answer is yes, typing goes on: on every list of keysyms without fresh ones on which the old table never cancels, the
-/// new one does not cancel, rests wherever the old one rests, and commits the same text at every key. After any list of keysyms at
-/// most the certificate's bound are pending. And each character of the repertoire is typed from rest by its typing, whose keys are
-/// keys of the repertoire.
+/// If the verdict is `Yes`, what people type gives the same text: on every list of keysyms without
+/// fresh ones on which the old table never cancels, the new one does not cancel either, commits the
+/// same text at every key, and is at rest whenever the old one is. After any list of keysyms, at
+/// most as many are pending as the certificate's bound. Each character of the repertoire is typed
+/// from rest by its typing, whose keys are keys of the repertoire.
 ///
-/// Takes no memory. O(pairs × edges of their old nodes × (log new nodes + log edges of their new nodes)), and beside it
-/// O(edges of the old table × log fresh keysyms), O(nodes of the new table), and the typings' keys, each O(pending keysyms × log edges).
+/// Allocates nothing. O(pairs × edges of their old nodes × (log new nodes + log edges of their new
+/// nodes)); in addition O(edges of the old table × log fresh keysyms), O(nodes of the new table),
+/// and for the typings O(pending keysyms × log edges) per key.
 pub fn check<T: ComposeTable, U: ComposeTable>(
     old: &T,
     new: &U,
@@ -64,11 +66,11 @@ pub fn check<T: ComposeTable, U: ComposeTable>(
     ensures only { IsValid names.now (T.definitions old.now)
         (U.definitions new.now) repertoire.now certificate.now → result ≡ Verdict.Yes }
 
-    // typing goes on as with the old table
+    // typing gives the same text as with the old table
     ensures follows { result ≡ Verdict.Yes
         → Follows names.now certificate.now.fresh (T.definitions old.now) (U.definitions new.now) }
 
-    // no more keysyms are pending than the bound says
+    // no more keysyms are pending than the bound
     ensures waits { result ≡ Verdict.Yes → Waits (U.definitions new.now) certificate.now.bound }
 
     // each character of the repertoire can be typed
@@ -84,7 +86,8 @@ pub fn check<T: ComposeTable, U: ComposeTable>(
     }
 }
 
-/// The fault of the first condition that the certificate does not meet. Every table is settled, so none has an overlap.
+/// Returns the fault of the first condition that the certificate does not meet. Every table is
+/// settled, so none has an overlap.
 fn first_fault<T: ComposeTable, U: ComposeTable>(
     old: &T,
     new: &U,

@@ -1,4 +1,4 @@
--- What is given out, read from the held bytes.
+-- What is returned depends only on the held bytes.
 use Rattle.std.proofs.Common.{◌≡◌, ℕ, List, ◌++◌, refl, sym, ◌∙◌, subst, arith}
 use Rattle.std.specs.Prelude.{Option, Some, None, Result, Ok, Err}
 use Rattle.compose_wire.specs.Messages.{Reply as ReplyValue}
@@ -27,7 +27,7 @@ module _ (held held' : List ℕ) where
       let short = begun.short b.whole in
       omega arith
 
-  -- held bytes that begin with the frame of a reply give that reply
+  -- if the held bytes begin with the frame of a reply, that reply is returned
   pub gives_reply : (result : Result (Option Reply) ReplyFault) → Gives result held held' → (r : ReplyValue) (more : List ℕ) → ReplyFits r → held ≡ reply_bytes r ++ more
       → GivesReply r more result held'
   gives_reply (Ok (Some reply)) so r more f e =
@@ -39,7 +39,7 @@ module _ (held held' : List ℕ) where
   gives_reply (Err BadPayload) so r more f e = absurd (so.0.no_reply (r, more, f, e))
   gives_reply (Err NoMemory) so r more f e = absurd so.0
 
-  -- held bytes whose head has a fault give that fault
+  -- if the head of the held bytes has a fault, that fault is returned
   pub gives_fault : (result : Result (Option Reply) ReplyFault) → Gives result held held' → (fault : Fault) → head_fault held ≡ Some fault → result ≡ Err (reply_fault fault)
   gives_fault (Ok (Some reply)) so fault w = absurd (no_reply held fault w (so.value, held', so.fits, so.bytes))
   gives_fault (Ok None) so fault w = let n : None ≡ Some fault = sym so.0.head ∙ w in cc
@@ -48,7 +48,7 @@ module _ (held held' : List ℕ) where
   gives_fault (Err BadPayload) so fault w = let n : None ≡ Some fault = sym so.0.head ∙ w in cc
   gives_fault (Err NoMemory) so fault w = absurd so.0
 
-  -- held bytes with a payload that no reply has give that fault
+  -- if the held bytes have a payload that no reply has, that fault is returned
   pub gives_bad_payload : (result : Result (Option Reply) ReplyFault) → Gives result held held' → HasBadPayload held → result ≡ Err BadPayload
   gives_bad_payload (Ok (Some reply)) so b = absurd (b.no_reply (so.value, held', so.fits, so.bytes))
   gives_bad_payload (Ok None) so b = absurd (begun_or_bad so.0 b)
@@ -57,7 +57,7 @@ module _ (held held' : List ℕ) where
   gives_bad_payload (Err BadPayload) so b = refl
   gives_bad_payload (Err NoMemory) so b = absurd so.0
 
-  -- held bytes that are less than a reply, and have no fault, give nothing
+  -- if the held bytes are less than a reply and have no fault, nothing is returned
   pub gives_none : (result : Result (Option Reply) ReplyFault) → Gives result held held' → IsReplyBegun held → result ≡ Ok None
   gives_none (Ok (Some reply)) so b = absurd (begun_or_reply b (so.value, held', so.fits, so.bytes))
   gives_none (Ok None) so b = refl

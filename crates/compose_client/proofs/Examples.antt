@@ -28,7 +28,7 @@ third_load = refl
 a_request : head_fault (2 ∷ []) ≡ Some unknown_kind
 a_request = refl
 
--- eight bytes of a head are not judged; Opened has no payload
+-- eight bytes of a head are not checked; Opened has no payload
 half_a_head : head_fault (0x81 ∷ 0 ∷ 0 ∷ 0 ∷ 7 ∷ 0 ∷ 0 ∷ 0 ∷ []) ≡ None
 half_a_head = refl
 

@@ -1,4 +1,4 @@
--- The reply that bytes begin with.
+-- The reply at the beginning of the bytes.
 use Rattle.std.proofs.Common.{◌≡◌, ℕ, ◌+◌, ◌*◌, ◌<◌, ◌≤◌, ◌^◌, List, [], ◌∷◌, ◌++◌, length, take, drop, get_or, refl, sym, ◌∙◌, ap, subst, arith, length-append, Fits, w8}
 use Rattle.std.proofs.Math.Facts.{Fits-lt-pow}
 use Rattle.std.specs.Int.{to_be_bytes, from_be_bytes, w32}
@@ -14,7 +14,7 @@ use Rattle.compose_client.specs.Replies.{ReplyFits, BeginsWithReply, HasBadPaylo
 use Rattle.compose_client.specs.Giving.{answer_at, reply_at, IsSize, ReadsAnswer, GivesOut}
 use Rattle.compose_client.proofs.OneReply.{answer_again, length_again}
 
--- the reply that the bytes begin with is read from them
+-- the reply with which the bytes begin is read from them
 pub record IsRead (bytes : List ℕ) : Type 0 where
   pub fits : ReplyFits (reply_at bytes)
   pub kind : answer_kind (reply_at bytes).answer ≡ get_or bytes 0 0
@@ -57,11 +57,11 @@ module _ (r : Reply) (more : List ℕ) (f : ReplyFits r) where
     long = within;
   }
 
--- the reply with whose frame bytes begin is the one that is read of them
+-- if bytes begin with the frame of a reply, that reply is read from them
 pub is_read : (bytes : List ℕ) → BeginsWithReply bytes → IsRead bytes
 is_read bytes b = subst (λ (h : List ℕ). IsRead h) (sym b.3) (read_again b.0 b.1 b.2)
 
--- the four bytes behind the kind are the session
+-- the four bytes after the kind are the session
 pub session_read : (h : List ℕ) → 9 ≤ length h → get_or h 1 0 * 16777216 + get_or h 2 0 * 65536 + get_or h 3 0 * 256 + get_or h 4 0 ≡ from_be_bytes w32 (take 4 (drop 1 h))
 session_read [] l = absurd (omega arith)
 session_read (k ∷ []) l = absurd (omega arith)
@@ -79,19 +79,19 @@ session_small h f session reads =
     let d : get_or h 4 0 < 2 ^ 8 = Fits-lt-pow (f 4) in
     omega arith
 
--- where the head of a frame says that so many bytes of payload stand, and they do
+-- if there are as many bytes of payload as the head requires
 module _ (h : List ℕ) (n : ℕ) (sized : IsSize (Ok (Some n)) h) where
   prefix_said : (BeginsWithReply h) → reply_bytes (reply_at h) ≡ take (9 + n) h
   prefix_said b = (is_read h b).prefix ∙ ap (λ m. take (9 + m) h) (sym sized.1)
 
-  -- a whole frame with a right head that is no reply's has a bad payload
+  -- a whole frame whose head has no fault, but that is no reply's, has a bad payload
   pub bad_payload : (BeginsWithReply h → ⊥) → HasBadPayload h
   bad_payload none =
       let said = sized.1 in
       let long = sized.2 in
       record { head = sized.0; whole = omega arith; said = omega arith; no_reply = none }
 
-  -- no answer was read
+  -- if no answer was read, the payload is bad
   pub not_read : ReadsAnswer None (get_or h 0 0) (take n (drop 9 h)) → HasBadPayload h
   not_read none =
       bad_payload (λ b.
@@ -108,15 +108,15 @@ module _ (h : List ℕ) (n : ℕ) (sized : IsSize (Ok (Some n)) h) where
       same_answer : answer_at (get_or h 0 0) (take n (drop 9 h)) ≡ (reply_at h).answer
       same_answer = ap (λ m. answer_at (get_or h 0 0) (take m (drop 9 h))) sized.1
 
-      -- the session and the answer that are read of a whole frame are its reply
+      -- the session and the answer that are read from a whole frame are those of its reply
       pub says : SaysReply (record { session = session; answer = answer }) (reply_at h)
       says = (same_session, subst (λ (v : Answer). SaysAnswer answer v) same_answer read.0)
 
-      -- what was read has another frame than these bytes
+      -- if what was read has another frame than these bytes, their payload is bad
       pub other_frame : (reply_bytes (reply_at h) ≡ take (9 + n) h → ⊥) → HasBadPayload h
       other_frame other = bad_payload (λ b. other (prefix_said b))
 
-      -- what was read has this frame
+      -- if what was read has this frame, it is returned
       pub given : session < 2 ^ 32 → reply_bytes (reply_at h) ≡ take (9 + n) h → GivesOut (record { session = session; answer = answer }) h (drop (9 + n) h)
       given small same = record {
         value = reply_at h;

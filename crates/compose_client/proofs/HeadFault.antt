@@ -1,4 +1,4 @@
--- What is wrong with a head, and stays so.
+-- The fault of a head stays.
 use Rattle.std.proofs.Common.{◌≡◌, ℕ, ◌+◌, ◌≤◌, List, [], ◌∷◌, ◌++◌, Bool, true, false, cond, not, length, take, drop, inl, inr, refl, sym, ◌∙◌, ap, ap₂, arith, length-append, length-drop}
 use Rattle.std.specs.Prelude.{◌&&◌, Option, Some, None, nat_lt}
 use Rattle.std.specs.Int.{to_be_bytes, from_be_bytes, w32}
@@ -42,7 +42,7 @@ right_length (refused why) f = refl
 eight_bytes : (s l : ℕ) (p x : List ℕ) → nat_lt (length ((to_be_bytes w32 s ++ to_be_bytes w32 l ++ p) ++ x)) 8 ≡ false
 eight_bytes s l p x = le-ltb (length ((to_be_bytes w32 s ++ to_be_bytes w32 l ++ p) ++ x)) 8 (omega arith)
 
--- the fault of a kind and the bytes behind it, by the two tests
+-- the fault of a kind and the bytes after it, by the two tests
 told : ℕ → List ℕ → Bool → Bool → Option Fault
 told kind rest known short = cond (not known) (Some unknown_kind) (cond short None (cond (is_reply_length kind (from_be_bytes w32 (take 4 (drop 4 rest)))) None (Some bad_length)))
 
@@ -60,13 +60,13 @@ no_fault r x f =
 
 -- ---- a fault stays
 
--- four bytes that stand are not changed by those that follow
+-- four bytes are not changed by those that follow
 four_stay : (n : ℕ) (rest more : List ℕ) → n + 4 ≤ length rest → take 4 (drop n (rest ++ more)) ≡ take 4 (drop n rest)
 four_stay n rest more l =
     let long : 4 ≤ length (drop n rest) = omega (arith, length-drop n rest) in
     ap (take 4) (drop-append-le n rest more (omega arith)) ∙ take-append-le 4 (drop n rest) more long
 
--- a whole head is judged the same, whatever follows
+-- a whole head has the same fault, whatever follows
 head_same : (kind : ℕ) (rest more : List ℕ) → 8 ≤ length rest → head_fault ((kind ∷ rest) ++ more) ≡ head_fault (kind ∷ rest)
 unfolding told
 head_same kind rest more l =
@@ -75,7 +75,7 @@ head_same kind rest more l =
     ∙ ap (λ bytes. cond (not (is_reply_kind kind)) (Some unknown_kind) (cond (nat_lt (length rest) 8) None (cond (is_reply_length kind (from_be_bytes w32 bytes)) None (Some bad_length))))
     (four_stay 4 rest more l)
 
--- the fault of a head stays where more bytes come
+-- the fault of a head stays if more bytes come
 pub head_stays : (held more : List ℕ) (fault : Fault) → head_fault held ≡ Some fault → head_fault (held ++ more) ≡ Some fault
 unfolding told
 head_stays [] more fault e = cc
@@ -101,7 +101,7 @@ head_still : (held more : List ℕ) → 9 ≤ length held → head_fault held �
 head_still [] more l e = absurd (omega arith)
 head_still (kind ∷ rest) more l e = head_same kind rest more (omega arith) ∙ e
 
--- where a whole frame stands, a reply that begins with it and more begins with it
+-- if there is a whole frame, a reply that begins these bytes and more begins these bytes
 cut_back : (held more : List ℕ) → 9 ≤ length held → 9 + size_said held ≤ length held → BeginsWithReply (held ++ more) → BeginsWithReply held
 cut_back held more whole said b =
     let r = is_read (held ++ more) b in
@@ -110,7 +110,7 @@ cut_back held more whole said b =
     let prefix : reply_bytes (reply_at (held ++ more)) ≡ take n held = r.prefix ∙ ap (λ m. take (9 + m) (held ++ more)) size ∙ take-append-le n held more said in
     (reply_at (held ++ more), drop n held, r.fits, sym (take-append-drop n held) ∙ ap (λ y. y ++ drop n held) (sym prefix))
 
--- a payload that no reply has stays one where more bytes come
+-- a payload that no reply has stays one if more bytes come
 pub payload_stays : (held more : List ℕ) → HasBadPayload held → HasBadPayload (held ++ more)
 payload_stays held more b =
     let size : size_said (held ++ more) ≡ size_said held = ap (from_be_bytes w32) (four_stay 5 held more b.whole) in

@@ -1,4 +1,4 @@
--- A reply's bytes say which reply it is, and where it ends.
+-- The bytes of a reply's frame determine the reply and where it ends.
 use Rattle.std.proofs.Common.{◌≡◌, ℕ, ◌≤◌, Bool, true, false, List, [], ◌∷◌, ◌++◌, length, flat_map, refl, sym, ◌∙◌, ap, ap₂, arith}
 use Rattle.std.specs.Prelude.{◌==◌, if◌then◌else◌}
 use Rattle.std.specs.Int.{to_be_bytes, from_be_bytes, w16, w32}
@@ -51,7 +51,7 @@ answer_again (loaded count) f = ap loaded (from_be_bytes-to_be_bytes_8 count f)
 answer_again (state status pending) f = ap₂ state (status_again status) (keysyms_again pending f.0)
 answer_again (refused why) f = ap refused (refusal_again why)
 
--- what is said has at most 257 bytes
+-- the payload of an answer has at most 257 bytes
 pub payload_short : (v : Answer) → AnswerFits v → length (answer_payload v) ≤ 257
 payload_short opened f = omega arith
 payload_short (fed status accepted text) f = let few = f.1 in omega arith
@@ -65,7 +65,7 @@ payload_short (refused why) f = omega arith
 pub length_again : (v : Answer) → AnswerFits v → from_be_bytes w32 (to_be_bytes w32 (length (answer_payload v))) ≡ length (answer_payload v)
 length_again v f = let short = payload_short v f in from_be_bytes-to_be_bytes_4 (length (answer_payload v)) (omega arith)
 
--- bytes begin with the frame of at most one reply, and are the same behind it
+-- bytes begin with the frame of at most one reply, and what follows it is the same
 pub one_reply : (q r : Reply) (x y : List ℕ) → ReplyFits q → ReplyFits r → reply_bytes q ++ x ≡ reply_bytes r ++ y → (q ≡ r) × (x ≡ y)
 one_reply q r x y f g e =
     let kinds : answer_kind q.answer ≡ answer_kind r.answer = cc in

@@ -1,4 +1,4 @@
--- What is given out of the bytes that are held.
+-- What is returned of the bytes that are held.
 use Rattle.std.specs.Prelude.{◌≡◌, ℕ, ◌+◌, ◌==◌, ◌<◌, ◌≤◌, List, [], ◌∷◌, ◌++◌, length, take, drop, slice_index, if◌then◌else◌, Option, Some, None, Result, Ok, Err}
 use Rattle.std.specs.Int.{from_be_bytes, w16, w32, w64}
 use Rattle.compose_model.specs.declared.Status.{Status}
@@ -12,37 +12,38 @@ use Rattle.compose_client.specs.Replies.{AnswerFits, ReplyFits, head_fault, HasB
 use Rattle.compose_client.specs.declared.fault.ReplyFault.{ReplyFault}
 use Rattle.compose_client.specs.declared.fault.ReplyFault.TheVariants.{UnknownKind, BadLength, BadPayload, NoMemory}
 
--- the held bytes were the frame of this reply and what is held now
+-- the held bytes were the frame of this reply, followed by what is held now
 pub record GivesOut (reply : Reply) (held held' : List ℕ) : Type 0 where
   pub value : ReplyValue
   pub says : SaysReply reply value
   pub fits : ReplyFits value
   pub bytes : held ≡ reply_bytes value ++ held'
 
--- the fault is that of the held bytes; no reply wants memory
+-- the fault is that of the held bytes; no reply needs memory
 abbrev pub IsFaultOf : List ℕ → ReplyFault → Type 0
 IsFaultOf held UnknownKind = head_fault held ≡ Some unknown_kind
 IsFaultOf held BadLength = head_fault held ≡ Some bad_length
 IsFaultOf held BadPayload = HasBadPayload held
 IsFaultOf held NoMemory = ⊥
 
--- what is given out of the held bytes, and what is held after that: the reply whose frame they begin with; else all is held as before
+-- the result for the held bytes, and what is held after it: if they begin with a reply's frame, the reply is returned;
+-- else all is held as before
 abbrev pub Gives : Result (Option Reply) ReplyFault → List ℕ → List ℕ → Type 0
 Gives (Ok (Some reply)) held held' = GivesOut reply held held'
 Gives (Ok None) held held' = IsReplyBegun held × (length held < max_reply) × (held' ≡ held)
 Gives (Err fault) held held' = IsFaultOf held fault × (held' ≡ held)
 
--- what is given out where the bytes begin with a reply's frame: the reply
+-- the result if the bytes begin with a reply's frame: the reply
 abbrev pub GivesReply : ReplyValue → List ℕ → Result (Option Reply) ReplyFault → List ℕ → Type 0
 GivesReply r more (Ok (Some reply)) held' = SaysReply reply r × (held' ≡ more)
 GivesReply r more _ held' = ⊥
 
--- how the program names a fault of a head, which is never too long
+-- the program's name of a fault of a head, which is never too long
 abbrev pub reply_fault : Fault → ReplyFault
 reply_fault unknown_kind = UnknownKind
 reply_fault _ = BadLength
 
--- ---- the parts: words for private functions
+-- ---- the parts: definitions for the contracts of private functions
 
 -- the status of a byte
 abbrev pub status_at : ℕ → Status
@@ -60,7 +61,7 @@ abbrev pub keysyms_at : List ℕ → List ℕ
 keysyms_at (a ∷ b ∷ c ∷ d ∷ rest) = from_be_bytes w32 (a ∷ b ∷ c ∷ d ∷ []) ∷ keysyms_at rest
 keysyms_at _ = []
 
--- the answer of a kind and a payload, where they are an answer's
+-- the answer of a kind and a payload, if an answer has them
 abbrev pub answer_at : ℕ → List ℕ → AnswerValue
 answer_at kind bytes =
     if kind == 0x82 then fed (status_at (slice_index bytes 0)) (slice_index bytes 1 == 1) (drop 2 bytes) else
@@ -68,30 +69,30 @@ answer_at kind bytes =
     if kind == 0x86 then state (status_at (slice_index bytes 0)) (keysyms_at (drop 2 bytes)) else
     if kind == 0xff then refused (refusal_at (from_be_bytes w16 bytes)) else opened
 
--- the reply that the bytes begin with, where they begin with one
+-- the reply with which the bytes begin, if they begin with one
 abbrev pub reply_at : List ℕ → ReplyValue
 reply_at held = record {
   session = from_be_bytes w32 (take 4 (drop 1 held));
   answer = answer_at (slice_index held 0) (take (size_said held) (drop 9 held));
 }
 
--- what a right length is, by the kind of a reply, and at most
+-- the lengths that fit a kind of reply, and the largest length
 abbrev pub HasLength : ℕ → ℕ → Type 0
 HasLength kind n = (kind ≡ 0x82 → 2 ≤ n) × (kind ≡ 0x85 → n ≡ 8) × (kind ≡ 0x86 → (2 ≤ n) × (n ≤ 126)) × (kind ≡ 0xff → n ≡ 2) × (n ≤ 257)
 
--- the answer is that of the kind and the payload, and fits; none where no answer that fits has this kind and this payload
+-- the answer is that of the kind and the payload, and fits; none if no answer that fits has this kind and this payload
 abbrev pub ReadsAnswer : Option Answer → ℕ → List ℕ → Type 0
 ReadsAnswer (Some answer) kind bytes = SaysAnswer answer (answer_at kind bytes) × AnswerFits (answer_at kind bytes)
 ReadsAnswer None kind bytes = (v : AnswerValue) → AnswerFits v → answer_kind v ≡ kind → answer_payload v ≡ bytes → ⊥
 
--- the length of the payload, where a whole frame stands
+-- the length of the payload, if there is a whole frame
 abbrev pub IsSize : Result (Option ℕ) ReplyFault → List ℕ → Type 0
 IsSize (Ok (Some size)) held = (head_fault held ≡ None) × (size ≡ size_said held) × (9 + size ≤ length held) × HasLength (slice_index held 0) size
 IsSize (Ok None) held = IsReplyBegun held × (length held < max_reply)
 IsSize (Err BadPayload) held = ⊥
 IsSize (Err fault) held = IsFaultOf held fault
 
--- the first reply of the held bytes, and how many bytes its frame has
+-- the first reply of the held bytes, and the number of bytes of its frame
 abbrev pub IsFirst : Result (Option (Reply × ℕ)) ReplyFault → List ℕ → Type 0
 IsFirst (Ok (Some first)) held = GivesOut first.0 held (drop first.1 held) × (first.1 ≤ length held)
 IsFirst (Ok None) held = IsReplyBegun held × (length held < max_reply)

@@ -1,4 +1,4 @@
--- Which replies there are, and what the bytes on a stream begin with (this project's protocol).
+-- Which replies exist, and the beginning of the bytes of a stream (this project's protocol).
 use Rattle.std.specs.Prelude.{◌≡◌, ℕ, Bool, not, ◌||◌, ◌==◌, ◌<◌, ◌≤◌, ◌^◌, ◌+◌, nat_lt, if◌then◌else◌, List, [], ◌∷◌, ◌++◌, length, take, drop, Option, Some, None, IsUtf8}
 use Rattle.std.specs.Int.{from_be_bytes, w32}
 use Rattle.std.specs.List.{AllByRecursion}
@@ -6,13 +6,13 @@ use Rattle.compose_text.specs.Numbers.{is_between}
 use Rattle.compose_wire.specs.Messages.{Answer, fed, loaded, state, Reply}
 use Rattle.compose_wire.specs.Frames.{reply_bytes, Fault, unknown_kind, bad_length, size_said}
 
--- ---- which replies there are
+-- ---- which replies exist
 
 -- numbers of keysyms
 abbrev pub AreKeysyms : List ℕ → Type 0
 AreKeysyms ks = AllByRecursion (λ k. k ≤ 0x1fffffff) ks
 
--- a text is UTF-8 of at most 255 bytes, a count has eight bytes, and at most 31 keysyms are pending
+-- a text is UTF-8 of at most 255 bytes, a count fits into eight bytes, and at most 31 keysyms are pending
 abbrev pub AnswerFits : Answer → Type 0
 AnswerFits (fed status accepted text) = IsUtf8 text × (length text ≤ 255)
 AnswerFits (loaded count) = count < 2 ^ 64
@@ -40,7 +40,8 @@ is_reply_length kind n =
     if kind == 0x82 then is_between 2 257 n else if kind == 0x85 then n == 8 else
     if kind == 0x86 then is_between 2 126 n else if kind == 0xff then n == 2 else n == 0
 
--- what is wrong with the head of the next frame: an unknown kind as soon as it stands, a wrong length as soon as the nine bytes stand
+-- the fault in the head of the next frame: an unknown kind from the first byte on, a wrong length from the nine bytes
+-- of the head on
 abbrev pub head_fault : List ℕ → Option Fault
 head_fault [] = None
 head_fault (kind ∷ rest) =
@@ -48,18 +49,18 @@ head_fault (kind ∷ rest) =
     if nat_lt (length rest) 8 then None else
     if is_reply_length kind (from_be_bytes w32 (take 4 (drop 4 rest))) then None else Some bad_length
 
--- so many bytes stand as the head says, nothing is wrong with the head, and yet no reply has this frame
+-- there are as many bytes as the head requires, and the head has no fault, but no reply has this frame
 pub record HasBadPayload (bytes : List ℕ) : Type 0 where
   pub head : head_fault bytes ≡ None
   pub whole : 9 ≤ length bytes
   pub said : 9 + size_said bytes ≤ length bytes
   pub no_reply : BeginsWithReply bytes → ⊥
 
--- the bytes, if there are any, are less than a head, or less than the head says; nothing is wrong with them
+-- the bytes, perhaps none, are less than a head, or less than the head requires; they have no fault
 pub record IsReplyBegun (bytes : List ℕ) : Type 0 where
   pub head : head_fault bytes ≡ None
   pub short : 9 ≤ length bytes → length bytes < 9 + size_said bytes
 
--- the greatest frame of a reply
+-- the length of the largest frame of a reply
 abbrev pub max_reply : ℕ
 max_reply = 266

@@ -1,4 +1,4 @@
-//! What a reply says is read from its payload.
+//! Reading the answer of a reply from its payload.
 ghost use Rattle.std.specs.Prelude.{◌≡◌, ◌≤◌, length, MatchOption};
 ghost use Rattle.compose_client.specs.Replies.{AreKeysyms};
 ghost use Rattle.compose_client.specs.Giving.{status_at, keysyms_at, HasLength, ReadsAnswer};
@@ -8,7 +8,7 @@ use compose_model::Status;
 use compose_wire::Answer;
 use keysym_core::Keysym;
 
-/// The status of a byte; one above 3 is read as 3.
+/// Returns the status of a byte; a byte above 3 is read as 3.
 fn read_status(byte: u8) -> Status
     ensures { result ≡ status_at byte }
 {
@@ -20,7 +20,7 @@ fn read_status(byte: u8) -> Status
     }
 }
 
-/// What is said of a key; none where the text is not UTF-8.
+/// Reads the answer to a key; `None` if the text is not UTF-8.
 fn read_fed(payload: &[u8]) -> Option<Answer>
     requires some { 2 ≤ length payload.now }
     requires few { length payload.now ≤ 257 }
@@ -33,7 +33,7 @@ fn read_fed(payload: &[u8]) -> Option<Answer>
     Some(Answer::Fed(read_status(payload[0]), payload[1] == 1, text))
 }
 
-/// How many loads were accepted.
+/// Reads the number of loads that were accepted.
 fn read_loaded(payload: &[u8]) -> Answer
     requires { length payload.now ≡ 8 }
     ensures { ReadsAnswer (Some result) 0x85 payload.now }
@@ -44,7 +44,8 @@ fn read_loaded(payload: &[u8]) -> Answer
     ]))
 }
 
-/// The keysyms of four bytes each; none where one is above the greatest keysym. Bytes of less than a keysym at the end are passed over.
+/// Reads keysyms of four bytes each; `None` if one is above the largest keysym. Fewer than four
+/// bytes at the end are ignored.
 fn read_keysyms(bytes: &[u8]) -> Option<ArrayVec<Keysym, 31>>
     requires { length bytes.now ≤ 124 }
     ensures { MatchOption result (¬ (AreKeysyms (keysyms_at bytes.now)))
@@ -63,7 +64,7 @@ fn read_keysyms(bytes: &[u8]) -> Option<ArrayVec<Keysym, 31>>
     Some(keysyms)
 }
 
-/// Where a session stands; none where a keysym is too great.
+/// Reads the state of a session; `None` if a keysym is too large.
 fn read_state(payload: &[u8]) -> Option<Answer>
     requires some { 2 ≤ length payload.now }
     requires few { length payload.now ≤ 126 }
@@ -75,7 +76,7 @@ fn read_state(payload: &[u8]) -> Option<Answer>
     Some(Answer::State(read_status(payload[0]), pending))
 }
 
-/// Why a request was refused; none where there is no such reason.
+/// Reads the code of a refusal; `None` if no refusal has this code.
 fn read_refused(payload: &[u8]) -> Option<Answer>
     requires { length payload.now ≡ 2 }
     ensures { ReadsAnswer result 0xff payload.now }
@@ -87,10 +88,10 @@ fn read_refused(payload: &[u8]) -> Option<Answer>
     Some(Answer::Refused(code))
 }
 
-/// What a payload of this kind says.
+/// Reads the answer from a payload of this kind.
 ///
-/// None only where no reply has this kind and payload. Bytes that no reply has may be read as those of another one: whoever calls
-/// compares. Takes no memory; linear in the payload.
+/// `None` only if no reply has this kind and payload. Bytes that no reply has may be read as
+/// another reply, so the caller has to compare. Allocates nothing; linear in the payload.
 pub(crate) fn read_answer(kind: u8, payload: &[u8]) -> Option<Answer>
     requires { HasLength kind (length payload.now) }
     ensures { ReadsAnswer result kind payload.now }

@@ -1,4 +1,4 @@
-//! Why a request is not written, and why no reply is given out.
+//! Why a request can't be written, and why a feeder fails.
 ghost use Rattle.std.specs.Prelude.{◌≡◌};
 ghost use Rattle.compose_client.specs.declared.fault.RequestFault.TheVariants as request_faults;
 ghost use Rattle.compose_client.specs.declared.fault.ReplyFault.TheVariants as reply_faults;
@@ -6,13 +6,13 @@ ghost use Rattle.compose_client.specs.declared.fault.ReplyFault.TheVariants as r
 use std::alloc::AllocError;
 use thiserror::Error;
 
-/// Why a request is not written.
+/// Why a request can't be written.
 #[derive(Clone, Copy, Debug, PartialEq, Eq, Drop, Error)]
 pub enum RequestFault {
-    /// It is a load of more than 8,388,608 bytes.
+    /// It is a load with a payload of more than 8,388,608 bytes.
     #[error("1 TooLong")]
     TooLong,
-    /// The memory for its frame was refused.
+    /// The memory for its frame could not be allocated.
     #[error("2 NoMemory")]
     NoMemory,
 }
@@ -25,19 +25,19 @@ impl From<AllocError> for RequestFault {
     }
 }
 
-/// Why a feeder takes no piece, or gives out no reply.
+/// Why a feeder can't take a piece or return a reply.
 #[derive(Clone, Copy, Debug, PartialEq, Eq, Drop, Error)]
 pub enum ReplyFault {
-    /// The next frame's first byte is no reply's kind.
+    /// The first byte of the next frame is not the kind of a reply.
     #[error("1 UnknownKind")]
     UnknownKind,
-    /// The next frame's length is not its kind's.
+    /// The length of the next frame doesn't fit its kind.
     #[error("2 BadLength")]
     BadLength,
-    /// The next frame's payload is no reply's.
+    /// No reply has the payload of the next frame.
     #[error("3 BadPayload")]
     BadPayload,
-    /// A growth of the memory was refused.
+    /// A memory allocation failed.
     #[error("4 NoMemory")]
     NoMemory,
 }

@@ -1,4 +1,4 @@
-//! What holds the bytes that come back until a whole reply stands.
+//! A buffer for the bytes that come back, which are returned as replies, a whole frame at a time.
 ghost use Rattle.std.specs.Prelude.{◌≡◌, ◌+◌, ◌≤◌, ◌++◌, ℕ, List, [], length, drop, vec_len, Some, None, Ok, Err, OnOk, OnErr, IsOk, IsOkUnless};
 ghost use Rattle.compose_wire.specs.Messages as words;
 ghost use Rattle.compose_wire.specs.Frames.{Fault, reply_bytes};
@@ -11,15 +11,17 @@ use compose_wire::Reply;
 use std::alloc::Global;
 use std::marker::Model;
 
-/// The room that a buffer may keep for nothing is four times this.
+/// A buffer is not made smaller if it has at most four times this many bytes.
 const SPARE: usize = 16_384;
 
-/// The bytes of a stream that were taken in and not yet given out as replies.
+/// The bytes of a stream that were received and not yet returned as replies.
 ///
-/// They stand in one buffer, behind those that were given out and are not yet dropped; there are never more of these than are held.
-/// When half of the buffer is given out, the rest moves to the beginning, and a buffer four times as large as that needs is made smaller.
-/// So each byte is moved a bounded number of times on the average, however small the pieces are, and the memory is at most some
-/// eight times what is held, but for 64 KiB.
+/// They are kept in one buffer, after bytes that were returned but not yet dropped; there are never
+/// more of these than of the others. When half of the buffer was returned, the rest moves to the
+/// beginning, and a buffer more than four times as large as the rest (or as 16 KiB) shrinks to
+/// twice that. So each byte is moved a bounded number of times on average, however small the pieces
+/// are, and beyond 64 KiB the buffer is at most about eight times as large as the bytes in it that
+/// were not returned yet.
 #[derive(Debug, Drop)]
 pub struct ReplyFeeder {
     buffer: Vec<u8>,
@@ -37,7 +39,7 @@ impl Model for ReplyFeeder {
 }
 
 impl ReplyFeeder {
-    /// A feeder that holds nothing, without memory yet. O(1).
+    /// Returns an empty feeder, which has no memory yet. O(1).
     pub fn new(alloc: Global) -> ReplyFeeder
         ensures { result ≡ [] }
     {
@@ -47,10 +49,11 @@ impl ReplyFeeder {
         }
     }
 
-    /// Puts the whole piece behind the held bytes.
+    /// Appends the whole piece to the buffered bytes.
     ///
-    /// NoMemory where the growth that it wants is refused; then nothing changes. Linear in the piece, the growths of the buffer
-    /// spread over the bytes taken in.
+    /// Linear in the piece; the cost of growing the buffer is spread over the bytes received.
+    ///
+    /// Errors: `NoMemory` if the buffer can't grow; nothing changes then.
     pub fn feed(&mut self, piece: &[u8]) -> Result<(), ReplyFault>
         ensures ok { OnOk result (self.new ≡ self.old ++ piece.now) }
         ensures err { OnErr result (self.new ≡ self.old) }
@@ -61,11 +64,14 @@ impl ReplyFeeder {
         Ok(())
     }
 
-    /// The reply whose frame the held bytes begin with, which is taken away.
+    /// Returns the reply with whose frame the buffered bytes begin, and removes it; `None` if there
+    /// is less than a whole frame.
     ///
-    /// None where less than a frame is held. A fault where the held bytes begin with it: nothing changes, and each further call
-    /// answers the same; no reply's frame can come of these bytes, whatever follows. Takes no memory; O(1) on the average, a frame
-    /// having at most 266 bytes.
+    /// Allocates nothing; O(1) on average, since a frame has at most 266 bytes.
+    ///
+    /// Errors: `UnknownKind`, `BadLength` or `BadPayload` if the buffered bytes begin with such a
+    /// fault; nothing changes, and each further call returns the same: these bytes can't become the
+    /// frame of a reply, whatever follows.
     pub fn next_reply(&mut self) -> Result<Option<Reply>, ReplyFault>
         ensures so { Gives result self.old self.new }
         ensures reply { (r : words.Reply) (more : List ℕ) → ReplyFits r
@@ -78,7 +84,7 @@ impl ReplyFeeder {
         self.take_first()
     }
 
-    /// Takes the frame away that the held bytes begin with.
+    /// Removes the frame with which the buffered bytes begin.
     fn take_first(&mut self) -> Result<Option<Reply>, ReplyFault>
         ensures { Gives result self.old self.new }
     {
@@ -89,7 +95,7 @@ impl ReplyFeeder {
         Ok(Some(reply))
     }
 
-    /// How many bytes are held. O(1).
+    /// Returns the number of buffered bytes. O(1).
     pub fn held(&self) -> usize
         ensures { result ≡ length self.now }
     {
@@ -97,7 +103,8 @@ impl ReplyFeeder {
     }
 }
 
-/// Drops the bytes before the start where they are at least half of all, and gives the index at which the others begin now.
+/// Drops the bytes before `start` if they are at least half of all. Returns the index at which the
+/// others begin now.
 ///
 /// It moves no more bytes than it drops.
 fn drop_given(buffer: &mut Vec<u8>, start: usize) -> usize
@@ -117,7 +124,7 @@ fn drop_given(buffer: &mut Vec<u8>, start: usize) -> usize
     0
 }
 
-/// Moves the bytes behind the first ones to the beginning.
+/// Moves the bytes after the first `count` ones to the beginning.
 fn remove_prefix(buffer: &mut Vec<u8>, count: usize)
     requires { count ≤ vec_len buffer.old }
     ensures { buffer.new.items ≡ drop count buffer.old.items }

@@ -9,13 +9,14 @@ ghost use Rattle.compose_client.specs.Replies.{AreKeysyms, AnswerFits, ReplyFits
 use compose_wire::{Answer, Reply};
 use keysym_core::Keysym;
 
-/// No reply's frame is a prefix of another one, so bytes begin with this reply and no other.
+/// No frame of a reply is a prefix of another one, so no two replies begin the same bytes.
 pub fn law_one_reply()
     ensures { (r s : ReplyValue) (x y : List ℕ) → ReplyFits r → ReplyFits s
         → reply_bytes r ++ x ≡ reply_bytes s ++ y → (r ≡ s) × (x ≡ y) }
 {}
 
-/// A reply begins with no fault and stands whole; a fault stays, and so no reply can come of bytes that begin with one, whatever follows.
+/// The frame of a reply has no fault in its head, and is as long as its head requires. A fault
+/// stays a fault, so bytes that begin with one can't become a reply, whatever follows.
 pub fn law_reply_fault()
     ensures no_fault { (r : ReplyValue) (x : List ℕ) → ReplyFits r
         → head_fault (reply_bytes r ++ x) ≡ None }
@@ -28,7 +29,8 @@ pub fn law_reply_fault()
         → HasBadPayload (bytes ++ more) }
 {}
 
-/// Whatever a reply says fits a frame: so what `put_reply` writes of it is given out by `next_reply`. O(pending keysyms).
+/// Every reply fits into a frame, so `next_reply` returns what `put_reply` wrote. O(pending
+/// keysyms).
 pub fn law_replies_fit(reply: &Reply)
     ensures { (value : ReplyValue) → SaysReply reply.now value → ReplyFits value }
 {
@@ -36,7 +38,7 @@ pub fn law_replies_fit(reply: &Reply)
     answer_fits(&reply.answer);
 }
 
-/// Whatever an answer says fits a frame.
+/// Every answer fits into a frame.
 fn answer_fits(answer: &Answer)
     ensures { (value : words.Answer) → SaysAnswer answer.now value → AnswerFits value }
 {

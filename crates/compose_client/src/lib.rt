@@ -1,11 +1,13 @@
-//! A client of the typing service: requests written as frames, and replies read from a stream of bytes.
+//! A client of the typing service: requests written as frames, and replies read from a stream of
+//! bytes.
 //!
-//! `put_request` gives the bytes of a request. A `ReplyFeeder` takes the bytes that come back, in pieces of any size, and gives out
-//! each reply once its whole frame is held, and a fault as soon as the bytes begin with it.
+//! [`put_request`] returns the bytes of a request. A [`ReplyFeeder`] takes the bytes that come
+//! back, in pieces of any size, and returns each reply once its whole frame has arrived, and a
+//! fault as soon as the bytes begin with it.
 //!
 //! ```text
 //! 02 00000007 00000004 0000ff20   put_request: type the keysym 0xff20 in session 7
-//! 82 00000007 00000002 01 01      next_reply: session 7 is composing, the key was accepted, no text
+//! 82 00000007 00000002 01 01      next_reply: composing, the key was accepted, no text
 //! ```
 #![tactic(auto)]
 

@@ -1,4 +1,4 @@
-//! The reply that bytes begin with.
+//! The reply at the beginning of the bytes.
 ghost use Rattle.std.specs.Prelude.{◌≡◌, ◌≢◌, IsTrue, true, false};
 ghost use Rattle.compose_wire.specs.Messages as words;
 ghost use Rattle.compose_wire.specs.Frames.{reply_bytes};
@@ -11,15 +11,15 @@ use crate::fault::ReplyFault;
 use crate::request::HEAD;
 use compose_wire::{Reply, put_reply};
 
-/// Whether a reply has this kind. O(1).
+/// Returns whether replies of this kind exist. O(1).
 fn is_reply_kind(kind: u8) -> bool
     ensures { result ≡ replies.is_reply_kind kind }
 {
     matches!(kind, 0x81..=0x86 | 0xff)
 }
 
-/// Whether the payload of a reply of this kind may have this length: Fed has 2 to 257 bytes, Loaded eight, State 2 to 126, Refused
-/// two, and the others have none. O(1).
+/// Returns whether the payload of a reply of this kind may have this length: Fed has 2 to 257
+/// bytes, Loaded eight, State 2 to 126, Refused two, and the others have none. O(1).
 fn is_reply_length(kind: u8, size: u32) -> bool
     ensures value { result ≡ replies.is_reply_length kind size }
     ensures long { IsTrue result → HasLength kind size }
@@ -33,9 +33,10 @@ fn is_reply_length(kind: u8, size: u32) -> bool
     }
 }
 
-/// The length of the payload, where a whole frame stands by what its head says.
+/// Returns the length of the payload, if there is a whole frame by the length in its head, or
+/// `None` if there is less.
 ///
-/// None where less stands; an unknown kind is a fault as soon as it stands, and a wrong length as soon as the head does. O(1).
+/// O(1). Errors: `UnknownKind` from the first byte on, `BadLength` from the end of the head on.
 fn payload_size(held: &[u8]) -> Result<Option<usize>, ReplyFault>
     ensures { IsSize result held.now }
 {
@@ -58,7 +59,7 @@ fn payload_size(held: &[u8]) -> Result<Option<usize>, ReplyFault>
     Ok(Some(size as usize))
 }
 
-/// Whether the bytes are the frame of this reply.
+/// Returns whether the bytes are the frame of this reply.
 fn is_frame_of(bytes: &[u8], reply: &Reply) -> bool
     ensures yes { (value : words.Reply) → SaysReply reply.now value → result ≡ true
         → reply_bytes value ≡ bytes.now }
@@ -69,9 +70,10 @@ fn is_frame_of(bytes: &[u8], reply: &Reply) -> bool
     written.as_slice() == bytes
 }
 
-/// The reply that the bytes begin with, and how many bytes its frame has.
+/// Returns the reply at the beginning of the bytes, and the number of bytes of its frame.
 ///
-/// What was read is written again, and given out only where these are the bytes that stand. Takes no memory; at most 266 bytes are read.
+/// What was read is written again, and returned only if the bytes are the same. Allocates nothing;
+/// at most 266 bytes are read.
 pub(crate) fn first_reply(held: &[u8]) -> Result<Option<(Reply, usize)>, ReplyFault>
     ensures { IsFirst result held.now }
 {

@@ -1,4 +1,4 @@
-//! Requests are written as frames.
+//! Writing requests as frames.
 ghost use Rattle.std.specs.Prelude.{◌≡◌, ◌<◌, ◌≤◌, ◌↔◌, length, OnOk, IfOk};
 ghost use Rattle.compose_wire.specs.Messages.{Fits, AreBytes, max_payload};
 ghost use Rattle.compose_wire.specs.Frames.{frame, frame_of, payload as payload_of};
@@ -8,16 +8,19 @@ use crate::fault::RequestFault;
 use compose_wire::{Body, Request};
 use std::alloc::Global;
 
-/// The bytes of a frame before its payload: the kind, the session and the length.
+/// The length of a frame's head in bytes: the kind, the session and the length of the payload.
 pub(crate) const HEAD: usize = 9;
 
-/// The greatest payload of a load, in bytes.
+/// The largest payload of a load, in bytes.
 const MAX_PAYLOAD: usize = 8_388_608;
 
-/// The frame of a request: its kind, its session, the length of its payload and the payload, all numbers big-endian.
+/// Returns the frame of a request: its kind, its session, the length of its payload and the
+/// payload; all numbers are big-endian.
 ///
-/// TooLong exactly where a load has more than 8,388,608 bytes; NoMemory where the memory is refused. Linear in the payload; one
-/// allocation of the frame's size.
+/// Linear in the payload; one allocation of the frame's size.
+///
+/// Errors: `TooLong` exactly if a load has more than 8,388,608 bytes; `NoMemory` if memory runs
+/// out.
 pub fn put_request(alloc: Global, request: &Request) -> Result<Vec<u8>, RequestFault>
     ensures ok { IfOk result (λ bytes. bytes.items ≡ frame (request_of request.now)) }
     ensures fits { OnOk result (Fits (request_of request.now)) }
@@ -36,7 +39,7 @@ pub fn put_request(alloc: Global, request: &Request) -> Result<Vec<u8>, RequestF
     }
 }
 
-/// A frame of some kind with this payload.
+/// Returns a frame of this kind with this payload.
 fn with_payload(
     alloc: Global,
     kind: u8,

@@ -1,4 +1,4 @@
-//! `serve --at-once`: many connections to one service.
+//! `serve --at-once`: several connections to one service at once.
 ghost use Rattle.std.specs.Prelude.{None};
 
 use crate::connection_ends::EndLines;
@@ -28,7 +28,9 @@ impl<R: Print + Eprint + AllocGlobal> Report for EndLines<'_, R> {
     }
 }
 
-/// Serves as many connections as are asked for, up to `at_once` of them at a time, and prints how each ended.
+/// Serves the number of connections that the arguments give, up to `at_once` at a time, and prints
+/// how each ended. Returns how the run ends.
+/// Errors: a fault of the socket if it can't be served on; `NoMemory` if memory runs out.
 pub fn serve_many<S: Answer>(
     rt: &(impl Clock + Net + Print + Eprint + AllocGlobal),
     listener: UnixListener,
@@ -49,7 +51,7 @@ pub fn serve_many<S: Answer>(
     }
 }
 
-/// Serves the connections to a listener that doesn't wait.
+/// Serves the connections to a listener, which becomes nonblocking.
 fn poll_all<S: Answer, E: Report>(
     rt: &(impl Clock + Net + AllocGlobal),
     listener: UnixListener,
@@ -63,7 +65,7 @@ fn poll_all<S: Answer, E: Report>(
     serve_at_once(&mut sockets, rt.alloc(), service, limits, report)
 }
 
-/// Why connections can't be served: memory was refused, or anything else.
+/// Returns why connections can't be served: memory ran out, or a fault of the socket.
 fn unserved(alloc: Global, path: &str, kind: io::ErrorKind) -> Fault {
     match kind {
         io::ErrorKind::OutOfMemory => Fault::NoMemory,

@@ -1,5 +1,6 @@
-//! `load` and `session`: a client of a running service. What is sent, and what is printed of the replies, is in `compose_service_runs`; here are the
-//! socket and its bytes. An error is why what it was given can't be read, or is refused.
+//! `load` and `session`: a client of a running service. What is sent, and what is printed for the
+//! replies, is in `compose_service_runs`; here are the socket and its bytes. A function returns an
+//! error if its input can't be read or is refused, or if memory runs out.
 ghost use Rattle.std.specs.Prelude.{None};
 
 use compose_arguments::{LoadArguments, SessionArguments};
@@ -18,10 +19,13 @@ use std::io::{Read, Write};
 use std::net::Net;
 use std::os::unix::net::UnixStream;
 
-/// The most bytes that are read at once.
+/// The greatest number of bytes read at once.
 const PIECE: usize = 4096;
 
-/// Loads a new table into a running service.
+/// Loads a new table into a running service. Returns what is printed.
+/// Errors: the fault of the first file that can't be read or is refused; `Word` if a variable of
+/// the environment that is needed is not UTF-8; a fault of the socket or the connection; `NoMemory`
+/// if memory runs out.
 pub fn load_files<F: Folder>(
     rt: &(impl Net + AllocGlobal),
     files: &mut ReadOnce<F>,
@@ -32,7 +36,10 @@ pub fn load_files<F: Folder>(
     exchange(rt, arguments.socket, sent)
 }
 
-/// Loads this table into the service on the socket, by the certificate.
+/// Loads this table, with this certificate, into the service on the socket. Returns what is
+/// printed.
+/// Errors: a refusal if they don't fit into a load; a fault of the socket or the connection;
+/// `NoMemory` if memory runs out.
 pub fn load_outcome(
     rt: &(impl Net + AllocGlobal),
     socket: &str,
@@ -43,7 +50,9 @@ pub fn load_outcome(
     exchange(rt, socket, sent)
 }
 
-/// Types in a session of a running service.
+/// Types in a session of a running service. Returns what is printed.
+/// Errors: the fault of the first names file that can't be read; a fault of the socket or the
+/// connection; `NoMemory` if memory runs out.
 pub fn session_files<T: ComposeTable, F: Folder>(
     rt: &(impl Net + AllocGlobal),
     files: &mut ReadOnce<F>,
@@ -56,7 +65,8 @@ pub fn session_files<T: ComposeTable, F: Folder>(
     }
 }
 
-/// Sends the requests to the service on the socket at this path, and gives what is printed of the replies.
+/// Sends the requests to the service on the socket at this path. Returns what is printed for the
+/// replies.
 fn exchange(
     rt: &(impl Net + AllocGlobal),
     path: &str,
@@ -75,7 +85,7 @@ fn exchange(
     run_exchange(rt.alloc(), &mut connection, sent)
 }
 
-/// A connection to a service. No contract says what comes on it.
+/// A connection to a service. No contract describes what it receives.
 #[derive(Drop)]
 struct Connection {
     stream: UnixStream,
@@ -91,7 +101,8 @@ impl Peer for Connection {
     }
 }
 
-/// Sends a request. Where that fails the other side has closed, and what it sent before may still be read.
+/// Sends a request. If that fails, the other side has closed, and what it sent before can still be
+/// read.
 fn send(alloc: Global, mut stream: &UnixStream, request: &Request) -> Result<(), Fault> {
     match put_request(alloc, request) {
         Ok(frame) => {
@@ -103,7 +114,7 @@ fn send(alloc: Global, mut stream: &UnixStream, request: &Request) -> Result<(),
     }
 }
 
-/// The next reply; none where the other side closes before it.
+/// Returns the next reply, or `None` if the other side closes before it.
 fn receive(
     alloc: Global,
     mut stream: &UnixStream,

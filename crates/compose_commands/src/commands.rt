@@ -1,5 +1,6 @@
-//! The commands. Each that reads files and answers is a function over values (`compose_program`), whose outcome is printed here; a service and
-//! its clients (`compose_service_runs`) do more.
+//! The commands. Each command that reads files and answers is a function over values
+//! (`compose_program`), whose outcome is printed here; a service and its clients
+//! (`compose_service_runs`) do more.
 use crate::client::{load_files, session_files};
 use crate::environment::read_environment;
 use crate::output::{put, put_outcome};
@@ -16,7 +17,9 @@ use std::fs::File;
 use std::net::Net;
 use std::rt::{Clock, Env, Files};
 
-/// Does what is asked for. An error is why what it was given can't be read, or is refused; where it is printed here, it has this form.
+/// Runs the command, and returns how the run ends.
+/// Errors: why the input can't be read or is refused. What is printed here about a fault has the
+/// form `form`.
 pub fn answer<T: ComposeTable, F: Folder>(
     rt: &(impl Clock + Env + Files<File = File> + Net + Print + Eprint + AllocGlobal),
     files: &mut ReadOnce<F>,

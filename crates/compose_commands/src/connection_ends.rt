@@ -1,4 +1,5 @@
-//! The lines for the ends of connections, which are printed only where that does not keep the service waiting.
+//! The lines about the ends of connections. They are printed only if the service doesn't have to
+//! wait for that.
 use compose_answer::Ended;
 use compose_hub::ConnectionEnd;
 use compose_report::written;
@@ -9,10 +10,10 @@ use std::alloc::AllocError;
 use std::io;
 use std::io::ErrorKind;
 
-/// The number of standard output.
+/// The file descriptor of standard output.
 const STDOUT: i32 = 1;
 
-/// What is printed of the ends of connections, and how many of them could not be printed.
+/// Prints the ends of connections, and counts those that could not be printed.
 #[derive(Drop)]
 pub struct EndLines<'r, R> {
     rt: &'r R,
@@ -20,19 +21,21 @@ pub struct EndLines<'r, R> {
 }
 
 impl<'r, R: Print + Eprint + AllocGlobal> EndLines<'r, R> {
-    /// No end.
+    /// Returns a printer that has no unprinted ends.
     pub fn new(rt: &'r R) -> EndLines<'r, R> {
         EndLines { rt, unprinted: 0 }
     }
 
-    /// Prints how a connection ended, behind how many ends could not be printed before; or counts it.
+    /// Prints how a connection ended, after the number of ends that could not be printed before. If
+    /// it can't be printed now, counts it.
     pub fn print(&mut self, number: u32, how: ConnectionEnd) {
         let text = end_text(self.rt.alloc(), self.unprinted, number, how);
         let is_printed = print_text(self.rt, text).is_ok();
         self.unprinted = unprinted_after(self.unprinted, is_printed);
     }
 
-    /// Prints how many ends could not be printed, if it can be now; says whether there is nothing left for which it would help to wait.
+    /// Prints the number of ends that could not be printed, if that is possible now. Returns false
+    /// if it helps to wait and try again.
     pub fn catch_up_now(&mut self) -> bool {
         match self.print_unprinted() {
             Ok(()) => true,
@@ -40,7 +43,7 @@ impl<'r, R: Print + Eprint + AllocGlobal> EndLines<'r, R> {
         }
     }
 
-    /// Prints how many ends could not be printed.
+    /// Prints the number of ends that could not be printed.
     fn print_unprinted(&mut self) -> io::Result<()> {
         if self.unprinted > 0 {
             print_text(self.rt, unprinted_text(self.rt.alloc(), self.unprinted))?;
@@ -49,13 +52,17 @@ impl<'r, R: Print + Eprint + AllocGlobal> EndLines<'r, R> {
         Ok(())
     }
 
-    /// How a run ends whose last connection has ended: it is refused where not all ends are printed or counted in what is.
+    /// Returns how a run ends after its last connection: as refused if an end was neither printed
+    /// nor included in a printed number.
     pub fn finish(&mut self) -> Ended {
         written(self.rt, self.print_unprinted(), Ended::Yes)
     }
 }
 
-/// Prints a text that is no longer than two lines. Where standard output takes nothing now, that is an error, and nothing waits.
+/// Prints a text of at most two lines. If standard output accepts nothing now, returns an error
+/// instead of waiting.
+/// Errors: `WouldBlock` if standard output accepts nothing now; `OutOfMemory` if there is no text,
+/// as memory ran out; any error of printing.
 pub fn print_text(rt: &impl Print, text: Result<String, AllocError>) -> io::Result<()> {
     let text = text?;
     if !takes_output() {
@@ -64,7 +71,7 @@ pub fn print_text(rt: &impl Print, text: Result<String, AllocError>) -> io::Resu
     print!(rt; "{text}")
 }
 
-/// Whether standard output takes a short text now, or an error comes at once.
+/// Returns whether standard output accepts a short text now, or fails at once.
 fn takes_output() -> bool {
     let mut outputs = [pollfd {
         fd: STDOUT,

@@ -5,7 +5,9 @@ use std::env;
 use std::env::VarError;
 use std::rt::Env;
 
-/// The variables of the environment that commands look at. `is_terminal` says whether standard output is a terminal.
+/// Reads the variables of the environment that commands use. `is_terminal` says whether standard
+/// output is a terminal.
+/// Errors: `NoMemory` if memory runs out.
 pub fn read_environment(
     rt: &(impl Env + AllocGlobal),
     is_terminal: bool,
@@ -23,7 +25,7 @@ pub fn read_environment(
     })
 }
 
-/// A variable of the environment.
+/// Reads a variable of the environment.
 fn variable(rt: &(impl Env + AllocGlobal), name: &str) -> Result<Variable, Fault> {
     match env::var(rt, name) {
         Ok(value) => Ok(Variable::Set(value)),
@@ -33,7 +35,8 @@ fn variable(rt: &(impl Env + AllocGlobal), name: &str) -> Result<Variable, Fault
     }
 }
 
-/// What a variable of the environment is set to, if it is set to something.
+/// Returns the value of a variable of the environment, if it is set and not empty.
+/// Errors: `Word` if the value is not UTF-8; `NoMemory` if memory runs out.
 pub fn variable_text(rt: &(impl Env + AllocGlobal), name: &str) -> Result<Option<String>, Fault> {
     match variable(rt, name)? {
         Variable::Set(text) if !text.is_empty() => Ok(Some(text)),

@@ -1,5 +1,6 @@
-//! The program `composecheck` over any form of a table: arguments, files, sockets and exit statuses. A command that reads files and answers
-//! is a function over values of `compose_program`, and so are the beginning of a service and its clients of `compose_service_runs`; outcomes are
+//! The program `composecheck` over any form of a table: arguments, files, sockets and exit
+//! statuses. A command that reads files and answers is a function over values in `compose_program`;
+//! so are the start of a service and its clients, in `compose_service_runs`. Their outcomes are
 //! printed here. The arguments of the command line are in `compose_arguments`.
 //!
 //! ```text

@@ -9,8 +9,8 @@ use std::rt::Clock;
 use std::thread;
 use std::time::Duration;
 
-/// The next connection, once there is one. Where none can be accepted for another cause than its own, as too many open files, it is tried
-/// again after a second.
+/// Waits for the next connection and returns it. If it can't be accepted, and the cause is not the
+/// connection itself but, for example, too many open files, tries again after a second.
 pub fn next_connection<R: Clock + Print + Eprint + AllocGlobal>(
     rt: &R,
     listener: &UnixListener,
@@ -29,12 +29,12 @@ pub fn next_connection<R: Clock + Print + Eprint + AllocGlobal>(
     None
 }
 
-/// Whether only this connection can't be accepted.
+/// Returns whether the cause is the connection itself.
 fn is_its_own(kind: ErrorKind) -> bool {
     matches!(kind, ErrorKind::ConnectionAborted | ErrorKind::Interrupted)
 }
 
-/// Whether a connection waits within a second.
+/// Waits for at most a second, and returns whether a connection is ready.
 fn is_ready(listener: &UnixListener) -> bool {
     let mut listeners = [pollfd {
         fd: listener.as_raw_fd(),

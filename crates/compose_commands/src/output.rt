@@ -1,4 +1,4 @@
-//! Prints outcomes, and writes what is to be written to a file.
+//! Prints outcomes, and writes output files.
 use compose_answer::Ended;
 use compose_input::{Fault, Unopened};
 use compose_program::{FaultForm, fault_in_form};
@@ -6,7 +6,9 @@ use compose_report::{Outcome, no_memory, print, print_beside_file};
 use std::rt::Files;
 use std::{fs, io};
 
-/// Prints an outcome, if there is one, or writes its output to its file, whole or not at all, and gives how the run ends.
+/// Prints an outcome, if there is one, or writes its output to its file, whole or not at all.
+/// Returns how the run ends.
+/// Errors: the fault, if there is no outcome.
 pub fn put(
     rt: &(impl Files + Print + Eprint + AllocGlobal),
     form: FaultForm,
@@ -18,7 +20,7 @@ pub fn put(
     }
 }
 
-/// Prints an outcome; an output that has a file is written to it.
+/// Prints an outcome; if it has a file, its output is written there.
 pub fn put_outcome(
     rt: &(impl Files + Print + Eprint + AllocGlobal),
     form: FaultForm,
@@ -33,7 +35,8 @@ pub fn put_outcome(
     }
 }
 
-/// Prints in this form why what a command was given can't be read, or is refused, and gives how the run ends.
+/// Prints, in this form, why the input of a command can't be read or is refused. Returns how the
+/// run ends.
 pub fn put_fault(
     rt: &(impl Print + Eprint + AllocGlobal),
     form: FaultForm,
@@ -45,7 +48,7 @@ pub fn put_fault(
     }
 }
 
-/// Writes a text to a new file beside the path, which then takes the place of what was there.
+/// Writes a text to a new file beside the path, and renames it to the path.
 fn write_whole(rt: &(impl Files + AllocGlobal), path: &str, text: &str) -> Result<(), Fault> {
     let part = format!(in rt.alloc(); "{path}.part")?;
     match write_over(rt, &part, path, text) {
@@ -58,7 +61,7 @@ fn write_whole(rt: &(impl Files + AllocGlobal), path: &str, text: &str) -> Resul
     }
 }
 
-/// Writes a text to the part, which then takes the place of what was at the path.
+/// Writes a text to the file `part`, and renames it to the path.
 fn write_over(rt: &impl Files, part: &str, path: &str, text: &str) -> io::Result<()> {
     fs::write(rt, part, text)?;
     fs::rename(rt, part, path)

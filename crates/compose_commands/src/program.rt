@@ -18,10 +18,11 @@ use std::process::ExitCode;
 use std::rt::{Clock, Env, Files};
 use std::{env, io};
 
-/// Does what the arguments of the command line say, with tables in the form `T`, and gives the exit status: 0 where the answer is yes,
-/// made, follows, typed or served, 1 where it is no, differs or unreachable, 2 where the arguments or the input are refused or the output can't
-/// be written, 3 where memory was refused. The answer goes to standard output, why there is none to standard error. At the cost of the
-/// command over its files. `is_terminal` says whether standard output is a terminal.
+/// Runs the command of the command line, with tables in the form `T`, and returns the exit status:
+/// 0 if the answer is yes, made, follows, typed or served, 1 if it is no, differs or unreachable, 2
+/// if the arguments or the input are refused or the output can't be written, 3 if memory ran out.
+/// The answer goes to standard output, and why there is none to standard error. Takes the time of
+/// the command on its files. `is_terminal` says whether standard output is a terminal.
 pub fn run<T: ComposeTable>(
     rt: &(impl Clock + Env + Files<File = File> + Input + Net + Print + Eprint + AllocGlobal),
     process_id: u32,
@@ -36,7 +37,7 @@ pub fn run<T: ComposeTable>(
     exit_code(ended)
 }
 
-/// The arguments of the command line, the program's name among them.
+/// Returns the arguments of the command line, including the name of the program.
 fn read_arguments(rt: &(impl Env + Print + Eprint + AllocGlobal)) -> Result<Vec<String>, Ended> {
     match env::args(rt) {
         Ok(arguments) => arguments.collect(rt.alloc()).map_err(|_| no_memory(rt)),
@@ -47,7 +48,7 @@ fn read_arguments(rt: &(impl Env + Print + Eprint + AllocGlobal)) -> Result<Vec<
     }
 }
 
-/// Does what the arguments of the command line say.
+/// Runs the command that these arguments name.
 fn answer_arguments<T: ComposeTable>(
     rt: &(impl Clock + Env + Files<File = File> + Input + Net + Print + Eprint + AllocGlobal),
     process_id: u32,
@@ -60,7 +61,7 @@ fn answer_arguments<T: ComposeTable>(
     }
 }
 
-/// Does what a command asks for, over files of which each is opened once.
+/// Runs a command over files, each of which is opened once.
 fn answer_command<T: ComposeTable>(
     rt: &(impl Clock + Env + Files<File = File> + Input + Net + Print + Eprint + AllocGlobal),
     process_id: u32,
@@ -83,7 +84,7 @@ fn report_error(rt: &(impl Print + Eprint + AllocGlobal), error: &clap::Error) -
     }
 }
 
-/// The outcome of arguments that are no command.
+/// Returns the outcome of arguments that are not a command.
 fn error_outcome(alloc: Global, error: &clap::Error) -> Result<Outcome, AllocError> {
     let text = format!(in alloc; "{error}")?;
     arguments_outcome(alloc, error.kind(), &text)

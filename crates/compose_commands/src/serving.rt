@@ -1,5 +1,5 @@
-//! `serve`: a service on a socket, which prints a line as it begins and for each connection. An error is why what it was given can't be
-//! read, or is refused.
+//! `serve`: a service on a socket, which prints a line when it starts and one for each connection.
+//! A function returns an error if its input can't be read or is refused, or if memory runs out.
 use crate::at_once::serve_many;
 use crate::connection_ends::{EndLines, print_text};
 use crate::next_connection::next_connection;
@@ -23,7 +23,11 @@ use std::net::Net;
 use std::os::unix::net::UnixListener;
 use std::rt::{Clock, Env, Files};
 
-/// Serves typing sessions on a socket, one connection after another.
+/// Serves typing sessions on a socket, one connection after another or several at once. Returns how
+/// the run ends.
+/// Errors: the fault of the first file that can't be read or is refused; `Word` if a variable of
+/// the environment that is needed is not UTF-8; a fault of the socket; `NoMemory` if memory runs
+/// out.
 pub fn serve_files<T: ComposeTable, F: Folder>(
     rt: &(impl Clock + Env + Files + Net + Print + Eprint + AllocGlobal),
     files: &mut ReadOnce<F>,
@@ -43,7 +47,7 @@ pub fn serve_files<T: ComposeTable, F: Folder>(
     }
 }
 
-/// Serves on the socket, and then takes its file away where that is asked for.
+/// Serves on the socket, and then removes its file if `unlink` is set.
 fn serve_on_socket<T: ComposeTable>(
     rt: &(impl Clock + Env + Files + Net + Print + Eprint + AllocGlobal),
     process_id: u32,
@@ -59,8 +63,8 @@ fn serve_on_socket<T: ComposeTable>(
     Ok(ended)
 }
 
-/// Serves the connections to a listener, many at once or one after another. Where a connection may not be idle, one after another is one at
-/// once, since a service on a stream waits for its client.
+/// Serves the connections to a listener, several at once or one after another. If connections may
+/// not be idle, one after another is one at once, since a service on a stream waits for its client.
 fn serve_listener<T: ComposeTable>(
     rt: &(impl Clock + Net + Print + Eprint + AllocGlobal),
     listener: UnixListener,
@@ -74,7 +78,7 @@ fn serve_listener<T: ComposeTable>(
     }
 }
 
-/// The listener that systemd hands over, or else one on a new socket file.
+/// Returns the listener that systemd passes, or otherwise one on a new socket file.
 fn bind(
     rt: &(impl Env + Files + Net + AllocGlobal),
     process_id: u32,
@@ -98,12 +102,12 @@ fn bind(
     }
 }
 
-/// That the socket can't be served on, and why.
+/// Returns the fault that the socket can't be served on, and why.
 fn refused_socket(alloc: Global, arguments: &ServeArguments<'_>, kind: ErrorKind) -> Fault {
     Fault::socket(String::from_str(alloc, arguments.socket), kind)
 }
 
-/// Serves as many connections as are asked for, and prints how each ended.
+/// Serves the number of connections that the arguments give, and prints how each ended.
 fn serve_connections<T: ComposeTable>(
     rt: &(impl Clock + Print + Eprint + AllocGlobal),
     listener: &UnixListener,

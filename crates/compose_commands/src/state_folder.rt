@@ -13,14 +13,16 @@ pub struct StateFolder {
     table: String,
 }
 
-/// What keeps other updates out of the folder for as long as it lives; when the process ends, however it does, it is gone.
+/// A lock that keeps other updates out of the folder while it exists. It is released when the
+/// process ends in any way.
 #[derive(Drop)]
 pub struct FolderLock {
     _file: File,
 }
 
 impl StateFolder {
-    /// The folder at this path.
+    /// Returns the folder at this path.
+    /// Errors: `NoMemory` if memory runs out.
     pub fn new(alloc: Global, path: &str) -> Result<StateFolder, Fault> {
         Ok(StateFolder {
             path: String::from_str(alloc, path)?,
@@ -28,7 +30,8 @@ impl StateFolder {
         })
     }
 
-    /// Makes the folder if it isn't there, and waits until no other update is in it.
+    /// Creates the folder if it doesn't exist, and waits until no other update uses it.
+    /// Errors: `Unread` if the lock file can't be opened or locked; `NoMemory` if memory runs out.
     pub fn lock(&self, rt: &(impl Files<File = File> + AllocGlobal)) -> Result<FolderLock, Fault> {
         let lock = format!(in rt.alloc(); "{}/lock", self.path)?;
         match self.open_lock(rt, &lock) {
@@ -37,7 +40,7 @@ impl StateFolder {
         }
     }
 
-    /// The file at this path, which no other update holds then.
+    /// Opens and locks the file at this path.
     fn open_lock(&self, rt: &impl Files<File = File>, lock: &str) -> io::Result<File> {
         fs::create_dir_all(rt, self.path.as_str())?;
         let mut how = OpenOptions::new();
@@ -47,7 +50,8 @@ impl StateFolder {
         Ok(file)
     }
 
-    /// The bytes of the table in use; none if there is no such table yet.
+    /// Returns the bytes of the table in use, or `None` if there is none yet.
+    /// Errors: `Unread` if the file exists and can't be read; `NoMemory` if memory runs out.
     pub fn read(&self, rt: &(impl Files + AllocGlobal)) -> Result<Option<Vec<u8>>, Fault> {
         match fs::read(rt, self.table.as_str()) {
             Ok(bytes) => Ok(Some(bytes)),
@@ -56,8 +60,10 @@ impl StateFolder {
         }
     }
 
-    /// Puts these bytes in the place of those of the table in use. They are on the disk before they take that place, at once and whole: whatever
-    /// cuts this call off leaves the old bytes or the new ones.
+    /// Replaces the bytes of the table in use by these ones. They are on the disk before they
+    /// replace the old ones, which happens at once: if this call is interrupted, either the old
+    /// bytes or the new ones are there.
+    /// Errors: `Unread` if the new bytes can't be written; `NoMemory` if memory runs out.
     pub fn replace(
         &self,
         rt: &(impl Files<File = File> + AllocGlobal),
@@ -70,7 +76,7 @@ impl StateFolder {
         }
     }
 
-    /// Writes the bytes to the part, which then takes the place of the table in use.
+    /// Writes the bytes to the file `part`, and renames it to the table in use.
     fn write_over(&self, rt: &impl Files<File = File>, part: &str, bytes: &[u8]) -> io::Result<()> {
         let mut file = File::create(rt, part)?;
         file.write_all(bytes)?;
@@ -80,7 +86,7 @@ impl StateFolder {
     }
 }
 
-/// That the file at this path can't be opened or written.
+/// Returns the fault that the file at this path can't be opened or written.
 fn unopened(alloc: Global, path: &str, error: &io::Error) -> Fault {
     match String::from_str(alloc, path) {
         Ok(path) => Fault::Unread(Unopened {

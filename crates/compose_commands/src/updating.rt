@@ -1,5 +1,6 @@
-//! `update`: takes a Compose file into use, in a running service and at each start of it from then on, if nobody's typing changes. An error is
-//! why what it was given can't be read, or is refused.
+//! `update`: takes a Compose file into use, in a running service and whenever it starts again, if
+//! nobody's typing changes. A function returns an error if its input can't be read or is refused,
+//! or if memory runs out.
 use crate::client::load_outcome;
 use crate::environment::{read_environment, variable_text};
 use crate::output::put;
@@ -17,7 +18,10 @@ use std::net::Net;
 use std::os::unix::net::UnixStream;
 use std::rt::{Clock, Env, Files};
 
-/// Takes a Compose file into use, while no other update is at work.
+/// Takes a Compose file into use, while no other update is running. Returns how the run ends.
+/// Errors: the fault of the first file that can't be read or is refused; `Word` if a variable of
+/// the environment that is needed is not UTF-8; a fault of the folder, the socket or the
+/// connection; `NoMemory` if memory runs out.
 pub fn update_files<T: ComposeTable, F: Folder>(
     rt: &(impl Clock + Env + Files<File = File> + Net + Print + Eprint + AllocGlobal),
     files: &mut ReadOnce<F>,
@@ -66,7 +70,8 @@ fn update_read<T: ComposeTable>(
     }
 }
 
-/// Loads the table into the service that is running, if one is, by the certificate, if a table was in use.
+/// Loads the table with its certificate into the running service. Does nothing if no service is
+/// running, or if there is no certificate, as no table was in use.
 fn load_running(
     rt: &(impl Files + Net + Print + Eprint + AllocGlobal),
     form: FaultForm,
@@ -84,7 +89,7 @@ fn load_running(
     put(rt, form, outcome)
 }
 
-/// Keeps the bytes of the table for the next start of the service, with a note or none.
+/// Keeps the bytes of the table for the next start of the service. The note may be empty.
 fn keep(
     rt: &(impl Files<File = File> + Print + Eprint + AllocGlobal),
     form: FaultForm,
@@ -99,7 +104,7 @@ fn keep(
     put(rt, form, Ok(outcome))
 }
 
-/// The folder of the table in use: the argument's, or else that of the environment.
+/// Returns the folder of the table in use: the argument, or otherwise that of the environment.
 fn state_folder(
     rt: &(impl Env + AllocGlobal),
     argument: Option<&str>,
@@ -119,7 +124,8 @@ fn state_folder(
     StateFolder::new(rt.alloc(), &path)
 }
 
-/// The path of the running service's socket: the argument's, or else that of the environment, if it says one.
+/// Returns the path of the running service's socket: the argument, or otherwise that of the
+/// environment, if it has one.
 fn socket_path(
     rt: &(impl Env + AllocGlobal),
     argument: Option<&str>,

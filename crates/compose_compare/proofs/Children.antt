@@ -1,4 +1,4 @@
--- Where the edges of a node lead, by their targets.
+-- The targets of a node's edges.
 use Rattle.std.proofs.Common.{◌≡◌, ℕ, ◌+◌, ◌-◌, ◌<◌, ◌≤◌, List, [], ◌∷◌, ◌++◌, true, length, sym, ◌∙◌, ap, subst, arith, length-append, Some}
 use Rattle.compose_model.specs.Table.{Definition, is_table}
 use Rattle.compose_model.specs.Nodes.{nodes, node}
@@ -19,7 +19,7 @@ to_node table p k target n e is = subst (Leads table p k) (e ∙ ap Some is) (le
 pub to_leaf : (table : List Definition) (p : List ℕ) (k : ℕ) (target : Target) (l : LeafId) → target_of table p k ≡ Some target → target ≡ Leaf l → ToLeaf table p k l
 to_leaf table p k target l e is = subst (Leads table p k) (e ∙ ap Some is) (leads table p k)
 
--- the node to which a key leads is the list with that key behind it
+-- the node to which a key leads is the list with that key appended
 pub child_path : (table : List Definition) (p : List ℕ) (k : ℕ) (n : NodeId) → ToNode table p k n → p ++ k ∷ [] ≡ node table n.0
 child_path table p k n to = sym (node_at_number table (p ++ k ∷ []) to.is_node) ∙ ap (node table) to.number
 

@@ -44,7 +44,7 @@ waits = refl
 
 -- ---- what is kept, though the new table lacks the sequence
 
--- <dead_grave> gives nothing by itself, and the rest is a sequence
+-- <dead_grave> gives no text by itself, and the rest is a sequence
 abbrev long_way : List Definition
 long_way = line (0xfe50 ∷ 0xfe51 ∷ 0x65 ∷ []) (codes "x") ++ line (0xfe51 ∷ 0x65 ∷ []) (codes "x")
 
@@ -60,7 +60,7 @@ lacking = refl
 nothing_lost : loses_nothing core [] long_way short_way ≡ true
 nothing_lost = refl
 
--- a key that gave itself still does
+-- a key that gave its own text still does
 plain_kept : change core [] (line (0x61 ∷ []) (codes "a")) [] (0x61 ∷ []) ≡ Kept
 unfolding encode_utf8
 plain_kept = refl
@@ -70,14 +70,14 @@ plain_removed : change core [] (line (0x61 ∷ []) (codes "z")) [] (0x61 ∷ [])
 unfolding encode_utf8
 plain_removed = refl
 
--- a shorter sequence with no text, and then a key that gives itself
+-- a shorter sequence with no text, and then a key that gives its own
 empty_text : change core [] (line (0xfe50 ∷ 0x65 ∷ []) (codes "e")) (line (0xfe50 ∷ []) []) (0xfe50 ∷ 0x65 ∷ []) ≡ Kept
 unfolding encode_utf8
 empty_text = refl
 
 -- ---- what is added
 
--- <Multi_key> <apostrophe> <a>, <dead_caron> <c>, and <a> that gives itself
+-- <Multi_key> <apostrophe> <a>, <dead_caron> <c>, and <a>, which gives its own text
 abbrev multi_a : List ℕ
 multi_a = 0xff20 ∷ 0x27 ∷ 0x61 ∷ []
 
@@ -90,7 +90,7 @@ added = refl
 new_start : change core [] old (old ++ line caron_c (codes "c")) caron_c ≡ NewStart
 new_start = refl
 
--- the same where <dead_caron> is fresh
+-- the same with <dead_caron> fresh
 fresh_start : change core (0xfe5a ∷ []) old (old ++ line caron_c (codes "c")) caron_c ≡ Added
 fresh_start = refl
 
@@ -118,17 +118,17 @@ by_table = refl
 
 -- ---- why the premises are there
 
--- a sequence with an ignored keysym is never typed to its end, so it is not kept though nothing was changed
+-- a sequence with an ignored keysym is never typed to its end, so it is not kept although nothing changed
 abbrev with_shift_inside : List Definition
 with_shift_inside = line (0xfe50 ∷ 0xffe1 ∷ 0x65 ∷ []) (codes "x")
 
 shift_inside : change core [] with_shift_inside with_shift_inside (0xfe50 ∷ 0xffe1 ∷ 0x65 ∷ []) ≡ Changed
 shift_inside = refl
 
--- one that begins with an ignored keysym is no start for anybody
+-- a sequence that begins with an ignored keysym counts as a new start, although nobody can type it
 shift_first : change core [] [] (line (0xffe1 ∷ 0x65 ∷ []) (codes "x")) (0xffe1 ∷ 0x65 ∷ []) ≡ NewStart
 shift_first = refl
 
--- one with a fresh keysym is outside of what following promises
+-- a sequence with a fresh keysym is not covered by what following promises
 fresh_used : change core (0xfe50 ∷ []) (line (0xfe50 ∷ 0x65 ∷ []) (codes "x")) (line (0xfe50 ∷ 0x65 ∷ []) (codes "z")) (0xfe50 ∷ 0x65 ∷ []) ≡ Changed
 fresh_used = refl

@@ -1,4 +1,4 @@
--- One pass over the nodes of the old table: where the new one stands is told by where it stood a key before.
+-- One pass over the nodes of the old table: the new table's position follows from its position one key earlier.
 use Rattle.std.proofs.Common.{◌≡◌, ℕ, List, [], ◌∷◌, ◌++◌, Bool, true, false, cond, ◌&&◌, refl, sym, ◌∙◌, ap, eq-eqb}
 use Rattle.std.specs.Prelude.{◌==◌, Option, Some, None, is_some}
 use Rattle.std.proofs.Math.Bool.{and_assoc}
@@ -46,7 +46,7 @@ stands_on names old new p k t h =
     go true = alone (agrees (step names old p k) (step names new (pending new p) k)) (Some (pending_after new (pending new p) k))
     go false = refl
 
--- a sequence is kept where the new table still stands somewhere after it
+-- a sequence is kept if the new table still has a position after it
 pub stands_where_kept : (names : KeysymNames) (old new : List Definition) (s : List ℕ) → is_some (stands names old new s) ≡ agree_along names old new [] [] s
 stands_where_kept names old new s = go (agree_along names old new [] [] s)
   where
@@ -54,12 +54,12 @@ stands_where_kept names old new s = go (agree_along names old new [] [] s)
     go true = refl
     go false = refl
 
--- ---- nodes of both tables, and nodes where the new table is lost
+-- ---- nodes of both tables, and nodes after which the tables no longer agree
 
 node_extended : (table : List Definition) (k : ℕ) (p : List ℕ) → is_node table (k ∷ p) ≡ true → is_extended table (k ∷ p) ≡ true
 node_extended table k p h = sym (node_means table (k ∷ p)) ∙ h
 
--- at a node of both tables the new one stands there
+-- at a node of both tables, that node is the new table's position
 pub stands_there : (names : KeysymNames) (old new : List Definition) (p : List ℕ) → is_table old ≡ true → is_table new ≡ true → is_node old p ≡ true → is_node new p ≡ true
     → stands names old new p ≡ Some p
 stands_there names old new [] t n h g = refl
@@ -71,7 +71,7 @@ begins_more : (p : List ℕ) (k : ℕ) (w : List ℕ) → is_proper_prefix p (p 
 begins_more [] k w = refl
 begins_more (j ∷ p) k w = and_from (j == j) (is_proper_prefix p (p ++ k ∷ w)) (eq-eqb j j refl) (begins_more p k w)
 
--- every sequence that goes on from a node where the new table is lost is removed
+-- every sequence that goes on from a node after which the tables no longer agree is removed
 pub lost_behind : (names : KeysymNames) (fresh : List ℕ) (old new : List Definition) (p : List ℕ) (k : ℕ) (w : List ℕ) → is_table old ≡ true → is_table new ≡ true → is_prefix_free old ≡ true
     → is_prefix_free new ≡ true
     → stands names old new p ≡ None → is_sequence old (p ++ k ∷ w) ≡ true → change names fresh old new (p ++ k ∷ w) ≡ Removed

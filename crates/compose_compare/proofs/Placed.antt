@@ -1,4 +1,4 @@
--- What the passes know at a node, one key on, and what they tell at a leaf.
+-- What the passes know at a node, one key on, and what they find at a leaf.
 use Rattle.std.proofs.Common.{◌≡◌, ℕ, ◌<◌, List, [], ◌∷◌, ◌++◌, Bool, true, false, cond, not, ◌&&◌, ◌||◌, length, refl, sym, ◌∙◌, ap, ap₂, subst, inl, inr, Option, Some, None}
 use Rattle.std.specs.Prelude.{◌==◌, is_some, IfSome}
 use Rattle.std.specs.Option.{option_map, option_map_or}
@@ -30,7 +30,7 @@ use Rattle.compose_compare.proofs.Pass.{stands_on, stands_where_kept}
 
 -- ---- the node of the same keys
 
--- where there is one, it is that of the keys
+-- if there is one, it is that of the keys
 pub found_node : (table : List Definition) (p : List ℕ) (n : NodeId) → Some n ≡ node_of table p → (is_node table p ≡ true) × (n.0 ≡ number_of table p)
 found_node table p n e = go (is_node table p) refl e
   where
@@ -50,7 +50,7 @@ pub some_below : (table : List Definition) (p : List ℕ) (o : Option NodeId) �
 some_below table p None e = tt
 some_below table p (Some n) e = found_below table p n e
 
--- where there is none, no key leads anywhere
+-- if there is none, no key has a target
 pub no_target : (table : List Definition) (p : List ℕ) (k : ℕ) → None ≡ node_of table p → None ≡ target_of table p k
 no_target table p k e = go (target_of table p k) (leads table p k)
   where
@@ -74,7 +74,7 @@ node_on table p k = go (is_node table (p ++ k ∷ [])) (is_sequence table (p ++ 
     go false true = refl
     go false false = refl
 
--- a key begins a sequence exactly where it has a target at the root
+-- a key begins a sequence exactly if it has a target at the root
 pub root_edge : (table : List Definition) (k : ℕ) → is_some (target_of table (node table 0) k) ≡ has_edge table [] k
 root_edge table k = ap (λ p. is_some (target_of table p k)) (node_zero table) ∙ go (is_node table (k ∷ [])) (is_sequence table (k ∷ []))
   where
@@ -83,10 +83,10 @@ root_edge table k = ap (λ p. is_some (target_of table p k)) (node_zero table) �
     go false true = refl
     go false false = refl
 
--- ---- where the new table stands
+-- ---- the new table's position
 
 module _ (names : KeysymNames) (old new : List Definition) (p : List ℕ) where
-  -- it stands where its own run of the keys is
+  -- its position is that of its own run over the keys
   pub record Stood (t : NodeId) : Type 0 where
     pub stands : stands names old new p ≡ Some (pending new p)
     pub number : t.0 ≡ number_of new (pending new p)
@@ -108,14 +108,14 @@ module _ (names : KeysymNames) (old new : List Definition) (p : List ℕ) where
   pub stood_node : is_node new (pending new p) ≡ true
   stood_node = pending_is_node new [] p (root_is_node new)
 
-  -- the node at which the new table stands has a number below the count of its nodes
+  -- the node that is the new table's position has a number below the number of its nodes
   pub stood_below : (t : NodeId) → Some t ≡ stand_of names old new p → t.0 < length (nodes new)
   stood_below t e = subst (λ (m : ℕ). m < length (nodes new)) (sym (stood t e).number) (number_below new (pending new p) stood_node)
 
   pub stood_path : (t : NodeId) → Some t ≡ stand_of names old new p → node new t.0 ≡ pending new p
   stood_path t e = ap (node new) (stood t e).number ∙ node_at_number new (pending new p) stood_node
 
--- steps agree where they do not differ
+-- steps agree if they do not differ
 agrees_unless : (a b : Step) → agrees a b ≡ not (is_some (difference a b))
 agrees_unless a b = go (is_cancel b.effect) (same b.text a.text) (is_empty a.pending) (is_empty b.pending)
   where
@@ -127,7 +127,7 @@ agrees_unless a b = go (is_cancel b.effect) (same b.text a.text) (is_empty a.pen
     go false true false f = refl
 
 module _ (names : KeysymNames) (old new : List Definition) (p : List ℕ) (k : ℕ) (t_old : is_table old ≡ true) (here : is_node old p ≡ true) where
-  -- one key on from nowhere the new table stands nowhere
+  -- without a position, the new table has none one key on
   pub still_lost : None ≡ stand_of names old new p → None ≡ stand_of names old new (p ++ k ∷ [])
   still_lost e = sym (ap (option_map (λ v. node_id (number_of new v))) (stands_on names old new p k t_old here ∙ ap (stands_after names old new p k) (lost names old new p e)))
 
@@ -139,11 +139,11 @@ module _ (names : KeysymNames) (old new : List Definition) (p : List ℕ) (k : �
         ∙ ap not
         (sym (differs_alike names old new p (node new t.0) k a b here (ap (is_node new) (stood_path names old new p t e) ∙ stood_node names old new p) (stood_path names old new p t e) sa sb) ∙ h))
 
-    -- from somewhere it stands nowhere once the tables differ
+    -- with a position, it has none once the tables differ
     pub now_lost : is_some (difference_of a b) ≡ true → None ≡ stand_of names old new (p ++ k ∷ [])
     now_lost h = sym (ap (option_map (λ v. node_id (number_of new v))) (on true h))
 
-    -- and else where its step leads
+    -- and otherwise its position is the one to which its step leads
     pub stands_next : is_some (difference_of a b) ≡ false → Some b.next ≡ stand_of names old new (p ++ k ∷ [])
     stands_next h =
         ap Some (next b.next (sb.next ∙ ap (λ v. number_of new (pending_after new v k)) (stood_path names old new p t e)))
@@ -154,7 +154,7 @@ module _ (names : KeysymNames) (old new : List Definition) (p : List ℕ) (k : �
 
 -- ---- at the root
 
--- after no keys the new table stands at its root
+-- after no keys the new table's position is its root
 pub root_stands : (names : KeysymNames) (old new : List Definition) → Some (node_id 0) ≡ stand_of names old new (node old 0)
 root_stands names old new = ap (λ n. Some (node_id n)) (sym (root_number new)) ∙ ap (stand_of names old new) (sym (node_zero old))
 
@@ -170,7 +170,7 @@ root_anew fresh old new = ap (begins_anew fresh old) (sym (node_zero new))
 
 -- ---- at a leaf
 
--- what goes on is no sequence
+-- a list that goes on is not a sequence
 no_sequence : (table : List Definition) (z : List ℕ) → IsSettled table → is_extended table z ≡ true → is_sequence table z ≡ false
 no_sequence table z s x = elim (cases_Bool (is_sequence table z)) [
   | inl h ↦ absurd (let clash : true ≡ false = sym x ∙ not_extended table z s.prefix_free h in cc)

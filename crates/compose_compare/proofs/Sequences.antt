@@ -48,7 +48,7 @@ before_last table p k h =
     list_any-weaker (λ (d : Definition). same (p ++ k ∷ []) d.sequence) (λ d. is_proper_prefix p d.sequence)
     (λ d e. ap (is_proper_prefix p) (sym (same_is (p ++ k ∷ []) d.sequence e)) ∙ begins_longer p k) table h
 
--- the last key of a sequence is an edge behind the keys before it
+-- the last key of a sequence is an edge after the keys before it
 pub last_edge : (table : List Definition) (p : List ℕ) (k : ℕ) → is_sequence table (p ++ k ∷ []) ≡ true → has_edge table p k ≡ true
 last_edge table p k h = edge_extends table p k ∙ or_right (is_extended table (p ++ k ∷ [])) (is_sequence table (p ++ k ∷ [])) h
 

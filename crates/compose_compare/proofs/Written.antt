@@ -27,7 +27,7 @@ abbrev pub is_through : List ℕ → List ℕ → List ℕ → Bool
 is_through p ks s = list_any (λ k. begins (p ++ k ∷ []) s) ks
 
 module _ {X : Type 0} (d : X) (value : List ℕ → X) (table : List Definition) (settled : IsSettled table) where
-  -- the number of a leaf tells its sequence
+  -- the number of a leaf determines its sequence
   leaf_is : (s : List ℕ) → is_sequence table s ≡ true → get_or (leaves table) (leaf_number table s) [] ≡ s
   leaf_is s h = found_at s (leaves table) (leaf_means table s ∙ h)
 
@@ -51,7 +51,7 @@ module _ {X : Type 0} (d : X) (value : List ℕ → X) (table : List Definition)
         ∙ join (is_through p (take i es) s) (begins (p ++ k ∷ []) s) (value s) (get_or before (leaf_number table s) d)
         ∙ ap (λ b. cond b (value s) (get_or before (leaf_number table s) d)) (sym (through_more s))
 
-    -- where the key leads to a node, whose leaves are written
+    -- if the key leads to a node, its leaves are written
     pub node_written : is_extended table (p ++ k ∷ []) ≡ true → IsWritten d value table (is_proper_prefix (p ++ k ∷ [])) middle after
         → IsWritten d value table (is_through p (take (i + 1) es)) before after
     node_written x w = more (λ s h. w s h ∙ ap (λ b. cond b (value s) (get_or middle (leaf_number table s) d)) (sym (begins_longer s h)))
@@ -63,7 +63,7 @@ module _ {X : Type 0} (d : X) (value : List ℕ → X) (table : List Definition)
           | inr e ↦ ap (λ b. b || is_proper_prefix (p ++ k ∷ []) s) e
         ]
 
-    -- where it leads to a leaf, which is written
+    -- if it leads to a leaf, that is written
     pub leaf_written : is_sequence table (p ++ k ∷ []) ≡ true → leaf_number table (p ++ k ∷ []) < length middle → after ≡ set middle (leaf_number table (p ++ k ∷ [])) (value (p ++ k ∷ []))
         → IsWritten d value table (is_through p (take (i + 1) es)) before after
     leaf_written x below w = more (λ s h. ap (λ xs. get_or xs (leaf_number table s) d) w ∙ here s h (same (p ++ k ∷ []) s) refl)

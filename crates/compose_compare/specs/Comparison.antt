@@ -1,15 +1,16 @@
--- What is told of two tables: what happens to each sequence of the old one, and to each of the new one that the old one lacks.
+-- The comparison of two tables: what happens to each sequence of the old one, and to each of the new one that the old
+-- one lacks.
 use Rattle.std.specs.Prelude.{Bool, true, ◌&&◌, List, Option}
 use Rattle.std.specs.List.{list_all}
 use Rattle.std.specs.Option.{option_map_or}
 use Rattle.compose_compare.specs.declared.Change.{Change}
 use Rattle.compose_compare.specs.Change.{is_harmless}
 
--- both lists in the order of sequences; nothing stands for a sequence of the new table that the old one has too
+-- both lists are in the order of sequences; a sequence of the new table that the old one has too has none
 pub record Told : Type 0 where
   pub of_old : List Change
   pub of_new : List (Option Change)
 
--- all that is told is harmless
+-- all of it is harmless
 abbrev pub is_all_harmless : Told → Bool
 is_all_harmless told = list_all is_harmless told.of_old && list_all (λ c. option_map_or is_harmless c true) told.of_new

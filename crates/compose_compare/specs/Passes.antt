@@ -1,4 +1,5 @@
--- What the passes through two tables know at a node, and what they write at the leaves. Words for private functions.
+-- What the passes through two tables know at a node, and what they write at the leaves. Definitions for private
+-- functions.
 use Rattle.std.specs.Prelude.{◌≡◌, ℕ, Bool, true, false, not, ◌&&◌, if◌then◌else◌, List, [], ◌∷◌, get_or, Option, Some, None}
 use Rattle.std.specs.Option.{option_map}
 use Rattle.keysym_core.specs.Names.{KeysymNames}
@@ -28,7 +29,7 @@ node_in (Some (Node node)) = Some node
 node_in (Some (Leaf leaf)) = None
 node_in None = None
 
--- the node at which the new table stands after the keys p, if it agreed with the old one along them
+-- the node that is the new table's position after the keys p, if it agreed with the old one along them
 abbrev pub stand_of : KeysymNames → List Definition → List Definition → List ℕ → Option NodeId
 stand_of names old new p = option_map (λ v. node_id (number_of new v)) (stands names old new p)
 
@@ -39,20 +40,21 @@ begins_anew fresh old (k ∷ p) = not (has_edge old [] k) && not (has_key fresh 
 
 -- ---- at a leaf
 
--- what happens to a sequence of the old table, which is kept or not, and whose keys lead there in the new one
+-- the change of a sequence of the old table: by whether it is kept, and by where its keys lead in the new one
 abbrev pub old_change : Bool → Option Target → Change
 old_change true target = Kept
 old_change false (Some (Leaf leaf)) = Changed
 old_change false (Some (Node node)) = Waiting
 old_change false None = Removed
 
--- what happens to a sequence of the new table, whose keys lead there in the old one, and which is a new start or not if it is added
+-- the change of a sequence of the new table: by where its keys lead in the old one, and by whether it is a new start if
+-- it is added
 abbrev pub new_change : Option Target → Bool → Option Change
 new_change (Some (Leaf leaf)) starts = None
 new_change (Some (Node node)) starts = Some (if starts then NewStart else Added)
 new_change None starts = Some (if starts then NewStart else Added)
 
--- each leaf that is reached has its value, and each other one what it had before
+-- each leaf that is reached has its value, and every other leaf the value it had before
 abbrev pub IsWritten : {X : Type 0} → X → (List ℕ → X) → List Definition → (List ℕ → Bool) → List X → List X → Type 0
 IsWritten default value table reached before after =
     (s : List ℕ) → is_sequence table s ≡ true → get_or after (leaf_number table s) default ≡ (if reached s then value s else get_or before (leaf_number table s) default)

@@ -30,22 +30,22 @@ impl Model for Comparison {
 }
 
 impl Comparison {
-    /// What happens to each sequence of the old table, by the numbers of its leaves. O(1).
+    /// Returns what happens to each sequence of the old table, by the numbers of its leaves. O(1).
     pub fn old_changes(&self) -> &[Change]
         ensures { result.now ≡ self.now.of_old }
     {
         self.of_old.as_slice()
     }
 
-    /// What happens to each sequence of the new table, by the numbers of its leaves; nothing for one that the old table has too,
-    /// since that is told there. O(1).
+    /// Returns what happens to each sequence of the new table, by the numbers of its leaves; `None`
+    /// for a sequence that the old table has too, since `old_changes` has it. O(1).
     pub fn new_changes(&self) -> &[Option<Change>]
         ensures { result.now ≡ self.now.of_new }
     {
         self.of_new.as_slice()
     }
 
-    /// Whether nobody who types with the old table meets a change. O(sequences).
+    /// Whether the new table changes nothing for people who type with the old one. O(sequences).
     pub fn loses_nothing(&self) -> bool
         ensures { result ≡ is_all_harmless self.now }
     {
@@ -65,7 +65,7 @@ fn are_kept(changes: &[Change]) -> bool
     true
 }
 
-/// Whether each change that is told is harmless.
+/// Whether each change is harmless, for those that have one.
 fn are_added(changes: &[Option<Change>]) -> bool
     ensures { result ≡ list_all (λ c. option_map_or is_harmless c true) changes.now }
 {
@@ -79,10 +79,11 @@ fn are_added(changes: &[Option<Change>]) -> bool
     true
 }
 
-/// Tells what happens to each sequence of both tables. Where the keysyms are fresh for the old table, the new table follows the
-/// old one exactly where nothing is lost.
+/// Compares two tables: finds what happens to each sequence of both. If the keysyms are fresh for
+/// the old table, the new table follows the old one exactly if nothing is lost.
 ///
-/// O(edges of both tables × log edges of a node) time; a byte a sequence of either table.
+/// `Err(AllocError)` if memory runs out. O(edges of both tables × log edges of a node) time; a byte
+/// per sequence of either table.
 pub fn compare<T: ComposeTable, U: ComposeTable>(
     alloc: Global,
     old: &T,
@@ -98,7 +99,7 @@ pub fn compare<T: ComposeTable, U: ComposeTable>(
         (λ c. c.of_new
         ≡ new_changes names.now fresh.now (T.definitions old.now) (U.definitions new.now)) }
 
-    // nothing is lost exactly where the new table follows
+    // nothing is lost exactly if the new table follows
     ensures follows { AreFresh fresh.now (T.definitions old.now)
         → IfOk result
         (λ c. Follows names.now fresh.now (T.definitions old.now) (U.definitions new.now)
@@ -113,7 +114,7 @@ pub fn compare<T: ComposeTable, U: ComposeTable>(
     Ok(Comparison { of_old, of_new })
 }
 
-/// What happens to each sequence of the old table.
+/// Finds what happens to each sequence of the old table.
 fn all_old<T: ComposeTable, U: ComposeTable>(
     alloc: Global,
     old: &T,
@@ -142,7 +143,7 @@ fn all_old<T: ComposeTable, U: ComposeTable>(
     Ok(changes)
 }
 
-/// What happens to each sequence of the new table that the old one does not have.
+/// Finds what happens to each sequence of the new table that the old one does not have.
 fn all_new<T: ComposeTable, U: ComposeTable>(
     alloc: Global,
     old: &T,

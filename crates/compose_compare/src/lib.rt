@@ -1,11 +1,13 @@
 //! What a new compose table does to each sequence of an old one, and what it adds.
 //!
-//! Of each sequence exactly one [`Change`] is told. [`compare`] tells those of two whole tables, sequence by sequence, and its
-//! contract says that nothing is lost exactly where the new table follows the old one. The laws say what the words mean for people
-//! who type: what is kept still types its text, and whatever is lost begins with evidence that the tables part.
+//! Each sequence has exactly one [`Change`]. [`compare`] finds those of two whole tables, sequence
+//! by sequence, and its contract says that nothing is lost exactly if the new table follows the old
+//! one. The laws say what this means for people who type: what is kept still types its text, and
+//! whatever is lost begins with evidence that the tables differ.
 //!
-//! An example: the old table is `<a> <b> : "x"`, and the new one `<a> <b> <c> : "y"`. The sequence of the old table is waiting, and
-//! the one of the new table is added; it is no new start, since the old table has a sequence that begins with `a`.
+//! An example: the old table is `<a> <b> : "x"`, and the new one `<a> <b> <c> : "y"`. The sequence
+//! of the old table is waiting, and the one of the new table is added. It is not a new start, since
+//! the old table has a sequence that begins with `a`.
 #![tactic(auto)]
 
 ghost use Rattle.std.specs.Prelude.{true, ◌≡◌, ◌↔◌, ◌&&◌, ◌||◌, ◌++◌, List, [], ◌∷◌, ℕ, IsTrue, Option, Some, None, is_some, unwrap_or};
@@ -30,7 +32,7 @@ pub use comparison::{Comparison, compare};
 /// What happens to a sequence of an old table or a new one.
 #[derive(Clone, Copy, Debug, PartialEq, Eq, Drop)]
 pub enum Change {
-    /// The new table commits the same text at every key, and rests at the end.
+    /// The new table commits the same text at every key, and is at rest at the end.
     Kept,
     /// The new table has the sequence with another text.
     Changed,
@@ -40,13 +42,13 @@ pub enum Change {
     Removed,
     /// The old table does not have the sequence.
     Added,
-    /// The old table does not have it, no sequence of the old table begins with its first keysym, which is not fresh, and it is
-    /// not that keysym alone with the keysym's own text.
+    /// The old table does not have it, no sequence of the old table begins with its first keysym,
+    /// which is not fresh, and it is not that keysym alone with the keysym's own text.
     NewStart,
 }
 
 impl Change {
-    /// Whether nobody who types with the old table meets the change.
+    /// Whether the change affects nobody who types with the old table.
     pub fn is_harmless(self) -> bool
         ensures { result ≡ is_harmless self }
     {
@@ -57,7 +59,8 @@ impl Change {
     }
 }
 
-/// A new table follows an old one exactly where every sequence of the old one is kept and no added one is a new start.
+/// A new table follows an old one exactly if every sequence of the old one is kept and no added one
+/// is a new start.
 pub fn law_keeps()
     ensures enough { (names : KeysymNames) (fresh : List ℕ) (old new : List Definition)
         → KeepsAll names fresh old new → Follows names fresh old new }
@@ -66,7 +69,8 @@ pub fn law_keeps()
         → Follows names fresh old new → KeepsAll names fresh old new }
 {}
 
-/// Of two tables without overlap, exactly one thing happens to each sequence of either, and it is what the tests say.
+/// For two tables without overlap, exactly one thing happens to each sequence of either, and it is
+/// what the tests find.
 pub fn law_one_kind()
     ensures { (names : KeysymNames) (fresh : List ℕ) (old new : List Definition)
         → IsTrue (is_table old) → IsTrue (is_table new) → IsTrue (is_prefix_free old)
@@ -75,7 +79,8 @@ pub fn law_one_kind()
         → Happens names fresh old new s c ↔ change names fresh old new s ≡ c }
 {}
 
-/// The leaves of two tables together are the sequences of both, each once, and the new table follows exactly where all of them are harmless.
+/// The leaves of two tables together are the sequences of both, each once, and the new table
+/// follows exactly if all of them are harmless.
 pub fn law_changes()
     ensures listed { (old new : List Definition) (s : List ℕ)
         → list_any (same s) (leaves (old ++ new)) ≡ is_sequence old s || is_sequence new s }
@@ -90,14 +95,16 @@ pub fn law_changes()
         → Follows names fresh old new ↔ IsTrue (loses_nothing names fresh old new) }
 {}
 
-/// A sequence of an old table without overlap is kept exactly where its keys still type its text.
+/// A sequence of an old table without overlap is kept exactly if its keys still type its text.
 pub fn law_kept()
     ensures { (names : KeysymNames) (old new : List Definition) → IsTrue (is_table old)
         → IsTrue (is_prefix_free old) → (s : List ℕ) → IsTrue (is_sequence old s)
         → IsKept names old new s ↔ StillTypes names new s (unwrap_or (text_at old s) []) }
 {}
 
-/// One pass over the nodes of the old table tells what is kept: where the new table stands is told by where it stood a key before; at a node of both it stands there; and where it is lost, every longer sequence is removed.
+/// One pass over the old nodes suffices to find what is kept. The new table's position follows from
+/// its position one key earlier. At a node of both tables, that node is its position. Once the
+/// tables no longer agree, every longer sequence is removed.
 pub fn law_pass()
     ensures on { (names : KeysymNames) (old new : List Definition) (p : List ℕ) (k : ℕ)
         → IsTrue (is_table old) → IsTrue (is_node old p)

@@ -1,4 +1,4 @@
-//! One pass through all sequences of each table, beside the other one.
+//! One pass through all sequences of each table, side by side with the other one.
 ghost use Rattle.std.specs.Prelude.{◌≡◌, ◌<◌, ◌&&◌, ◌==◌, ◌++◌, ◌∷◌, [], ℕ, List, Option, Some, None, not, length, if◌then◌else◌, IsTrue, IfSome};
 ghost use Rattle.keysym_core.specs.Names as model;
 ghost use Rattle.compose_model.specs.Table.{is_proper_prefix, is_sequence, is_table, same, has_key};
@@ -17,9 +17,9 @@ use compose_tree::{ComposeTable, NodeId, Target};
 use compose_walk::{difference, key_step};
 use keysym_core::{Keysym, Names};
 
-/// Writes what happens to each sequence of the old table that goes on from the node. `stand` is the node at which the new table
-/// stands after the node's keys, if it agreed along them, and `same` its node of the same keys. O(edges from the node on × log
-/// edges).
+/// Writes what happens to each sequence of the old table that goes on from the node. `stand` is the
+/// new table's position after the node's keys, if it agreed along them, and `same` is its node with
+/// the same keys. O(edges from the node on × log edges).
 pub fn visit_old<T: ComposeTable, U: ComposeTable>(
     old: &T,
     new: &U,
@@ -58,9 +58,9 @@ pub fn visit_old<T: ComposeTable, U: ComposeTable>(
     }
 }
 
-/// Writes what happens to each sequence of the new table that goes on from the node. `same` is the old table's node of the same
-/// keys, and `anew` says whether no sequence of the old table begins with the first of these keys, and it is not fresh.
-/// O(edges from the node on × log edges).
+/// Writes what happens to each sequence of the new table that goes on from the node. `same` is the
+/// old table's node with the same keys. `anew` is true if no sequence of the old table begins with
+/// the first of these keys, and it is not fresh. O(edges from the node on × log edges).
 pub fn visit_new<T: ComposeTable, U: ComposeTable>(
     old: &T,
     new: &U,
@@ -113,7 +113,7 @@ pub fn visit_new<T: ComposeTable, U: ComposeTable>(
     }
 }
 
-/// The node at which the new table stands one key on, if it agrees with the old one up to there.
+/// Returns the new table's position one key on, if it agrees with the old one up to there.
 fn stand_after<T: ComposeTable, U: ComposeTable>(
     old: &T,
     new: &U,
@@ -145,7 +145,8 @@ fn stand_after<T: ComposeTable, U: ComposeTable>(
     Some(new_step.next)
 }
 
-/// Where the keysym leads from the node, if there is one. O(log edges of the node).
+/// Returns where the keysym leads from the node, if there is a node and it has this edge. O(log
+/// edges of the node).
 fn target_from<T: ComposeTable>(table: &T, node: Option<NodeId>, keysym: Keysym) -> Option<Target>
     requires { IfSome node (λ n. n.0 < length (nodes (T.definitions table.now))) }
     ensures { (p : List ℕ) → node ≡ node_of (T.definitions table.now) p
@@ -157,7 +158,7 @@ fn target_from<T: ComposeTable>(table: &T, node: Option<NodeId>, keysym: Keysym)
     }
 }
 
-/// The node to which the target leads, if it is one.
+/// Returns the node to which the target leads, if it is a node.
 fn node_at(target: Option<Target>) -> Option<NodeId>
     ensures { result ≡ node_in target }
 {
@@ -167,7 +168,8 @@ fn node_at(target: Option<Target>) -> Option<NodeId>
     }
 }
 
-/// What happens to a sequence of the old table, which is kept or not, and whose keys lead there in the new one.
+/// Returns what happens to a sequence of the old table, given whether it is kept, and where its
+/// keys lead in the new one.
 fn old_change(kept: bool, there: Option<Target>) -> Change
     ensures { result ≡ old_change kept there }
 {
@@ -181,8 +183,8 @@ fn old_change(kept: bool, there: Option<Target>) -> Change
     }
 }
 
-/// What happens to a sequence of the new table, whose keys lead there in the old one, and which is a new start or not if it is
-/// added.
+/// Returns what happens to a sequence of the new table, given where its keys lead in the old one,
+/// and whether it is a new start if it is added.
 fn new_change(there: Option<Target>, starts: bool) -> Option<Change>
     ensures { result ≡ new_change there starts }
 {
@@ -196,8 +198,8 @@ fn new_change(there: Option<Target>, starts: bool) -> Option<Change>
     })
 }
 
-/// Whether no sequence of the old table begins with the first of the node's keys and this one, and it is not fresh. `anew` says
-/// this of the node's keys alone, if it has any.
+/// Whether no sequence of the old table begins with the first of the node's keys and this one, and
+/// it is not fresh. `anew` is the same for the node's keys alone, if it has any.
 fn still_anew<T: ComposeTable>(
     old: &T,
     fresh: &[Keysym],
@@ -228,8 +230,8 @@ fn is_unknown<T: ComposeTable>(old: &T, fresh: &[Keysym], keysym: Keysym) -> boo
     !is_among(fresh, keysym)
 }
 
-/// Whether the sequence of the node's keys and this one, which has the text, is a new start, if it is added: it begins anew, and is
-/// not the keysym alone with its own text.
+/// Whether the sequence of the node's keys and this one, which has the text, is a new start if it
+/// is added: it begins anew, and is not the keysym alone with its own text.
 fn is_start(names: &Names, node: NodeId, keysym: Keysym, text: &str, begins: bool) -> bool
     ensures { result
         ≡ (begins && not (node.0 == 0 && same (model.text names.now keysym) text.now)) }

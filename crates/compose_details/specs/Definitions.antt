@@ -1,4 +1,4 @@
--- Where a definition stands, and what is told of it (this project's profile).
+-- The place of a definition, and what is printed of it (this project's profile).
 use Rattle.std.specs.Prelude.{ℕ, List, [], ◌++◌, map, slice_get, string_bytes, Result, Ok, Err, codes}
 use Rattle.std.specs.Option.{option_map_or}
 use Rattle.keysym_core.specs.Names.{KeysymNames}
@@ -30,7 +30,7 @@ definition_line names paths table places index = option_map_or (λ (d : Definiti
 
 -- ---- overlaps
 
--- the shorter sequence: that it is a prefix, and what it gives
+-- the shorter sequence: that it is a prefix, and its definition
 abbrev pub short_lines : KeysymNames → List (List ℕ) → List Definition → List DefinitionPlace → List ℕ → List ℕ → List ℕ
 short_lines names paths table places short long =
     option_map_or (λ index. line_at paths places index (overlap_said names short long) ++ definition_line names paths table places index) (last_with table short) []
@@ -42,7 +42,7 @@ long_line names paths table places long = option_map_or (definition_line names p
 abbrev pub both_lines : KeysymNames → List (List ℕ) → List Definition → List DefinitionPlace → List ℕ → List ℕ → List ℕ
 both_lines names paths table places short long = short_lines names paths table places short long ++ long_line names paths table places long
 
--- of the definitions that were read of a table
+-- by the definitions that were read from a table
 abbrev pub overlap_of : KeysymNames → GivenTable → List ℕ → List ℕ → List Definition → List ℕ
 overlap_of names given short long table = both_lines names (paths_of given) table (definition_places given.input.sources.now (root_of given.input.sources.now)) short long
 

@@ -1,4 +1,4 @@
--- What is told of the faulty lines of a table (this project's profile): each once, twenty at most.
+-- What is printed of the faulty lines of a table (this project's profile): each once, at most twenty.
 use Rattle.std.specs.Prelude.{ℕ, Bool, ◌&&◌, ◌==◌, if◌then◌else◌, List, [], ◌∷◌, ◌++◌, take, map, flat_map, slice_get, string_bytes, Some, None}
 use Rattle.std.specs.List.{list_any}
 use Rattle.std.specs.Option.{unwrap_or, option_map_or}
@@ -13,14 +13,14 @@ use Rattle.compose_messages.specs.declared.position.Position.{Position}
 use Rattle.compose_details.specs.Lines.{line, path_of}
 use Rattle.compose_details.specs.declared.given.GivenTable.{GivenTable}
 
--- the source and the line of a fault; line 0 where it stands in none
+-- the source and the line of a fault; line 0 if it has none
 abbrev pub place_of : ReadFault → ℕ × ℕ
 place_of fault = unwrap_or (line_of fault) (0, 0)
 
 abbrev pub is_among : List (ℕ × ℕ) → ℕ × ℕ → Bool
 is_among places at = list_any (λ p. p.0 == at.0 && p.1 == at.1) places
 
--- the faults in order, but for those in lines that are told, or in which an earlier one stands
+-- the faults in order, without those in lines that were reported or that have an earlier fault
 abbrev pub each_once : List (ℕ × ℕ) → List ReadFault → List ReadFault
 each_once told [] = []
 each_once told (f ∷ fs) = if is_among told (place_of f) then each_once told fs else f ∷ each_once (told ++ place_of f ∷ []) fs
@@ -28,19 +28,19 @@ each_once told (f ∷ fs) = if is_among told (place_of f) then each_once told fs
 abbrev pub max_told : ℕ
 max_told = 20
 
--- the line of a fault: its file and place, or the manifest's where it stands in no line
+-- the line of a fault: its file and place, or the manifest if it is in no line
 abbrev pub fault_line : List Source → List ℕ → List (List ℕ) → ReadFault → List ℕ
 fault_line sources manifest paths fault =
     option_map_or (λ (at : ℕ × Position). line (path_of paths at.0) (Some at.1) (read_said sources fault)) (position_of sources fault) (line manifest None (read_said sources fault))
 
--- of the first fault, and then the others of the table, those that are told
+-- the faults that are reported: the first one, and then the others of the table
 abbrev pub told_faults : KeysymNames → List Source → List ℕ → ReadFault → List ReadFault
 told_faults names sources root first = take max_told (each_once [] (first ∷ take max_lines (faults_of names sources root)))
 
 abbrev pub faulty_lines : KeysymNames → List Source → List ℕ → List (List ℕ) → List ℕ → ReadFault → List ℕ
 faulty_lines names sources manifest paths root first = flat_map (fault_line sources manifest paths) (told_faults names sources root first)
 
--- ---- of a table as it was given, whose root is the first source
+-- ---- of a table as it was given: its root is the first source
 
 abbrev pub root_of : List Source → List ℕ
 root_of sources = option_map_or (λ (s : Source). s.name) (slice_get sources 0) []

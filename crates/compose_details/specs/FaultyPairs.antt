@@ -25,7 +25,7 @@ abbrev pub pair_at : Result Certificate CertFault → ℕ → ℕ → Option Pai
 pair_at (Ok certificate) index keysym = pair_with certificate.pairs index keysym
 pair_at (Err fault) index keysym = None
 
--- the pair that a fault names: the roots for a new start, none where it is about no pair
+-- the pair that a fault names: the roots for a new start, none if it concerns no pair
 abbrev pub faulty_pair : List ℕ → CheckFault → Option Pair
 faulty_pair text (NewStart keysym) = Some (record { old = 0; new = 0; keysym = keysym })
 faulty_pair text (Cancels index keysym) = pair_at (certificate_of text) index keysym

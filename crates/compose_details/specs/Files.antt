@@ -1,4 +1,4 @@
--- What is told of manifests and includes (this project's profile).
+-- What is printed of manifests and includes (this project's profile).
 use Rattle.std.specs.Prelude.{ℕ, List, ◌++◌, Option, Some, None, string_bytes, codes}
 use Rattle.compose_find.specs.declared.fault.IncludeFault.{IncludeFault}
 use Rattle.compose_find.specs.declared.fault.IncludeFault.TheVariants.{Text, UnknownPercent, NoLocale, NoHome, TwoFiles, TooManySources, IncludeDepth}
@@ -12,7 +12,7 @@ use Rattle.compose_messages.specs.Messages.{position_text, quoting}
 use Rattle.compose_details.specs.Lines.{whole_line}
 use Rattle.compose_details.specs.Refusals.{words_line, hint_line}
 
--- the faulty line of the manifest, and the hint where a table was given in its place
+-- the faulty line of the manifest, and the hint if a table was given instead
 abbrev pub manifest_lines : List ℕ → List ℕ → ManifestFault → List ℕ
 manifest_lines path bytes fault = words_line path (manifest_line fault) (manifest_said fault) ++ hint_line (manifest_hint path bytes fault)
 
@@ -28,11 +28,11 @@ include_said TooManySources = codes "there are more than 64 files"
 include_said IncludeDepth = codes "more than eight includes lead to this file"
 include_said fault = codes "out of memory"
 
--- what is said of a line, at its file
+-- the message for a line, with its file
 abbrev pub said_at : List ℕ → ℕ → List ℕ → List ℕ
 said_at path n said = codes "composecheck: " ++ shown_text path ++ position_text (whole_line n) ++ codes ": " ++ said
 
--- the include that leads to no file, and why, if it is one
+-- the include that leads to no file, and the reason, if the fault concerns an include
 abbrev pub find_said : FindFault → Option (List ℕ)
 find_said (MissingFile from n path) = Some (said_at (string_bytes from) n (quoting (codes "can't open the included file ") (string_bytes path)))
 find_said (Include from n fault) = Some (said_at (string_bytes from) n (include_said fault))

@@ -1,12 +1,12 @@
--- What a command was given, seen as values.
+-- The input of a command, as values.
 use Rattle.std.specs.Prelude.{◌≡◌, ℕ, Bool, false, List, [], ◌∷◌, map, option_copied, string_bytes}
 use Rattle.compose_input.specs.declared.names.NameFiles.{NameFiles}
 use Rattle.compose_input.specs.declared.tables.TableFiles.{TableFiles}
 use Rattle.compose_details.specs.declared.given.GivenTable.{GivenTable}
 use Rattle.compose_details.specs.declared.given.Given.{Given}
 
--- the names, the arguments that are to name keysyms, and the tables; the paths and the texts of the repertoire and the certificate; and whether all
--- differences are asked for
+-- the names, the arguments that have to name keysyms, and the tables; the paths and the texts of the repertoire and the
+-- certificate; and whether all differences are asked for
 pub record GivenParts : Type 0 where
   pub names : NameFiles
   pub arguments : List (List ℕ)

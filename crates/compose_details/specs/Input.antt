@@ -1,5 +1,6 @@
--- Why what a command was given can't be read (this project's profile): a line that refuses it, and with `-v` below it where the fault is, and why.
--- `own` is what the fault of a manifest, of a source or of a search is printed as: these texts are derived, and no contract speaks of them.
+-- Why an input of a command can't be read (this project's profile): a line that refuses it, and with `-v` below it the
+-- place of the fault and the reason. `own` is the text that the fault of a manifest, of a source or of a search is
+-- printed as. These texts are derived, and no contract speaks of them.
 use Rattle.std.specs.Prelude.{ℕ, Bool, if◌then◌else◌, List, [], ◌∷◌, ◌++◌, flat_map, Option, None, string_bytes, codes}
 use Rattle.std.specs.Option.{option_map_or}
 use Rattle.compose_shown.specs.Shown.{shown_text}
@@ -15,7 +16,7 @@ use Rattle.compose_details.specs.Lines.{line}
 use Rattle.compose_details.specs.Files.{manifest_lines, find_said}
 use Rattle.compose_details.specs.Refusals.{hint_line}
 
--- the line that refuses what was given (code 10 ends it)
+-- the line that refuses the input (code 10 ends it)
 abbrev pub refusal_line : List ℕ → Fault → List ℕ
 refusal_line own (Unread unopened) = codes "refused: file: " ++ (shown_text (string_bytes unopened.path) ++ 10 ∷ [])
 refusal_line own (Manifest path bytes fault) = codes "refused: manifest: " ++ (own ++ 10 ∷ [])
@@ -34,20 +35,20 @@ unopened_line unopened = line (string_bytes unopened.path) None (open_said unope
 abbrev pub socket_line : Unopened → List ℕ
 socket_line unopened = line (string_bytes unopened.path) None (socket_said unopened.kind)
 
--- which include leads to no file, if the fault is one of an include
+-- which include leads to no file, if the fault concerns an include
 abbrev pub include_line : FindFault → List ℕ
 include_line fault = option_map_or (λ said. said ++ 10 ∷ []) (find_said fault) []
 
--- the hint against an include that leads to no file, where one helps
+-- the hint for an include that leads to no file, if one helps
 abbrev pub find_hint : FindFault → Option Hint
 find_hint (MissingFile from n path) = include_hint (string_bytes path)
 find_hint fault = None
 
--- which include leads to no file, why nothing is read where it was looked for, and the hint
+-- which include leads to no file, why nothing is read at each place where its file was searched for, and the hint
 abbrev pub search_lines : FindFault → List Unopened → List ℕ
 search_lines fault tried = include_line fault ++ flat_map unopened_line tried ++ hint_line (find_hint fault)
 
--- where the fault is, and why
+-- the place of the fault, and the reason
 abbrev pub fault_details : Fault → List ℕ
 fault_details (Unread unopened) = unopened_line unopened
 fault_details (Manifest path bytes fault) = manifest_lines (string_bytes path) bytes.items fault
@@ -59,7 +60,7 @@ fault_details fault = []
 abbrev pub fault_lines : List ℕ → Bool → Fault → List ℕ
 fault_lines own verbose fault = refusal_line own fault ++ (if verbose then fault_details fault else [])
 
--- for people: the details, or the line that refuses what was given where there are none
+-- for people: the details, or if there are none, the line that refuses the input
 abbrev pub details_or : List ℕ → List ℕ → List ℕ
 details_or line [] = line
 details_or line (b ∷ details) = b ∷ details

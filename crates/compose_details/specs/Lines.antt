@@ -1,15 +1,15 @@
--- The lines that `-v` adds (this project's profile): the path of a file, a place in it, and what is said.
+-- The lines that `-v` adds (this project's profile): the path of a file, a position in it, and a message.
 use Rattle.std.specs.Prelude.{ℕ, Bool, true, false, ◌-◌, nat_le, if◌then◌else◌, List, [], ◌∷◌, ◌++◌, get_or, Option, Some, None, codes}
 use Rattle.compose_shown.specs.Shown.{shown_text}
 use Rattle.compose_messages.specs.Messages.{position_text}
 use Rattle.compose_messages.specs.declared.position.Position.{Position}
 use Rattle.compose_input.specs.declared.names.Header.{Header}
 
--- a line: the path, the place where there is one, and what is said (code 10 ends it)
+-- a line: the path, the position if there is one, and the message (code 10 ends it)
 abbrev pub line : List ℕ → Option Position → List ℕ → List ℕ
 line path position said = codes "composecheck: " ++ shown_text path ++ position_text position ++ codes ": " ++ said ++ 10 ∷ []
 
--- a line that is about no file
+-- a line that concerns no file
 abbrev pub remark : List ℕ → List ℕ
 remark said = codes "composecheck: " ++ said ++ 10 ∷ []
 
@@ -25,7 +25,8 @@ is_empty (x ∷ xs) = false
 abbrev pub path_of : List (List ℕ) → ℕ → List ℕ
 path_of paths source = get_or paths source []
 
--- the file in which this line of all files stands, the lines numbered on from 1 through all of them, and its number there
+-- the file that has this line of all files, whose lines are numbered from 1 through all of them, and its number in that
+-- file
 abbrev pub header_line : List Header → ℕ → Option (Header × ℕ)
 header_line [] n = None
 header_line (h ∷ hs) n = if nat_le n h.lines then Some (h, n) else header_line hs (n - h.lines)

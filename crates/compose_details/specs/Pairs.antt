@@ -1,9 +1,9 @@
--- What is told of a pair of a certificate (this project's profile).
+-- What is printed of a pair of a certificate (this project's profile).
 use Rattle.std.specs.Prelude.{ℕ, List, [], ◌∷◌, ◌++◌, codes}
 use Rattle.keysym_core.specs.Names.{KeysymNames}
 use Rattle.compose_messages.specs.Overlaps.{events}
 
--- after which keys a node stands
+-- after which keys a node is reached
 abbrev pub after : KeysymNames → List ℕ → List ℕ
 after names [] = codes " at rest"
 after names (k ∷ keys) = codes " after" ++ events names (k ∷ keys)

@@ -18,9 +18,14 @@ use compose_walk::{MakeFault, differences};
 use keysym_core::{Keysym, Names};
 use std::alloc::{AllocError, Global};
 
-/// What `-v` adds to an answer, in lines: where the tables differ, the definitions that count in both, and a hint where a key begins
-/// a sequence that began none; of a fresh keysym that is not allowed, its name. At the cost of reading the tables once more and of
-/// `differences`.
+/// Returns what `-v` adds to an answer, as lines. If the tables differ: where they do, the
+/// definitions that count in both, and a hint if a difference is a key that starts a sequence in
+/// the new table but none in the old one. If a fresh keysym is not allowed: its name. If the answer
+/// is yes: the fresh keysyms of the certificate, unless arguments allow some.
+///
+/// Costs reading the tables once more, and computing their `differences`.
+///
+/// Errors: `AllocError` if memory runs out.
 pub fn answer_details<T: ComposeTable>(
     alloc: Global,
     given: &Given<'_>,
@@ -43,7 +48,8 @@ pub fn answer_details<T: ComposeTable>(
     Ok(text)
 }
 
-/// Adds the fresh keysyms of a certificate, for which nothing is promised, where no argument allows them.
+/// Adds the fresh keysyms of a certificate, for which nothing is promised, if no argument allows
+/// any.
 fn push_fresh(alloc: Global, text: &mut String, given: &Given<'_>) -> Result<(), AllocError>
     ensures { OnOk result
         (string_bytes text.new ≡ string_bytes text.old ++ yes_lines given.now) }
@@ -58,7 +64,7 @@ fn push_fresh(alloc: Global, text: &mut String, given: &Given<'_>) -> Result<(),
     }
 }
 
-/// Adds keysyms for which nothing is promised.
+/// Adds the line of the keysyms for which nothing is promised.
 fn push_unpromised(
     alloc: Global,
     text: &mut String,
@@ -78,7 +84,7 @@ fn push_unpromised(
     )
 }
 
-/// Adds the lines of the pair, or of the differences, of the two tables that were given.
+/// Adds the lines of the pair, or else of the differences, of the two tables that were given.
 fn push_moved<T: ComposeTable>(
     alloc: Global,
     text: &mut String,
@@ -101,7 +107,7 @@ fn push_moved<T: ComposeTable>(
     }
 }
 
-/// Adds the lines of the pair, or of the differences, of a migration.
+/// Adds the lines of the pair, or else of the differences, of a migration.
 fn push_migration<'a, T: ComposeTable>(
     alloc: Global,
     text: &mut String,
@@ -126,7 +132,7 @@ fn push_migration<'a, T: ComposeTable>(
     }
 }
 
-/// Adds the lines of the differences, of all or of the first alone, and a hint where one helps.
+/// Adds the lines of all differences or of the first alone, and a hint if one helps.
 fn push_found<T: ComposeTable>(
     alloc: Global,
     text: &mut String,
@@ -149,7 +155,8 @@ fn push_found<T: ComposeTable>(
     push_hinted_differences(alloc, text, old, new, &told[..most.min(told.len())])
 }
 
-/// Adds the lines of a pair of a certificate: the keys that lead to it, and where the sequences stand that go on with the key.
+/// Adds the lines of a pair of a certificate: the keys that lead to it, and the places of the
+/// sequences that go on with the key.
 fn push_faulty_pair<T: ComposeTable>(
     alloc: Global,
     text: &mut String,
@@ -170,7 +177,7 @@ fn push_faulty_pair<T: ComposeTable>(
     push_side(alloc, text, new, &new_keys)
 }
 
-/// The definitions of a table, where they stand, and which of them count.
+/// The definitions of a table, their places, and which of them count.
 #[derive(Drop)]
 struct ReadTable {
     definitions: Definitions,
@@ -179,7 +186,7 @@ struct ReadTable {
 }
 
 impl ReadTable {
-    /// Reads a table that was built once more.
+    /// Reads a table that was built, once more.
     fn read<T: ComposeTable>(
         alloc: Global,
         names: &Names,
@@ -202,7 +209,7 @@ impl ReadTable {
         }))
     }
 
-    /// The same, lent.
+    /// Borrows this table as a side.
     fn side<'a>(
         &'a self,
         names: &'a Names,

@@ -1,4 +1,4 @@
-//! Definitions, and where they stand.
+//! Definitions and their places.
 ghost use Rattle.std.specs.Prelude.{◌≡◌, ◌++◌, ◌<◌, if◌then◌else◌, OnOk, IfOk, Some, length, slice_get, string_bytes, codes};
 ghost use Rattle.compose_model.specs.Table.{Definition};
 ghost use Rattle.compose_places.specs.Last.{last_with};
@@ -17,7 +17,7 @@ use keysym_core::{Keysym, Names};
 use std::alloc::{AllocError, Global};
 use std::fmt::Write;
 
-/// The definitions of a table, and where they stand.
+/// The definitions of a table and their places.
 #[derive(Clone, Copy)]
 pub(crate) struct PlacedTable<'a> {
     pub names: &'a Names,
@@ -26,7 +26,8 @@ pub(crate) struct PlacedTable<'a> {
     pub places: &'a [DefinitionPlace],
 }
 
-/// Adds the lines of an overlap: that the one sequence is a prefix of the other one, and where each stands. O(bytes of the sources).
+/// Adds the lines of an overlap: that one sequence is a prefix of the other, and the place of each.
+/// O(bytes of the sources).
 pub(crate) fn push_overlap(
     alloc: Global,
     text: &mut String,
@@ -47,7 +48,7 @@ pub(crate) fn push_overlap(
     }
 }
 
-/// Adds the lines of an overlap of these definitions.
+/// Adds the lines of an overlap, by the definitions of the table.
 fn push_overlap_of(
     alloc: Global,
     text: &mut String,
@@ -107,7 +108,7 @@ fn push_short(
     }
 }
 
-/// Adds the lines of the shorter sequence, which the definition with this index has.
+/// Adds the lines of the shorter sequence, which is that of the definition with this index.
 fn push_short_at(
     alloc: Global,
     text: &mut String,
@@ -143,7 +144,8 @@ fn push_long(
     }
 }
 
-/// The index of the last definition with this sequence, if there is one. O(keysyms of all definitions).
+/// Returns the index of the last definition with this sequence, if there is one. O(keysyms of all
+/// definitions).
 fn last_with(definitions: &Definitions, sequence: &[Keysym]) -> Option<usize>
     ensures { result ≡ last_with definitions.now sequence.now }
 {
@@ -154,14 +156,14 @@ fn last_with(definitions: &Definitions, sequence: &[Keysym]) -> Option<usize>
     last
 }
 
-/// This index, or else the one before.
+/// Returns this index if it is wanted, or else the previous one.
 fn later(is_wanted: bool, index: usize, last: Option<usize>) -> Option<usize>
     ensures { result ≡ (if is_wanted then Some index else last) }
 {
     if is_wanted { Some(index) } else { last }
 }
 
-/// Adds the line of the definition with this index: its sequence, and what it gives.
+/// Adds the line of the definition with this index: its sequence and its text.
 pub(crate) fn push_definition(
     alloc: Global,
     text: &mut String,
@@ -179,7 +181,7 @@ pub(crate) fn push_definition(
     push_line_at(text, placed, index, &said)
 }
 
-/// The sequence of the definition with this index, and what it gives.
+/// Returns the sequence and the text of the definition with this index, as words.
 fn definition_words(
     alloc: Global,
     names: &Names,
@@ -200,7 +202,7 @@ fn definition_words(
     Ok(text)
 }
 
-/// Adds that a sequence gives this quoted text, which a stranger may have written.
+/// Adds that a sequence gives this quoted text, which may come from an untrusted file.
 fn push_given(text: &mut String, quoted: &str) -> Result<(), AllocError>
     ensures { OnOk result
         (string_bytes text.new
@@ -211,7 +213,7 @@ fn push_given(text: &mut String, quoted: &str) -> Result<(), AllocError>
     Ok(())
 }
 
-/// Adds a line at the place with this index.
+/// Adds a line at the place of the definition with this index.
 fn push_line_at(
     text: &mut String,
     placed: &PlacedTable<'_>,

@@ -10,13 +10,14 @@ use compose_read::{ReadFault, Sources, read_faults};
 use keysym_core::Names;
 use std::alloc::{AllocError, Global};
 
-/// How many faults are looked at: as many as lines are read.
+/// The most faults that are examined: as many as lines are read.
 const MOST_FAULTS: usize = 1_000_000;
 
-/// The lines that are told, by their sources and numbers.
+/// The lines that were reported, as the index of their source and their number.
 type Told = ArrayVec<(usize, usize), 20>;
 
-/// Adds a line for each faulty line of a table, up to twenty, in which this fault is the first. O(bytes of the lines that are visited).
+/// Adds a line for each faulty line of a table, at most twenty, beginning with this first fault.
+/// O(bytes of the lines that are visited).
 pub(crate) fn push_faulty_lines(
     alloc: Global,
     text: &mut String,
@@ -35,7 +36,8 @@ pub(crate) fn push_faulty_lines(
     push_others(text, table, place_of(first), &others)
 }
 
-/// Adds a line for each of these faults that stands in another line than the first one and those before it, up to nineteen.
+/// Adds a line for each of these faults that is in another line than the first fault and the faults
+/// before it, at most nineteen.
 fn push_others(
     text: &mut String,
     table: &GivenTable<'_>,
@@ -64,21 +66,21 @@ fn push_others(
     Ok(())
 }
 
-/// The name of the first source; nothing where there is none.
+/// Returns the name of the first source, or an empty text if there is none.
 pub(crate) fn root_of(sources: &Sources) -> &str
     ensures { result.now ≡ faulty.root_of sources.now }
 {
     sources.name(0).unwrap_or("")
 }
 
-/// The source and the line of a fault; line 0 where it stands in none.
+/// Returns the source and the line of a fault; line 0 if it has none.
 fn place_of(fault: &ReadFault) -> (usize, usize)
     ensures { result ≡ faulty.place_of fault.now }
 {
     line_of(fault).unwrap_or((0, 0))
 }
 
-/// Whether the place is one of these.
+/// Returns whether the place is one of these.
 fn is_among(places: &[(usize, usize)], place: (usize, usize)) -> bool
     ensures { result ≡ faulty.is_among places.now place }
 {

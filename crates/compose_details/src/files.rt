@@ -11,7 +11,10 @@ use compose_manifest::ManifestFault;
 use compose_messages::{FileMessage, Message, manifest_hint, manifest_words};
 use std::alloc::{AllocError, Global};
 
-/// What `-v` tells of a fault of the manifest at this path, whose bytes these are: its line, and a hint where it is a table. O(bytes).
+/// Returns what `-v` prints of a fault in the manifest at this path with these bytes: the faulty
+/// line, and a hint if the file is a table. O(bytes).
+///
+/// Errors: `AllocError` if memory runs out.
 pub fn manifest_details(
     alloc: Global,
     path: &str,
@@ -27,7 +30,8 @@ pub fn manifest_details(
     Ok(text)
 }
 
-/// What `-v` tells of an include that leads to no file: where it stands, and why. Of another fault it tells nothing. O(1).
+/// Returns the message for an include that leads to no file: its place, and the reason. `None` for
+/// any other fault. O(1).
 pub fn find_message(fault: &FindFault) -> Option<FileMessage<'_>>
     ensures { option_map (λ told. file_text told) result ≡ words.find_said fault.now }
 {
@@ -46,7 +50,7 @@ pub fn find_message(fault: &FindFault) -> Option<FileMessage<'_>>
     }
 }
 
-/// The words for why an include leads to no file.
+/// Returns the words for the reason why an include leads to no file.
 fn include_words(fault: &IncludeFault) -> &'static str
     ensures { result.now ≡ words.include_said fault.now }
 {

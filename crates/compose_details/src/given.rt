@@ -1,4 +1,4 @@
-//! What a command was given.
+//! The input of a command.
 ghost use Rattle.std.specs.Prelude.{List, map};
 ghost use Rattle.compose_details.specs.Given.{AreGivenTables, IsGiven, IsGivenTable, parts_of};
 ghost use Rattle.compose_input.specs.declared.tables.TableFiles.{TableFiles};
@@ -6,44 +6,44 @@ ghost use Rattle.compose_input.specs.declared.tables.TableFiles.{TableFiles};
 use compose_input::{Header, LocaleTable, NameFiles, TableFiles};
 use compose_migration::TableInput;
 
-/// A table as it was given.
+/// A table that a command was given.
 #[derive(Clone, Copy)]
 pub struct GivenTable<'a> {
-    /// The path of its manifest.
+    /// The path that was given: that of its manifest, or of its Compose file.
     pub manifest: &'a str,
-    /// The paths of the files of its sources, in their order.
+    /// The paths of the files of its sources, in the order of the sources.
     pub paths: &'a [String],
-    /// Its sources, and what is done with its overlaps.
+    /// Its sources, and the rule for its overlaps.
     pub input: TableInput<'a>,
-    /// The table of the locale, where one is known.
+    /// The table of the locale, if it is known.
     pub locale: Option<&'a LocaleTable>,
 }
 
-/// What a command was given.
+/// The input of a command.
 #[derive(Clone, Copy)]
 pub struct Given<'a> {
-    /// The files of names, in their order.
+    /// The files of keysym names, in their order.
     pub headers: &'a [Header<'a>],
-    /// The lines of all of them.
+    /// The lines of all of these files, one file after another.
     pub header: &'a [u8],
-    /// The arguments that are to name keysyms.
+    /// The arguments that have to name keysyms.
     pub arguments: &'a [&'a str],
-    /// The one table, or the old one and the new one.
+    /// The one table, or the old one and then the new one.
     pub tables: &'a [GivenTable<'a>],
-    /// The path of the repertoire; empty where the command has none.
+    /// The path of the repertoire; empty if the command has none.
     pub repertoire: &'a str,
-    /// The text of the repertoire; empty where the command has none.
+    /// The text of the repertoire; empty if the command has none.
     pub repertoire_text: &'a [u8],
-    /// The path of the certificate; empty where the command has none.
+    /// The path of the certificate; empty if the command has none.
     pub certificate: &'a str,
-    /// The text of the certificate; empty where the command has none.
+    /// The text of the certificate; empty if the command has none.
     pub certificate_text: &'a [u8],
-    /// Whether all differences are told, and not the first alone.
+    /// Whether all differences are printed, and not the first alone.
     pub all: bool,
 }
 
 impl<'a> GivenTable<'a> {
-    /// A table by its files.
+    /// Makes a table of its files.
     pub fn of(files: &'a TableFiles) -> GivenTable<'a>
         ensures { IsGivenTable files.now result }
     {
@@ -60,7 +60,8 @@ impl<'a> GivenTable<'a> {
 }
 
 impl<'a> Given<'a> {
-    /// Names, arguments that are to name keysyms, and tables; no other files.
+    /// Makes an input of names, arguments that have to name keysyms, and tables, without other
+    /// files.
     pub fn of(
         names: &'a NameFiles<'a>,
         arguments: &'a [&'a str],

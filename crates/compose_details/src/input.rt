@@ -1,4 +1,4 @@
-//! Why what a command was given can't be read, in lines.
+//! Why an input of a command can't be read, as lines.
 ghost use Rattle.std.specs.Prelude.{◌≡◌, ◌++◌, ℕ, List, flat_map, IfOk, OnOk, string_bytes};
 ghost use Rattle.compose_details.specs.Input as words;
 
@@ -12,8 +12,10 @@ use compose_shown::Shown;
 use std::alloc::{AllocError, Global};
 use std::fmt::Write;
 
-/// The lines that say why what a command was given can't be read: the refusal, and with `verbose` below it where the fault is, and
-/// why. O(bytes of a refused manifest).
+/// Returns the lines that report why an input of a command can't be read: the refusal, and with
+/// `verbose` also the place of the fault and the reason. O(bytes of a refused manifest).
+///
+/// Errors: `AllocError` if memory runs out.
 pub fn fault_text(alloc: Global, verbose: bool, fault: &Fault) -> Result<String, AllocError>
     ensures { IfOk result
         (λ text. (own : List ℕ) × (string_bytes text ≡ words.fault_lines own verbose fault.now)) }
@@ -22,8 +24,11 @@ pub fn fault_text(alloc: Global, verbose: bool, fault: &Fault) -> Result<String,
     fault_lines(alloc, verbose, fault, &own)
 }
 
-/// The lines that say for people why what a command was given can't be read: where the fault is, and why, and the refusal only where nothing
-/// more is to be said. O(bytes of a refused manifest).
+/// Returns the lines that report to people why an input of a command can't be read: the place of
+/// the fault and the reason, or the refusal alone if nothing more is known. O(bytes of a refused
+/// manifest).
+///
+/// Errors: `AllocError` if memory runs out.
 pub fn fault_words(alloc: Global, fault: &Fault) -> Result<String, AllocError>
     ensures { IfOk result
         (λ text. (own : List ℕ) × (string_bytes text ≡ words.fault_words own fault.now)) }
@@ -32,7 +37,7 @@ pub fn fault_words(alloc: Global, fault: &Fault) -> Result<String, AllocError>
     worded_lines(alloc, fault, &own)
 }
 
-/// The same lines, by what the fault is printed as.
+/// Returns the same lines, by the text that the fault is printed as.
 fn worded_lines(alloc: Global, fault: &Fault, own: &str) -> Result<String, AllocError>
     ensures { IfOk result (λ text. string_bytes text ≡ words.fault_words own.now fault.now) }
 {
@@ -44,7 +49,8 @@ fn worded_lines(alloc: Global, fault: &Fault, own: &str) -> Result<String, Alloc
     }
 }
 
-/// What the fault of a manifest, of a source or of a search is printed as; nothing of another fault.
+/// Returns the text that the fault of a manifest, of a source or of a search is printed as; an
+/// empty text for any other fault.
 fn own_text(alloc: Global, fault: &Fault) -> Result<String, AllocError> {
     match fault {
         Fault::Manifest { fault, .. } => format!(in alloc; "{fault}"),
@@ -54,7 +60,7 @@ fn own_text(alloc: Global, fault: &Fault) -> Result<String, AllocError> {
     }
 }
 
-/// The same lines, by what the fault is printed as.
+/// Returns the lines of `fault_text`, by the text that the fault is printed as.
 fn fault_lines(alloc: Global, verbose: bool, fault: &Fault, own: &str) -> Result<String, AllocError>
     ensures { IfOk result
         (λ text. string_bytes text ≡ words.fault_lines own.now verbose fault.now) }
@@ -66,7 +72,7 @@ fn fault_lines(alloc: Global, verbose: bool, fault: &Fault, own: &str) -> Result
     Ok(text)
 }
 
-/// The line that refuses what was given. A path may come from a stranger's file.
+/// Returns the line that refuses the input. Its path may come from an untrusted file.
 fn refusal_line(alloc: Global, fault: &Fault, own: &str) -> Result<String, AllocError>
     ensures { IfOk result (λ text. string_bytes text ≡ words.refusal_line own.now fault.now) }
 {
@@ -88,7 +94,7 @@ fn refusal_line(alloc: Global, fault: &Fault, own: &str) -> Result<String, Alloc
     }
 }
 
-/// Adds where the fault is, and why.
+/// Adds the place of the fault and the reason.
 fn push_details(alloc: Global, text: &mut String, fault: &Fault) -> Result<(), AllocError>
     ensures { OnOk result
         (string_bytes text.new ≡ string_bytes text.old ++ words.fault_details fault.now) }
@@ -107,7 +113,8 @@ fn push_details(alloc: Global, text: &mut String, fault: &Fault) -> Result<(), A
     }
 }
 
-/// Adds which include leads to no file, why nothing is read where it was looked for, and a hint where one helps.
+/// Adds which include leads to no file, why nothing is read at each place where its file was
+/// searched for, and a hint if one helps.
 fn push_search(text: &mut String, fault: &FindFault, tried: &[Unopened]) -> Result<(), AllocError>
     ensures { OnOk result
         (string_bytes text.new
@@ -119,7 +126,7 @@ fn push_search(text: &mut String, fault: &FindFault, tried: &[Unopened]) -> Resu
     push_hint(text, find_hint(fault))
 }
 
-/// The hint against an include that leads to no file, where one helps.
+/// Returns the hint for an include that leads to no file, if one helps.
 fn find_hint(fault: &FindFault) -> Option<Hint>
     ensures { result ≡ words.find_hint fault.now }
 {
@@ -129,7 +136,7 @@ fn find_hint(fault: &FindFault) -> Option<Hint>
     }
 }
 
-/// Adds which include leads to no file, if the fault is one of an include.
+/// Adds which include leads to no file, if the fault concerns an include.
 fn push_include(text: &mut String, fault: &FindFault) -> Result<(), AllocError>
     ensures { OnOk result
         (string_bytes text.new ≡ string_bytes text.old ++ words.include_line fault.now) }

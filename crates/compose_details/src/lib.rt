@@ -1,12 +1,14 @@
-//! What `-v` adds to a refusal or to the answer `no`: lines with the path of a file, a place in it, and what is wrong there, and hints.
+//! What `-v` adds to a refusal or to the answer `no`: lines with the path of a file, a position in
+//! it and what is wrong there, and hints.
 //!
-//! [`refusal_details`] tells every faulty line of a table, up to twenty, both places of an overlap, and of the other files the line;
-//! [`manifest_details`] what is wrong with a manifest; [`find_message`] which include leads to no file; [`fault_text`] why what a command was given
-//! can't be read.
+//! [`refusal_details`] prints every faulty line of a table (at most twenty), both places of an
+//! overlap, and the faulty line of any other file. [`manifest_details`] prints what is wrong with a
+//! manifest, [`find_message`] which include leads to no file, and [`fault_text`] why an input of a
+//! command can't be read.
 //!
 //! ```text
-//! refused: new: 1 Read: 4 UnknownKeysym source=0 line=1 index=0      # what the command prints without -v
-//! composecheck: new.compose:1:1: no keysym has the name "nosuch"     # what -v adds
+//! refused: new: 1 Read: 4 UnknownKeysym source=0 line=1 index=0      # without -v
+//! composecheck: new.compose:1:1: no keysym has the name "nosuch"     # with -v
 //! composecheck: hint: `--names builtin` has the names of keysymdef.h
 //! ```
 #![tactic(auto)]

@@ -8,7 +8,7 @@ use compose_messages::{FileMessage, Message, Position};
 use std::alloc::AllocError;
 use std::fmt::Write;
 
-/// Adds a line about a file, and a place in it.
+/// Adds a line about a file and a position in it.
 pub(crate) fn push_line(
     text: &mut String,
     path: &str,
@@ -28,7 +28,7 @@ pub(crate) fn push_line(
     Ok(())
 }
 
-/// Adds a line that is about no file.
+/// Adds a line that concerns no file.
 pub(crate) fn push_remark(text: &mut String, message: &Message) -> Result<(), AllocError>
     ensures { OnOk result
         (string_bytes text.new
@@ -38,14 +38,14 @@ pub(crate) fn push_remark(text: &mut String, message: &Message) -> Result<(), Al
     Ok(())
 }
 
-/// The beginning of the line with this number.
+/// Returns the beginning of the line with this number.
 pub(crate) fn whole_line(line: usize) -> Option<Position>
     ensures { result ≡ lines.whole_line line }
 {
     Some(Position { line, column: 1 })
 }
 
-/// The path of the file of the source with this index; nothing where there is none.
+/// Returns the path of the file of the source with this index, or an empty text if there is none.
 pub(crate) fn path_of(paths: &[String], source: usize) -> &str
     ensures { result.now ≡ lines.path_of (map (λ path. string_bytes path) paths.now) source }
 {
@@ -55,7 +55,7 @@ pub(crate) fn path_of(paths: &[String], source: usize) -> &str
     }
 }
 
-/// The file in which this line of all names stands, and its number there.
+/// Returns the file that has this line of all names, and the number of the line in it.
 pub(crate) fn header_line<'a>(headers: &[Header<'a>], line: usize) -> Option<(Header<'a>, usize)>
     ensures { result ≡ lines.header_line headers.now line }
 {

@@ -1,4 +1,4 @@
-//! The conditions that a certificate does not meet: the pair of nodes, and the keys that lead to it.
+//! Conditions that a certificate does not meet: the pair of nodes, and the keys that lead to it.
 ghost use Rattle.std.specs.Prelude.{◌≡◌, ◌++◌, ◌∷◌, [], ◌≤◌, OnOk, IfOk, IfSome, length, take, string_bytes};
 ghost use Rattle.compose_model.specs.Nodes.{node as node_at};
 ghost use Rattle.compose_read.specs.Settle.{IsSettled};
@@ -23,8 +23,8 @@ pub(crate) struct FaultyPair {
     pub keysym: Keysym,
 }
 
-/// The pair of the certificate of this text that a fault names, and the key: the roots for a new start, none where the fault is about no
-/// pair.
+/// Returns the pair that a fault names, of the certificate with this text, and the key: the roots
+/// for a new start, and `None` if the fault concerns no pair.
 pub(crate) fn faulty_pair(
     alloc: Global,
     text: &[u8],
@@ -46,7 +46,8 @@ pub(crate) fn faulty_pair(
     }
 }
 
-/// The pair with this index of the certificate of this text, if there is one, and the key.
+/// Returns the pair with this index of the certificate with this text, if there is one, and the
+/// key.
 fn pair_at(
     alloc: Global,
     text: &[u8],
@@ -64,7 +65,7 @@ fn pair_at(
     }
 }
 
-/// The pair with this index, if there is one, and the key.
+/// Returns the pair with this index, if there is one, and the key.
 fn pair_with(pairs: &[(u32, u32)], index: usize, keysym: Keysym) -> Option<FaultyPair>
     ensures { option_map faulty.shown result ≡ faulty.pair_with pairs.now index keysym }
 {
@@ -72,7 +73,7 @@ fn pair_with(pairs: &[(u32, u32)], index: usize, keysym: Keysym) -> Option<Fault
     Some(FaultyPair { old, new, keysym })
 }
 
-/// Adds after which keys of each table a pair of nodes stands.
+/// Adds after which keys of each table a pair of nodes is reached.
 pub(crate) fn push_pair(
     alloc: Global,
     text: &mut String,
@@ -91,7 +92,7 @@ pub(crate) fn push_pair(
     text.push_str(" in the new one\n")
 }
 
-/// Adds after which keys, or that it is at rest.
+/// Adds after which keys a node is reached, or that it is at rest.
 fn push_after(
     alloc: Global,
     text: &mut String,
@@ -108,8 +109,8 @@ fn push_after(
     push_events(alloc, text, names, keys)
 }
 
-/// The keys that lead to the node with this number and then this key, if a definition begins with them. O(keysyms of all definitions × log
-/// edges of a node).
+/// Returns the keys that lead to the node with this number, if a definition begins with them.
+/// O(keysyms of all definitions × log edges of a node).
 pub(crate) fn keys_to<T: ComposeTable>(
     alloc: Global,
     table: &T,
@@ -119,7 +120,7 @@ pub(crate) fn keys_to<T: ComposeTable>(
     ensures { IfOk result
         (λ found. IfSome found (λ keys. keys.items ≡ node_at (T.definitions table.now) number)) }
 {
-    // The contract of this call says that the table is settled.
+    // This call's contract states that the table is settled.
     let _ = table.node_count();
     if number == 0 {
         return Ok(Some(Vec::new(alloc)));
@@ -133,7 +134,8 @@ pub(crate) fn keys_to<T: ComposeTable>(
     Ok(None)
 }
 
-/// How many keysyms of the sequence lead to the node with this number, if they do.
+/// Returns the number of keysyms of the sequence that lead to the node with this number, if some
+/// do.
 fn prefix_to<T: ComposeTable>(table: &T, sequence: &[Keysym], number: u32) -> Option<usize>
     requires { IsSettled (T.definitions table.now) }
     ensures { IfSome result

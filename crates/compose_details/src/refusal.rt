@@ -1,4 +1,4 @@
-//! What is told of a refusal.
+//! What `-v` prints of a refusal.
 ghost use Rattle.std.specs.Prelude.{◌≡◌, ◌++◌, not, map, option_copied, option_map, OnOk, IfOk, string_bytes};
 ghost use Rattle.keysym_core.specs.Header.{names_of};
 ghost use Rattle.keysym_core.specs.Printed.{printed};
@@ -24,9 +24,13 @@ use keysym_core::{Keysym, NameFault, Names};
 use std::alloc::{AllocError, Global};
 use std::fmt::Write;
 
-/// What `-v` tells of a refusal, in lines: the faulty lines of a table, up to twenty, both places of an overlap, the line of another
-/// file, and a hint where one helps. Nothing where memory was refused. At the cost of reading the table and the names once more, and
-/// O(bytes of the lines that are visited).
+/// Returns what `-v` prints of a refusal, as lines: the faulty lines of a table (at most twenty),
+/// both places of an overlap, the faulty line of another file, and a hint if one helps. Empty if
+/// the refusal is that memory ran out.
+///
+/// Costs reading the table and the names once more, and O(bytes of the lines that are visited).
+///
+/// Errors: `AllocError` if memory runs out here.
 pub fn refusal_details(
     alloc: Global,
     given: &Given<'_>,
@@ -43,7 +47,8 @@ pub fn refusal_details(
     Ok(text)
 }
 
-/// The name of the key of the character that the text is, by the names of this header; none where it is no character, or no key has it.
+/// Returns the name of the key of a character, if the text is one, by the names of this header;
+/// `None` if it is no character, or if no key has it.
 fn key_called(alloc: Global, header: &[u8], text: &str) -> Result<Option<String>, AllocError>
     ensures { IfOk result
         (λ called. CallsKey (names_of header.now) text.now (option_map string_bytes called)) }
@@ -55,7 +60,7 @@ fn key_called(alloc: Global, header: &[u8], text: &str) -> Result<Option<String>
     }
 }
 
-/// The name of the key of the character that the text is, by these names.
+/// Returns the name of the key of the character, if the text is one, by these names.
 fn called_by(alloc: Global, names: &Names, text: &str) -> Result<Option<String>, AllocError>
     ensures { IfOk result
         (λ called. IsCalled names.now text.now (option_map string_bytes called)) }
@@ -66,7 +71,7 @@ fn called_by(alloc: Global, names: &Names, text: &str) -> Result<Option<String>,
     }
 }
 
-/// How a keysym is printed.
+/// Returns the keysym as it is printed.
 fn printed(alloc: Global, names: &Names, keysym: Keysym) -> Result<String, AllocError>
     ensures { IfOk result (λ name. string_bytes name ≡ printed names.now keysym) }
 {
@@ -76,7 +81,8 @@ fn printed(alloc: Global, names: &Names, keysym: Keysym) -> Result<String, Alloc
     }
 }
 
-/// Adds the hint with the name of the key of a character, if it has one, and else the other one, if there is one.
+/// Adds the hint with the name of a character's key if there is one, and otherwise the other hint,
+/// if there is one.
 fn push_last_hint(
     text: &mut String,
     called: &Option<String>,
@@ -95,7 +101,8 @@ fn push_last_hint(
     }
 }
 
-/// Adds the hint with the locale whose table is not in UTF-8, if that is the fault, and else the other one, if there is one.
+/// Adds the hint with the locale whose table is not in UTF-8 if that is the fault, and otherwise
+/// the other hint, if there is one.
 fn push_other_hint(
     text: &mut String,
     locale: Option<&str>,
@@ -121,7 +128,7 @@ fn push_locale_hint(text: &mut String, name: &str) -> Result<(), AllocError>
     Ok(())
 }
 
-/// Adds the hint with the name of the key of a character.
+/// Adds the hint with the name of a character's key.
 fn push_character_hint(text: &mut String, name: &str) -> Result<(), AllocError>
     ensures { OnOk result
         (string_bytes text.new ≡ string_bytes text.old ++ words.character_line name.now) }
@@ -131,7 +138,8 @@ fn push_character_hint(text: &mut String, name: &str) -> Result<(), AllocError>
     Ok(())
 }
 
-/// What stands in the place of a keysym's name at a refusal, if it is about one; else nothing.
+/// Returns the text that was written instead of a keysym's name, if the refusal is about one, and
+/// otherwise an empty text.
 fn refused_text<'a>(given: &Given<'a>, refusal: &Refusal) -> &'a str
     ensures { result.now ≡ words.refused_text given.now refusal.now }
 {
@@ -150,7 +158,7 @@ fn refused_text<'a>(given: &Given<'a>, refusal: &Refusal) -> &'a str
     }
 }
 
-/// The locale in whose table a text is not UTF-8, if that is the refusal.
+/// Returns the locale whose table has a text that is not UTF-8, if that is the refusal.
 fn refused_locale<'a>(given: &Given<'a>, refusal: &Refusal) -> Option<&'a str>
     ensures { option_copied result ≡ words.refused_locale given.now refusal.now }
 {
@@ -168,7 +176,8 @@ fn refused_locale<'a>(given: &Given<'a>, refusal: &Refusal) -> Option<&'a str>
     }
 }
 
-/// The locale in whose table a text is not UTF-8, if that is the fault of the table with this index.
+/// Returns the locale whose table has a text that is not UTF-8, if that is the fault of the table
+/// with this index.
 fn numbered_locale<'a>(
     tables: &[GivenTable<'a>],
     index: usize,
@@ -182,7 +191,7 @@ fn numbered_locale<'a>(
     }
 }
 
-/// The locale in whose table a text is not UTF-8, if that is the fault of this table.
+/// Returns the locale whose table has a text that is not UTF-8, if that is the fault of this table.
 fn table_locale<'a>(table: &GivenTable<'a>, fault: &TableFault) -> Option<&'a str>
     ensures { option_copied result ≡ words.table_locale table.now fault.now }
 {
@@ -192,7 +201,7 @@ fn table_locale<'a>(table: &GivenTable<'a>, fault: &TableFault) -> Option<&'a st
     }
 }
 
-/// The locale whose table the source with this index is.
+/// Returns the locale whose table is the source with this index.
 fn locale_of_source<'a>(table: &GivenTable<'a>, source: usize) -> Option<&'a str>
     ensures { option_copied result ≡ words.locale_of_source table.now source }
 {
@@ -202,7 +211,7 @@ fn locale_of_source<'a>(table: &GivenTable<'a>, source: usize) -> Option<&'a str
     }
 }
 
-/// The name of this locale, if its table is at this path.
+/// Returns the name of this locale, if its table is at this path.
 fn locale_at<'a>(locale: Option<&'a LocaleTable>, path: &str) -> Option<&'a str>
     ensures { option_copied result ≡ words.locale_at path.now (option_copied locale.entry) }
 {
@@ -212,7 +221,7 @@ fn locale_at<'a>(locale: Option<&'a LocaleTable>, path: &str) -> Option<&'a str>
     }
 }
 
-/// The argument with this index; nothing where there is none.
+/// Returns the argument with this index, or an empty text if there is none.
 fn argument_text<'a>(arguments: &'a [&'a str], index: usize) -> &'a str
     ensures { result.now ≡ words.argument_text (map (λ a. a.now) arguments.now) index }
 {
@@ -222,7 +231,8 @@ fn argument_text<'a>(arguments: &'a [&'a str], index: usize) -> &'a str
     }
 }
 
-/// What stands in the place of a keysym's name at a fault of the table with this index.
+/// Returns the text that was written instead of a keysym's name, at a fault of the table with this
+/// index.
 fn table_text<'a>(given: &Given<'a>, index: usize, fault: &TableFault) -> &'a str
     ensures { result.now ≡ words.numbered_text given.now index fault.now }
 {
@@ -232,7 +242,7 @@ fn table_text<'a>(given: &Given<'a>, index: usize, fault: &TableFault) -> &'a st
     }
 }
 
-/// The hint against a refusal, where one helps; of the name of a key it says nothing.
+/// Returns the hint for a refusal, if one helps, except for the hint with the name of a key.
 fn refusal_hint(given: &Given<'_>, refusal: &Refusal) -> Option<Hint>
     ensures { result ≡ words.refusal_hint given.now refusal.now }
 {
@@ -255,14 +265,14 @@ fn refusal_hint(given: &Given<'_>, refusal: &Refusal) -> Option<Hint>
     }
 }
 
-/// Whether files of names are given.
+/// Returns whether files of names are given.
 fn has_headers(given: &Given<'_>) -> bool
     ensures { result ≡ not (words.is_unnamed given.now) }
 {
     !given.headers.is_empty()
 }
 
-/// The hint against a fault of the table with this index.
+/// Returns the hint for a fault of the table with this index.
 fn numbered_hint(
     tables: &[GivenTable<'_>],
     are_given: bool,
@@ -277,7 +287,7 @@ fn numbered_hint(
     }
 }
 
-/// Adds what is told of a refusal.
+/// Adds the lines of a refusal, without its hint.
 fn push_refusal(
     alloc: Global,
     text: &mut String,
@@ -313,7 +323,7 @@ fn push_refusal(
     }
 }
 
-/// Adds what is said of a line of a file, or of all of it.
+/// Adds the message for a line of a file, or for the whole file.
 pub(crate) fn push_words(text: &mut String, path: &str, said: &FaultWords) -> Result<(), AllocError>
     ensures { OnOk result
         (string_bytes text.new
@@ -337,7 +347,7 @@ pub(crate) fn push_hint(text: &mut String, hint: Option<Hint>) -> Result<(), All
     Ok(())
 }
 
-/// Adds what is said of a fault of the names.
+/// Adds the message for a fault of the names.
 fn push_name_fault(
     text: &mut String,
     headers: &[Header<'_>],
@@ -359,7 +369,7 @@ fn push_name_fault(
     }
 }
 
-/// Adds that the argument with this index names no keysym, if there is one.
+/// Adds that the argument with this index names no keysym, if there is such an argument.
 fn push_argument(text: &mut String, arguments: &[&str], index: usize) -> Result<(), AllocError>
     ensures { OnOk result
         (string_bytes text.new
@@ -372,7 +382,7 @@ fn push_argument(text: &mut String, arguments: &[&str], index: usize) -> Result<
     }
 }
 
-/// The hint against an argument that names no keysym.
+/// Returns the hint for an argument that names no keysym.
 fn key_hint(arguments: &[&str], are_given: bool, index: usize) -> Option<Hint>
     ensures { result ≡ words.key_hint are_given (map (λ a. a.now) arguments.now) index }
 {
@@ -382,7 +392,7 @@ fn key_hint(arguments: &[&str], are_given: bool, index: usize) -> Option<Hint>
     }
 }
 
-/// Adds what is said of a fault of the table with this index.
+/// Adds the lines of a fault of the table with this index.
 fn push_table(
     alloc: Global,
     text: &mut String,
@@ -400,7 +410,7 @@ fn push_table(
     }
 }
 
-/// Adds the lines of a fault of a table that is read with the names of this header.
+/// Adds the lines of a fault of a table, which is read with the names of this header.
 fn push_by_header(
     alloc: Global,
     text: &mut String,
@@ -446,7 +456,7 @@ fn push_fault_lines(
     }
 }
 
-/// Adds what is said of the fresh keysyms.
+/// Adds the line of a fault of the fresh keysyms.
 fn push_fresh_fault(
     alloc: Global,
     text: &mut String,
@@ -475,7 +485,8 @@ fn push_fresh_fault(
     }
 }
 
-/// Adds these words, and keysyms as a table writes events; nothing where there is none.
+/// Adds a line of these words and the keysyms, written like events of a table; nothing if there are
+/// no keysyms.
 pub(crate) fn push_keysyms(
     alloc: Global,
     text: &mut String,
@@ -495,7 +506,7 @@ pub(crate) fn push_keysyms(
     }
 }
 
-/// Adds these words, and keysyms by these names; nothing where there is none.
+/// Adds a line of these words and the keysyms by these names; nothing if there are no keysyms.
 fn push_named(
     alloc: Global,
     text: &mut String,

@@ -1,4 +1,4 @@
-//! Keys in a table: the definition that they lead to, and where it stands.
+//! Keys in a table: the definition that they lead to, and its place.
 ghost use Rattle.std.specs.Prelude.{◌≡◌, ◌++◌, OnOk, string_bytes};
 ghost use Rattle.compose_details.specs.Sides as words;
 
@@ -11,7 +11,7 @@ use compose_walk::Counterexample;
 use keysym_core::Keysym;
 use std::alloc::{AllocError, Global};
 
-/// A table whose definitions were read, where they stand, and which of them count.
+/// A table whose definitions were read, their places, and which of them count.
 #[derive(Clone, Copy)]
 pub(crate) struct SideTable<'a> {
     pub manifest: &'a str,
@@ -19,7 +19,8 @@ pub(crate) struct SideTable<'a> {
     pub counting: &'a [Option<u32>],
 }
 
-/// Adds the lines of each difference, and below them a hint where one is a key that began nothing. O(differences × definitions).
+/// Adds the lines of each difference, and then a hint if a difference is a key that started no
+/// sequence before. O(differences × definitions).
 pub(crate) fn push_hinted_differences(
     alloc: Global,
     text: &mut String,
@@ -36,7 +37,7 @@ pub(crate) fn push_hinted_differences(
     push_hint(text, differences_hint(old, new, differences))
 }
 
-/// The hint below the differences, where one helps. O(differences × definitions).
+/// Returns the hint for the differences, if one helps. O(differences × definitions).
 fn differences_hint(
     old: &SideTable<'_>,
     new: &SideTable<'_>,
@@ -51,7 +52,8 @@ fn differences_hint(
     }
 }
 
-/// Whether one of the differences is a key that began nothing. O(differences × definitions).
+/// Returns whether a difference is a key that started no sequence before. O(differences ×
+/// definitions).
 fn any_begins_anew(old: &SideTable<'_>, new: &SideTable<'_>, differences: &[Counterexample]) -> bool
     ensures { result ≡ words.any_begins_anew old.now new.now differences.now }
 {
@@ -60,23 +62,26 @@ fn any_begins_anew(old: &SideTable<'_>, new: &SideTable<'_>, differences: &[Coun
         .any(|difference| begins_anew(old, new, &difference.keys))
 }
 
-/// Whether the keys of a difference are a single one, with which no sequence of the old table begins, and one of the new table does.
+/// Returns whether the keys of a difference are a single key with which no sequence of the old
+/// table begins, but one of the new table does.
 ///
-/// The old table rests nowhere else on the way to a difference, so behind other keys no key begins a sequence. O(definitions).
+/// Before the last key of a difference, the old table is at rest only at the start, so no later key
+/// starts a sequence. O(definitions).
 fn begins_anew(old: &SideTable<'_>, new: &SideTable<'_>, keys: &[Keysym]) -> bool
     ensures { result ≡ words.begins_anew old.now new.now keys.now }
 {
     keys.len() == 1 && !is_beginning(old, keys) && is_beginning(new, keys)
 }
 
-/// Whether a sequence of the table begins with the keys. O(definitions).
+/// Returns whether a sequence of the table begins with the keys. O(definitions).
 fn is_beginning(side: &SideTable<'_>, keys: &[Keysym]) -> bool
     ensures { result ≡ words.is_beginning side.now keys.now }
 {
     first_beginning(side.placed.definitions, side.counting, keys).is_some()
 }
 
-/// Adds the lines of each difference: where the definitions stand that count in both tables. O(differences × definitions).
+/// Adds the lines of each difference: the definitions that count in both tables, at their places.
+/// O(differences × definitions).
 fn push_differences(
     alloc: Global,
     text: &mut String,
@@ -111,7 +116,7 @@ fn push_difference(
     push_both_sides(alloc, text, old, new, &difference.keys)
 }
 
-/// Adds the lines of keys in both tables.
+/// Adds the lines of the keys in both tables.
 fn push_both_sides(
     alloc: Global,
     text: &mut String,
@@ -127,7 +132,8 @@ fn push_both_sides(
     push_side(alloc, text, new, keys)
 }
 
-/// Adds the line of the first sequence that begins with the keys, or that none does. O(definitions).
+/// Adds the line of the first sequence that begins with the keys, or that none does.
+/// O(definitions).
 pub(crate) fn push_side(
     alloc: Global,
     text: &mut String,
@@ -160,7 +166,7 @@ fn push_missing(
     push_line(text, side.manifest, None, &Message::Plain(&said))
 }
 
-/// The index of the first of the definitions that count whose sequence begins with the keys.
+/// Returns the index of the first counting definition whose sequence begins with the keys.
 fn first_beginning(
     definitions: &Definitions,
     counting: &[Option<u32>],
@@ -178,7 +184,7 @@ fn first_beginning(
     None
 }
 
-/// Whether the sequence of the definition with this index begins with the keys.
+/// Returns whether the sequence of the definition with this index begins with the keys.
 fn begins(definitions: &Definitions, index: usize, keys: &[Keysym]) -> bool
     ensures { result ≡ words.begins definitions.now keys.now index }
 {

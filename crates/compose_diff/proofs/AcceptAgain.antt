@@ -18,11 +18,11 @@ use Rattle.compose_diff.specs.Accepted.{Line, is_skipped, said_from, is_in_form,
 use Rattle.compose_diff.proofs.Plain.{row_text_plain}
 use Rattle.compose_diff.proofs.PlainLines.{lines_again}
 
--- the rows that somebody meets
+-- the rows that are not harmless
 abbrev met : List DiffRow → List DiffRow
 met rows = filter (λ row. not (is_harmless row.change)) rows
 
--- a line for each of these rows, numbered on from n
+-- a line for each of these rows, numbered from n
 abbrev numbered : ℕ → List DiffRow → List Line
 numbered n [] = []
 numbered n (row ∷ rows) = record { number = n; text = row_text row } ∷ numbered (1 + n) rows
@@ -70,7 +70,7 @@ met_not row rows e = filter_drop (λ r. not (is_harmless r.change)) row rows (ap
 met_too : (row : DiffRow) (rows : List DiffRow) → is_harmless row.change ≡ false → met (row ∷ rows) ≡ row ∷ met rows
 met_too row rows e = filter_keep (λ r. not (is_harmless r.change)) row rows (ap not e)
 
--- ---- each of them is in the form
+-- ---- each of them is in the required form
 
 abbrev is_bad : Line → Bool
 is_bad line = not (is_in_form line)

@@ -1,4 +1,4 @@
--- An answer is lines without controls, so that colours can be put round them and taken away again.
+-- An answer is lines without controls, so that colours can be added and taken away again.
 use Rattle.std.proofs.Common.{◌≡◌, ℕ, zero, suc, ◌-◌, ◌<◌, Bool, true, false, List, [], ◌∷◌, ◌++◌, length, take, map, flat_map, refl, sym, ◌∙◌, ap, ap₂, arith, leb-true}
 use Rattle.std.specs.Prelude.{◌==◌, ◌&&◌, nat_lt, if◌then◌else◌, Option, Some, None, codes, slice_index}
 use Rattle.std.specs.List.{list_all, list_any, slice_split}

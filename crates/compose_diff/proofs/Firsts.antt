@@ -11,7 +11,7 @@ use Rattle.compose_diff.specs.Groups.{Common, common, has, folds_with, firsts, g
 use Rattle.compose_diff.specs.Folds.{group_lines, groups_lines, told, folded_lines}
 use Rattle.compose_diff.specs.Members.{Key, view}
 
--- what holds anyway holds where all went well
+-- what holds in any case also holds if all went well
 pub on_ok : {T E P : Type 0} (result : Result T E) → P → OnOk result P
 on_ok (Ok value) p = p
 on_ok (Err fault) p = tt
@@ -28,7 +28,7 @@ key_of at what = (what.change, what.source, record { ref_ptr = at.ref_ptr; now =
 pub key_again : (at : Bor (List DiffRow)) (what : Common) → view (key_of at what) ≡ what
 key_again at what = λ j. record { change = what.change; source = what.source; keys = names_again at what.keys j }
 
--- ---- one row more
+-- ---- one more row
 
 both_parts : {X Y Z : Type 0} (f : Y → List Z) (g : X → Y) (xs ys : List X) → flat_map f (map g (xs ++ ys)) ≡ flat_map f (map g xs) ++ flat_map f (map g ys)
 both_parts f g [] ys = refl
@@ -65,7 +65,7 @@ module _ (gone : ℕ → Bool) where
       by true = refl
       by false = append-nil (group_lines gone (group_of gone whole row))
 
-  -- what is listed for a row is its group, or nothing where that was taken out
+  -- the rows that are listed for a row are its group, or none if that was taken out
   listed : (at : Common → List DiffRow) (whole rows : List DiffRow) (row : DiffRow) → ((what : Common) → at what ≡ (if list_any (has gone what) rows then [] else filter (has gone what) whole))
       → group_lines gone (option_map_or at (common gone row) (row ∷ [])) ≡ (if list_any (folds_with gone row) rows then [] else group_lines gone (group_of gone whole row))
   listed at whole rows row is = by (common gone row)
@@ -82,7 +82,7 @@ module _ (gone : ℕ → Bool) where
       by None = none (list_any (λ other. false) rows) (none_at_all rows)
       by (Some what) = ap (group_lines gone) (is what) ∙ some (list_any (has gone what) rows) (filter (has gone what) whole)
 
-  -- the lines with those of one row more
+  -- the lines so far with those of one more row
   pub lines_then : (new old text : List ℕ) (at : Common → List DiffRow) (shown : List DiffRow) (i : ℕ) (d : DiffRow) → i < length shown
       → new ≡ old ++ group_lines gone (option_map_or at (common gone (get_or shown i d)) (get_or shown i d ∷ [])) → old ≡ text ++ lines_of shown (take i shown)
       → ((what : Common) → at what ≡ (if list_any (has gone what) (take i shown) then [] else filter (has gone what) shown)) → new ≡ text ++ lines_of shown (take (i + 1) shown)
@@ -93,7 +93,7 @@ module _ (gone : ℕ → Bool) where
       ∙ ap (λ xs. text ++ (lines_of shown (take i shown) ++ xs)) (listed at shown (take i shown) (get_or shown i d) is)
       ∙ ap (λ xs. text ++ xs) (sym (lines_more shown (take i shown) (get_or shown i d)) ∙ ap (lines_of shown) (sym (take_more shown i d less)))
 
-  -- what is listed with one row more
+  -- the groups that are left after one more row
   pub taken_then : (new old : List DiffRow) (what : Common) (shown : List DiffRow) (i : ℕ) (d : DiffRow) → i < length shown
       → new ≡ (if has gone what (get_or shown i d) then [] else old) → old ≡ (if list_any (has gone what) (take i shown) then [] else filter (has gone what) shown)
       → new ≡ (if list_any (has gone what) (take (i + 1) shown) then [] else filter (has gone what) shown)

@@ -1,4 +1,4 @@
--- The first element that passes a test, looked for from the beginning.
+-- The first element that passes a test, searched from the beginning.
 use Rattle.std.proofs.Common.{◌≡◌, ℕ, ◌+◌, ◌<◌, Bool, true, false, List, ◌∷◌, length, map, drop, get_or, sym, ◌∙◌, ap, refl}
 use Rattle.std.specs.Prelude.{Some}
 use Rattle.std.specs.List.{find, list_any}
@@ -10,7 +10,7 @@ use Rattle.compose_diff.specs.Accepted.{Line, tells}
 at_index : {X : Type 0} (xs : List X) (i : ℕ) (x : X) → i < length xs → x ≡ get_or xs i x → drop i xs ≡ x ∷ drop (i + 1) xs
 at_index xs i x less is = drop_more xs i x less ∙ ap (λ y. y ∷ drop (i + 1) xs) (sym is)
 
--- an element that passes is the first that does, where none before it passed
+-- an element that passes is the first that does, if none before it passed
 pub find_here : {X : Type 0} (p : X → Bool) (xs : List X) (i : ℕ) (x : X) → i < length xs → x ≡ get_or xs i x → p x ≡ true → find p (drop i xs) ≡ find p xs → find p xs ≡ Some x
 find_here p xs i x less is passes left = sym left ∙ ap (find p) (at_index xs i x less is) ∙ rw passes refl
 
@@ -18,7 +18,7 @@ find_here p xs i x less is passes left = sym left ∙ ap (find p) (at_index xs i
 pub find_later : {X : Type 0} (p : X → Bool) (xs : List X) (i : ℕ) (x : X) → i < length xs → x ≡ get_or xs i x → p x ≡ false → find p (drop i xs) ≡ find p xs → find p (drop (i + 1) xs) ≡ find p xs
 find_later p xs i x less is fails left = sym (ap (find p) (at_index xs i x less is) ∙ rw fails refl) ∙ left
 
--- a line that tells the text of one element tells one of the texts
+-- a line that matches the text of one element matches one of the texts
 pub told_at : {X : Type 0} (text : X → List ℕ) (xs : List X) (line : Line) (i : ℕ) (x : X) → i < length xs → x ≡ get_or xs i x → tells (text x) line ≡ true
     → list_any (λ t. tells t line) (map text xs) ≡ true
 told_at text xs line i x less is told =

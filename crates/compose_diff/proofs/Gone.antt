@@ -1,4 +1,4 @@
--- Where a source is gone, every row of it is removed.
+-- If a source is gone, every row of it is removed.
 use Rattle.std.proofs.Common.{◌≡◌, ℕ, suc, ◌≤◌, Bool, true, false, not, List, [], ◌∷◌, length, filter, refl, sym, ◌∙◌, ap, subst, arith, eqb-true}
 use Rattle.std.specs.Prelude.{◌==◌, ◌&&◌, nat_lt}
 use Rattle.std.proofs.lemmas.Bool.{and_parts, and_from, and_left, and_right, or_left, or_right}
@@ -8,7 +8,7 @@ use Rattle.compose_diff.specs.Counts.{is_same}
 use Rattle.compose_diff.specs.Causes.{stands_in, count_in, removed_in, is_gone, are_removed}
 use Rattle.compose_diff.specs.Folds.{told}
 
--- ---- how many elements pass a test
+-- ---- the number of elements that pass a test
 
 abbrev count : {X : Type 0} → (X → Bool) → List X → ℕ
 count p xs = length (filter p xs)
@@ -36,7 +36,7 @@ one_more p x xs ys fewer = by (p x) refl
     by true e = omega (arith, counted p x xs e, counted p x ys e, fewer)
     by false e = omega (arith, ap length (left_out p x xs e), ap length (left_out p x ys e), fewer)
 
--- no more among those that are left
+-- among the elements that are left, no more pass
 of_left : {X : Type 0} (keep p : X → Bool) (xs : List X) → count p (filter keep xs) ≤ count p xs
 of_left keep p [] = omega arith
 of_left keep p (x ∷ xs) = by (of_left keep p xs) (keep x) refl
@@ -66,7 +66,7 @@ fewer_removed source (row ∷ rows) = by (fewer_removed source rows) (is_removed
 abbrev AreRemoved : ℕ → List DiffRow → Type 0
 AreRemoved source rows = are_removed source rows ≡ true
 
--- where no fewer rows of it are removed than stand in it, all are
+-- if as many rows of a source are removed as are in it, all are
 all_removed : (source : ℕ) (rows : List DiffRow) → count (in_source source) rows ≤ count (is_removed source) rows → AreRemoved source rows
 all_removed source [] many = refl
 all_removed source (row ∷ rows) many = by (λ m. all_removed source rows m) (is_same row.change Removed) (in_source source row) refl refl
@@ -85,7 +85,7 @@ all_removed source (row ∷ rows) many = by (λ m. all_removed source rows m) (i
 
 -- ---- a source that is gone
 
--- all rows of a source that is gone among the rows that are left are removed
+-- if a source is gone by the rows that are left, all its rows are removed
 pub source_is_gone : (keep : DiffRow → Bool) (rows : List DiffRow) (source : ℕ) → is_gone rows (told (filter keep rows)) source ≡ true → AreRemoved source rows
 source_is_gone keep rows source e =
     let parts = and_parts (nat_lt 1 (count_in source rows)) (removed_in source (told (filter keep rows)) == count_in source rows) e in

@@ -1,4 +1,4 @@
--- What a map lists under the things that rows have in common.
+-- What a map lists under what rows have in common.
 use Rattle.std.proofs.Common.{◌≡◌, ℕ, ◌+◌, ◌<◌, Bool, true, false, cond, List, [], ◌∷◌, ◌++◌, length, take, filter, get_or, Bor, refl, sym, ◌∙◌, ap, ap₂}
 use Rattle.std.specs.Prelude.{◌==◌, ◌&&◌, nat_eq, bytes_eq, if◌then◌else◌, Option, Some, None}
 use Rattle.std.specs.Option.{option_map_or, option_eq}
@@ -37,7 +37,7 @@ taken key other o rows is = by (is_key key other) ∙ ap₂ (λ b them. if b the
     by true = refl
     by false = refl
 
--- a row more is listed under its key
+-- one more row is listed under its key
 pub added : (key other : Key) (row : DiffRow) (vec : Vec DiffRow Global) (o : Option (Vec DiffRow Global)) (at : Common → List DiffRow) → vec.items ≡ at (view key) ++ row ∷ []
     → items_of o ≡ without (view key) (view other) (at (view other)) → items_of (cond (is_key key other) (Some vec) o) ≡ onto (view key) (view other) row (at (view other))
 added key other row vec o at more rest = ap (λ b. items_of (cond b (Some vec) o)) (key_is key other) ∙ by (are_same (view key) (view other)) refl
@@ -55,7 +55,7 @@ has_common gone what other row e = ap (λ o. option_map_or (are_same other) o fa
 pub has_nothing : (gone : ℕ → Bool) (other : Common) (row : DiffRow) → None ≡ common gone row → has gone other row ≡ false
 has_nothing gone other row e = ap (λ o. option_map_or (are_same other) o false) (sym e)
 
--- one row more
+-- one more row
 pub more_members : (gone : ℕ → Bool) (what other : Common) (rows : List DiffRow) (i : ℕ) (d : DiffRow) → i < length rows → Some what ≡ common gone (get_or rows i d)
     → onto what other (get_or rows i d) (filter (has gone other) (take i rows)) ≡ filter (has gone other) (take (i + 1) rows)
 more_members gone what other rows i d less e =

@@ -1,4 +1,4 @@
--- Where no change is meant, all rows are left.
+-- If no change is intended, all rows are left.
 use Rattle.std.proofs.Common.{◌≡◌, List, [], ◌∷◌, Bool, true, false, ◌&&◌, not, cond, length, refl, ap}
 use Rattle.std.specs.Prelude.{Ok, filter}
 use Rattle.compose_compare.specs.Change.{is_harmless}

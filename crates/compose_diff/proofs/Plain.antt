@@ -1,4 +1,4 @@
--- What is printed has no control in it: no escape, and no newline but the one that ends a line.
+-- What is printed has no control characters: no escape, and no newline but the one that ends a line.
 use Rattle.std.proofs.Common.{◌≡◌, ℕ, zero, suc, ◌+◌, ◌/◌, ◌%◌, ◌≤◌, Bool, true, false, List, [], ◌∷◌, ◌++◌, flat_map, refl, ◌∙◌, arith, inl, inr, ◌⊎◌, le-leb, leb-false}
 use Rattle.std.specs.Prelude.{◌==◌, ◌||◌, nat_lt, nat_le, codes, Option, Some, None}
 use Rattle.std.specs.List.{list_all}
@@ -129,7 +129,7 @@ pub text_plain : (entry : Option Entry) → ArePlain (text_part entry)
 text_plain None = refl
 text_plain (Some entry) = both_plain (codes " ") (shown_text (quote entry.text.now)) refl (shown_plain (quote entry.text.now))
 
--- what is told of a row has no newline in it
+-- the text of a row has no newline in it
 pub row_text_plain : (row : DiffRow) → ArePlain (row_text row)
 row_text_plain row =
     both_plain (keys_text row.change (key_names row)) (text_part row.old ++ text_part row.new) (keys_plain row.change (key_names row))

@@ -1,4 +1,4 @@
--- Lines without controls, one after another, are divided into just these lines.
+-- Lines without controls, one after another, are divided into exactly these lines.
 use Rattle.std.proofs.Common.{◌≡◌, ℕ, List, [], ◌∷◌, ◌++◌, flat_map, map, refl, ◌∙◌, ap, arith, leb-true}
 use Rattle.std.proofs.lemmas.Bool.{ne_eqb}
 use Rattle.std.proofs.lemmas.List.{append_assoc}
@@ -14,7 +14,7 @@ line_first (b ∷ line) rest plain =
     let parts = and_parts (is_plain b) (list_all is_plain line) plain in
     rw (ne_eqb b 10 (omega (arith, leb-true 32 b parts.0))) (ap (onto_first b) (line_first line rest parts.1))
 
--- the lines are those that were put after one another
+-- the lines are those that were concatenated
 pub lines_again : {X : Type 0} (f : X → List ℕ) (xs : List X) → ((x : X) → ArePlain (f x)) → lines_of (flat_map (λ x. f x ++ 10 ∷ []) xs) ≡ map f xs
 lines_again f [] each = refl
 lines_again f (x ∷ xs) each =

@@ -1,4 +1,4 @@
--- What rows have in common is the same where the test says so.
+-- If the test passes, what rows have in common is the same.
 use Rattle.std.proofs.Common.{◌≡◌, ℕ, Bool, true, false, List, [], ◌∷◌, refl, sym, ◌∙◌, ap, ap₂, eqb-true}
 use Rattle.std.specs.Prelude.{◌==◌, ◌&&◌, nat_eq, bytes_eq, Option, Some, None}
 use Rattle.std.specs.Option.{option_map_or, option_eq}
@@ -8,7 +8,7 @@ use Rattle.std.proofs.lemmas.Slice.Eq.{bytes_eq-Decides}
 use Rattle.compose_diff.specs.declared.row.DiffRow.{DiffRow}
 use Rattle.compose_diff.specs.Groups.{Common, common, are_same, has, folds_with}
 
--- two tests that pass for each other's sake
+-- two tests, each of which passes if the other one does
 pub bool_eq : (a b : Bool) → (a ≡ true → b ≡ true) → (b ≡ true → a ≡ true) → a ≡ b
 bool_eq true b f g = sym (f refl)
 bool_eq false true f g = g refl

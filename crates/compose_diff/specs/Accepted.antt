@@ -1,4 +1,4 @@
--- The changes that are meant: lines in the form in which rows are told, with places or without (this project's profile).
+-- The intended changes: lines in the form in which rows are printed, with or without places (this project's profile).
 use Rattle.std.specs.Prelude.{◌≡◌, ℕ, Bool, true, not, ◌+◌, ◌&&◌, ◌==◌, nat_lt, if◌then◌else◌, List, [], ◌∷◌, ◌++◌, length, take, drop, map, filter, flat_map, Result, Ok, Err, bytes_eq, codes}
 use Rattle.std.specs.List.{find, list_any}
 use Rattle.std.specs.Option.{option_map_or}
@@ -25,7 +25,7 @@ abbrev pub is_skipped : List ℕ → Bool
 is_skipped [] = true
 is_skipped (b ∷ rest) = b == 35
 
--- the lines that are not skipped, numbered on from n
+-- the lines that are not skipped, numbered from n
 abbrev pub said_from : ℕ → List (List ℕ) → List Line
 said_from n [] = []
 said_from n (line ∷ lines) = if is_skipped line then said_from (1 + n) lines else record { number = n; text = line } ∷ said_from (1 + n) lines
@@ -34,19 +34,19 @@ said_from n (line ∷ lines) = if is_skipped line then said_from (1 + n) lines e
 abbrev pub begins_with : List ℕ → List ℕ → Bool
 begins_with text prefix = bytes_eq (take (length prefix) text) prefix
 
--- the text begins with the word of such a change, a colon, a blank and a bracket
+-- the text begins with the word of this change, a colon, a blank and a bracket
 abbrev pub begins_as : List ℕ → Change → Bool
 begins_as text change = begins_with text (change_word change) && begins_with (drop (length (change_word change)) text) (codes ": <")
 
--- the changes that somebody meets, which can be accepted
+-- the changes that are not harmless, which can be accepted
 abbrev pub acceptable : List Change
 acceptable = Changed ∷ Waiting ∷ Removed ∷ NewStart ∷ []
 
--- it begins as the line of a change that can be accepted
+-- it begins like the line of a change that can be accepted
 abbrev pub is_in_form : Line → Bool
 is_in_form line = list_any (begins_as line.text) acceptable
 
--- the lines of a file, or the first of them that is not in the form
+-- the lines of a file, or the first of them that is not in the required form
 abbrev pub accepted_of : List ℕ → Result (List Line) AcceptFault
 accepted_of bytes =
     let lines = said_from 1 (lines_of bytes) in
@@ -54,34 +54,34 @@ accepted_of bytes =
 
 -- ---- what they accept
 
--- no more, or a blank (code 32), after which places stand
+-- the end, or a blank (code 32), after which the places come
 abbrev pub is_end : List ℕ → Bool
 is_end [] = true
 is_end (b ∷ rest) = b == 32
 
--- the line is this text, with places after it or without
+-- the line is this text, with or without places after it
 abbrev pub tells : List ℕ → Line → Bool
 tells text line = begins_with line.text text && is_end (drop (length text) line.text)
 
--- somebody meets what happens, and one of the lines tells it, the keys and the texts
+-- the change is not harmless, and one of the lines has it with the same keys and texts
 abbrev pub is_accepted : List Line → DiffRow → Bool
 is_accepted lines row = not (is_harmless row.change) && list_any (tells (row_text row)) lines
 
--- the line tells none of the texts
+-- the line matches none of the texts
 abbrev pub is_stale : List (List ℕ) → Line → Bool
 is_stale texts line = not (list_any (λ text. tells text line) texts)
 
--- the rows that are not accepted, in order; or the first line that tells none of the rows
+-- the rows that are not accepted, in order; or the first line that matches none of the rows
 abbrev pub left_of : List Line → List DiffRow → Result (List DiffRow) AcceptFault
 left_of lines rows = option_map_or (λ (line : Line). Err (Stale line.number)) (find (is_stale (map row_text rows)) lines) (Ok (filter (λ row. not (is_accepted lines row)) rows))
 
--- what is said, unless memory was refused
+-- the given result, unless memory ran out
 abbrev pub Gives : {A : Type 0} → Result A AcceptFault → Result A AcceptFault → Type 0
 Gives (Ok value) said = said ≡ Ok value
 Gives (Err NoMemory) said = Unit {0}
 Gives (Err fault) said = said ≡ Err fault
 
--- the same of a list of rows
+-- the same for a list of rows
 abbrev pub Leaves : Result (Vec DiffRow Global) AcceptFault → Result (List DiffRow) AcceptFault → Type 0
 Leaves (Ok left) said = said ≡ Ok left.items
 Leaves (Err NoMemory) said = Unit {0}
@@ -89,7 +89,7 @@ Leaves (Err fault) said = said ≡ Err fault
 
 -- ---- the list to accept
 
--- the rows that somebody meets, a line each, without places
+-- the rows that are not harmless, a line without places for each
 abbrev pub accept_lines : List DiffRow → List ℕ
 accept_lines rows = flat_map (λ row. row_text row ++ 10 ∷ []) (filter (λ row. not (is_harmless row.change)) rows)
 
@@ -99,7 +99,7 @@ accept_lines rows = flat_map (λ row. row_text row ++ 10 ∷ []) (filter (λ row
 abbrev pub has_key : DiffRow → Bool
 has_key row = nat_lt 0 (length (key_names row))
 
--- the bytes are a file of accepted lines, none of which is stale, and what is left of the rows is what nobody meets
+-- the bytes are a file of accepted lines, none of which is stale, and the rows that are left are the harmless ones
 pub record AcceptsAll (bytes : List ℕ) (rows : List DiffRow) : Type 0 where
   pub lines : List Line
   pub read : accepted_of bytes ≡ Ok lines

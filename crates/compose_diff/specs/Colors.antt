@@ -1,4 +1,5 @@
--- The lines of `diff` in colours, as `git diff` has them, by the escape sequences of terminals (ECMA-48, Select Graphic Rendition).
+-- The lines of `diff` in colours, like those of `git diff`, by the escape sequences of terminals (ECMA-48, Select
+-- Graphic Rendition).
 use Rattle.std.specs.Prelude.{ℕ, Bool, true, false, not, ◌==◌, if◌then◌else◌, List, [], ◌∷◌, ◌++◌, flat_map, codes}
 use Rattle.std.specs.List.{list_any}
 use Rattle.compose_compare.specs.declared.Change.{Change}
@@ -10,13 +11,13 @@ use Rattle.compose_diff.specs.Accepted.{begins_with}
 abbrev pub begins_with_word : List ℕ → Change → Bool
 begins_with_word line change = begins_with line (change_word change)
 
--- red where people lose something, green where they get something, else bold
+-- red if people lose something, green if they get something, otherwise bold
 abbrev pub color_of : List ℕ → List ℕ
 color_of line =
     if list_any (begins_with_word line) (Changed ∷ Waiting ∷ Removed ∷ []) then codes "31" else
     if list_any (begins_with_word line) (NewStart ∷ Added ∷ []) then codes "32" else codes "1"
 
--- an escape (code 27) and the colour, the line, and an escape to the colour before
+-- an escape (code 27) and the colour, the line, and an escape that resets the colour
 abbrev pub colored_line : List ℕ → List ℕ
 colored_line line = 27 ∷ codes "[" ++ (color_of line ++ (codes "m" ++ (line ++ (27 ∷ codes "[m\n"))))
 
@@ -25,7 +26,8 @@ colored_lines all = flat_map colored_line all
 
 -- ---- back
 
--- what is left without escape sequences, each of which ends in `m` (code 109); whether one is begun
+-- the text without its escape sequences, each of which ends in `m` (code 109); the first argument is whether one has
+-- begun
 abbrev pub uncolored_from : Bool → List ℕ → List ℕ
 uncolored_from begun [] = []
 uncolored_from false (b ∷ bytes) = if b == 27 then uncolored_from true bytes else b ∷ uncolored_from false bytes

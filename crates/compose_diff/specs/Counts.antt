@@ -1,4 +1,4 @@
--- How often each thing happens, and the line that says so (this project's profile).
+-- The number of rows for each change, and the line with these numbers (this project's profile).
 use Rattle.std.specs.Prelude.{ℕ, ◌==◌, Bool, true, false, if◌then◌else◌, List, ◌++◌, length, filter, codes}
 use Rattle.std.specs.Fmt.{decimal}
 use Rattle.std.specs.List.{list_all}
@@ -18,11 +18,11 @@ is_same Added Added = true
 is_same NewStart NewStart = true
 is_same _ _ = false
 
--- to how many of the rows this happens
+-- the number of rows to which this happens
 abbrev pub count_of : Change → List DiffRow → ℕ
 count_of change rows = length (filter (λ row. is_same row.change change) rows)
 
--- the counts of rows that are not accepted, how many others are, and how many texts are lost
+-- the counts of rows that are not accepted, the number of accepted rows, and the number of lost texts
 abbrev pub counts_of : List DiffRow → ℕ → Counts
 counts_of rows accepted = record {
   kept = count_of Kept rows;
@@ -35,21 +35,21 @@ counts_of rows accepted = record {
   lost_texts = length (lost_texts rows);
 }
 
--- one is a new start
+-- singular for one
 abbrev pub starts_word : ℕ → List ℕ
 starts_word n = if n == 1 then codes " new start" else codes " new starts"
 
--- one is a text
+-- singular for one
 abbrev pub texts_word : ℕ → List ℕ
 texts_word n = if n == 1 then codes " text" else codes " texts"
 
--- as `diff: 5205 kept, 3 changed, 0 waiting, 298 removed, 0 new starts, 12 added, 2 accepted; 4 texts lost`
+-- for example `diff: 5205 kept, 3 changed, 0 waiting, 298 removed, 0 new starts, 12 added, 2 accepted; 4 texts lost`
 abbrev pub counts_line : Counts → List ℕ
 counts_line counts =
     codes "diff: " ++ (decimal counts.kept ++ (codes " kept, " ++ (decimal counts.changed ++ (codes " changed, " ++ (decimal counts.waiting ++ (codes " waiting, " ++ (decimal counts.removed
     ++ (codes " removed, " ++ (decimal counts.new_starts ++ (starts_word counts.new_starts ++ (codes ", " ++ (decimal counts.added ++ (codes " added, " ++ (decimal counts.accepted
     ++ (codes " accepted; " ++ (decimal counts.lost_texts ++ (texts_word counts.lost_texts ++ codes " lost\n")))))))))))))))))
 
--- nobody who types with the old table meets any of it
+-- all of it is harmless to everybody who types with the old table
 abbrev pub loses_nothing : List DiffRow → Bool
 loses_nothing rows = list_all (λ row. is_harmless row.change) rows

@@ -1,4 +1,4 @@
--- A sequence and what happens to it as a JSON object (RFC 8259), in one line.
+-- A sequence and what happens to it as a JSON object (RFC 8259), on one line.
 use Rattle.std.specs.Prelude.{ℕ, ◌==◌, ◌||◌, if◌then◌else◌, List, [], ◌∷◌, ◌++◌, flat_map, Option, Some, None, codes, false, map}
 use Rattle.std.specs.Fmt.{decimal, digits}
 use Rattle.std.specs.Str.{chars}
@@ -10,7 +10,8 @@ use Rattle.compose_diff.specs.declared.row.DiffRow.{DiffRow}
 use Rattle.compose_diff.specs.declared.row.NewSequence.{NewSequence}
 use Rattle.compose_diff.specs.Line.{change_word, key_names}
 
--- a quote (code 34) or a backslash (code 92) after a backslash, what may steer a terminal by its number, any other character itself
+-- a backslash before a quote (code 34) or a backslash (code 92), a character that could control a terminal by its
+-- number, any other character itself
 abbrev pub json_character : ℕ → List ℕ
 json_character c =
     if c == 34 || c == 92 then 92 ∷ c ∷ [] else
@@ -58,13 +59,13 @@ json_sequence name (Some s) =
     codes ",\"" ++ (name ++ (codes "\":" ++ (json_strings (map (λ key. key.now) s.keys.now)
     ++ (codes ",\"" ++ (name ++ (codes "_file\":" ++ (json_string s.path.now ++ (codes ",\"" ++ (name ++ (codes "_line\":" ++ decimal s.line))))))))))
 
--- both places, the longer sequence for which people wait, and that which gives the old text now
+-- both places, the longer sequence for which a waiting one waits, and the sequence that gives the old text now
 abbrev pub json_end : DiffRow → List ℕ
 json_end row = json_places row ++ (json_sequence (codes "longer") row.longer ++ json_sequence (codes "now") row.typing)
 
 abbrev pub json_row : DiffRow → List ℕ
 json_row row = json_keys row ++ (json_texts row ++ (json_end row ++ codes "}\n"))
 
--- an object a line
+-- an object on a line for each row
 abbrev pub json_rows : List DiffRow → List ℕ
 json_rows rows = flat_map json_row rows

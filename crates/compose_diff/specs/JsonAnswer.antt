@@ -8,11 +8,11 @@ use Rattle.compose_diff.specs.Counts.{counts_of}
 use Rattle.compose_diff.specs.Json.{json_rows}
 use Rattle.compose_diff.specs.Lost.{shown_rows}
 
--- a count after what stands before it
+-- a count after the text before it
 abbrev pub json_count : List ℕ → ℕ → List ℕ
 json_count before n = before ++ decimal n
 
--- how many sequences of the old table are kept and lost
+-- the numbers of kept, changed, waiting and removed sequences of the old table
 abbrev pub json_old_counts : Counts → List ℕ
 json_old_counts counts =
     json_count (codes "{\"counts\":{\"kept\":") counts.kept ++ (json_count (codes ",\"changed\":") counts.changed
@@ -27,10 +27,10 @@ json_new_counts counts =
 abbrev pub json_overlaps : Overlaps → List ℕ
 json_overlaps overlaps = json_count (codes ",\"old_overlaps\":") overlaps.old ++ (json_count (codes ",\"new_overlaps\":") overlaps.new ++ codes "}}\n")
 
--- an object in a line, with all of these as the object `counts`
+-- an object on one line, with all of these as the object `counts`
 abbrev pub json_counts : Counts → Overlaps → List ℕ
 json_counts counts overlaps = json_old_counts counts ++ (json_new_counts counts ++ json_overlaps overlaps)
 
--- an object for each of the rows that are shown of those that are not accepted, and one that counts
+-- an object for each row that is printed of those that are not accepted, and one with the counts
 abbrev pub json_answer : Bool → Overlaps → List DiffRow → List DiffRow → List ℕ
 json_answer lost_alone overlaps rows left = json_rows (shown_rows lost_alone left) ++ json_counts (counts_of left (length rows - length left)) overlaps

@@ -1,4 +1,4 @@
--- The line of a told sequence (this project's profile): what happens, the keys, the texts and the places.
+-- The line of a row (this project's profile): what happens, the keys, the texts and the places.
 use Rattle.std.specs.Prelude.{ℕ, Bool, true, false, if◌then◌else◌, List, [], ◌∷◌, ◌++◌, map, flat_map, Option, Some, None, codes}
 use Rattle.std.specs.Fmt.{decimal}
 use Rattle.compose_lex.specs.Escape.{quote}
@@ -21,7 +21,7 @@ change_word NewStart = codes "new start"
 abbrev pub keys_part : List (List ℕ) → List ℕ
 keys_part keys = flat_map (λ key. codes " <" ++ (shown_text key ++ codes ">")) keys
 
--- the text in quotes, after a blank; what could harm a terminal is escaped
+-- the text in quotes, after a blank; characters that could control a terminal are escaped
 abbrev pub text_part : Option Entry → List ℕ
 text_part None = []
 text_part (Some entry) = codes " " ++ shown_text (quote entry.text.now)
@@ -64,16 +64,16 @@ abbrev pub typed_part : Option NewSequence → List ℕ
 typed_part None = codes " none"
 typed_part (Some s) = sequence_part s
 
--- of such a sequence, how its text is typed with the new table
+-- for such a sequence, how its text is typed with the new table
 abbrev pub now_part : Change → Option NewSequence → List ℕ
 now_part change now = if is_loss change then codes " now:" ++ typed_part now else []
 
--- the longer sequence for which people wait
+-- the longer sequence for which a waiting one waits
 abbrev pub longer_part : Option NewSequence → List ℕ
 longer_part None = []
 longer_part (Some s) = codes " longer:" ++ sequence_part s
 
--- what follows the texts; a line of accepted changes isn't compared with it
+-- what follows the texts; accepted lines are not compared with it
 abbrev pub row_end : DiffRow → List ℕ
 row_end row = places_text row ++ (longer_part row.longer ++ now_part row.change row.typing)
 

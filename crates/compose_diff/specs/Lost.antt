@@ -12,7 +12,7 @@ is_lost row = is_loss row.change && not (is_some row.typing)
 abbrev pub lost_rows : List DiffRow → List DiffRow
 lost_rows rows = filter is_lost rows
 
--- the rows that are printed: where that is asked for, those of the lost texts alone
+-- the rows that are printed: only those of lost texts, if that is asked for
 abbrev pub shown_rows : Bool → List DiffRow → List DiffRow
 shown_rows lost_alone rows = if lost_alone then lost_rows rows else rows
 

@@ -12,7 +12,7 @@ use Rattle.compose_diff.specs.Groups.{Common, are_same, common, has}
 abbrev pub Key : Type 0
 Key = ℕ × Option ℕ × Bor (List (Bor (List ℕ)))
 
--- what that is
+-- the value of such a key
 abbrev pub view : Key → Common
 view key = record { change = key.0; source = key.1; keys = map (λ name. name.now) key.2.now }
 
@@ -20,7 +20,7 @@ view key = record { change = key.0; source = key.1; keys = map (λ name. name.no
 abbrev pub members_at : {S : Type 0} → IndexMap Key (Vec DiffRow Global) S → Common → List DiffRow
 members_at groups what = option_map_or (λ rows. rows.items) (get_by (λ key. are_same what (view key)) groups) []
 
--- with a row more, if it has the other thing in common
+-- with one more row, if it has the other thing in common
 abbrev pub onto : Common → Common → DiffRow → List DiffRow → List DiffRow
 onto what other row rows = if are_same what other then rows ++ row ∷ [] else rows
 

@@ -1,4 +1,4 @@
--- The order in which rows are told (this project's profile).
+-- The order in which rows are printed (this project's profile).
 use Rattle.std.specs.Prelude.{ℕ, List, Option, Some, None}
 use Rattle.std.specs.declared.cmp.Ordering.{Ordering}
 use Rattle.std.specs.Option.{option_or}
@@ -31,7 +31,7 @@ first_entry row = option_or row.old row.new
 abbrev pub rank : DiffRow → ℕ × ℕ × ℕ
 rank row = let at = place (first_entry row) in (group row.change, at.0, at.1)
 
--- by each number in turn
+-- compared by each number in turn
 abbrev pub rank_cmp : ℕ × ℕ × ℕ → ℕ × ℕ × ℕ → Ordering
 rank_cmp x y = ordering_then (ordering_then (nat_cmp x.0 y.0) (nat_cmp x.1 y.1)) (nat_cmp x.2 y.2)
 

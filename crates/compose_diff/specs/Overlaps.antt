@@ -1,9 +1,10 @@
--- The line that counts overlaps: sequences with which longer ones begin, so that these count (this project's profile).
+-- The line that counts overlaps: sequences that are a prefix of another one, of which the longer one counts (this
+-- project's profile).
 use Rattle.std.specs.Prelude.{ℕ, ◌==◌, ◌&&◌, if◌then◌else◌, List, [], ◌++◌, codes}
 use Rattle.std.specs.Fmt.{decimal}
 use Rattle.compose_diff.specs.declared.overlaps.Overlaps.{Overlaps}
 
--- none where there are no overlaps
+-- none if there are no overlaps
 abbrev pub overlaps_line : Overlaps → List ℕ
 overlaps_line overlaps =
     if overlaps.old == 0 && overlaps.new == 0 then [] else

@@ -13,22 +13,23 @@ use Rattle.compose_diff.specs.Overlaps.{overlaps_line}
 use Rattle.compose_diff.specs.declared.overlaps.Overlaps.{Overlaps}
 use Rattle.compose_diff.specs.declared.answer.Printed.{Printed}
 
--- the lines of the rows that are shown of all rows
+-- the lines of the rows that are printed of all rows
 abbrev pub lines_text : Bool → List DiffRow → List DiffRow → List ℕ
 lines_text folds rows shown = if folds then folded_lines rows shown else diff_lines shown
 
--- the lines of the rows that are shown of those that are not accepted, that of the overlaps, and that of the counts
+-- the lines of the rows that are printed of those that are not accepted, then that of the overlaps, and that of the
+-- counts
 abbrev pub answer_text : Printed → Overlaps → List DiffRow → List DiffRow → List ℕ
 answer_text printed overlaps rows left = lines_text printed.folds rows (shown_rows printed.lost_alone left) ++ (overlaps_line overlaps ++ counts_line (counts_of left (length rows - length left)))
 
--- yes where nobody meets any of these rows, else no, with that text
+-- yes if each of these rows is harmless, otherwise no, with that text
 abbrev pub IsAnswer : Printed → Overlaps → List DiffRow → List DiffRow → Answer → Type 0
 IsAnswer printed overlaps rows left (Yes text) = IsTrue (loses_nothing left) × (string_bytes text ≡ answer_text printed overlaps rows left)
 IsAnswer printed overlaps rows left (No text) = IsTrue (not (loses_nothing left)) × (string_bytes text ≡ answer_text printed overlaps rows left)
 IsAnswer printed overlaps rows left (Invalid fault) = ⊥
 IsAnswer printed overlaps rows left (FreshNotAllowed keysym) = ⊥
 
--- the answer on the rows that are left, or the fault that is said
+-- the answer on the rows that are left, or the fault that is reported
 abbrev pub Tells : Printed → Overlaps → List Line → List DiffRow → Result Answer AcceptFault → Type 0
 Tells printed overlaps lines rows (Ok answer) = (left : List DiffRow) × (left_of lines rows ≡ Ok left) × IsAnswer printed overlaps rows left answer
 Tells printed overlaps lines rows (Err NoMemory) = Unit {0}

@@ -1,4 +1,4 @@
-//! The changes that are meant.
+//! The intended changes.
 ghost use Rattle.std.specs.Prelude.{◌≡◌, ◌<◌, ◌==◌, not, length, map, filter, is_some, IfSome, IfOk, string_bytes};
 ghost use Rattle.std.specs.List.{find, list_any};
 ghost use Rattle.std.specs.Option.{option_map};
@@ -15,16 +15,17 @@ use std::alloc::{AllocError, Global};
 use std::marker::Model;
 use thiserror::Error;
 
-/// Why the changes that are meant are refused.
+/// Why a list of intended changes is refused.
 #[derive(Clone, Copy, Debug, PartialEq, Eq, Drop, Error)]
 pub enum AcceptFault {
-    /// The line with this number is the first one that tells none of the changes.
+    /// This line, counted from 1, is the first that matches none of the changes.
     #[error("1 Stale line={line}")]
     Stale { line: usize },
-    /// The line with this number is the first one that doesn't begin as a line that can be accepted.
+    /// This line, counted from 1, is the first that doesn't begin like the line of a change that
+    /// can be accepted.
     #[error("2 BadLine line={line}")]
     BadLine { line: usize },
-    /// Memory was refused in this call.
+    /// Memory ran out in this call.
     #[error("3 NoMemory")]
     NoMemory,
 }
@@ -39,10 +40,12 @@ impl From<AllocError> for AcceptFault {
     }
 }
 
-/// A line of a list of what is meant: its number in the file, from 1, and its bytes without the newline.
+/// A line of a list of intended changes.
 #[derive(Drop)]
 pub struct ListLine<'a> {
+    /// The number of the line in the file, from 1.
     pub number: usize,
+    /// The bytes of the line, without the newline.
     pub text: &'a [u8],
 }
 
@@ -54,7 +57,7 @@ impl<'a> Model for ListLine<'a> {
     ghost view = { λ line. record { number = line.number; text = line.text.now } };
 }
 
-/// The changes that are meant, as lines in the form in which rows are told.
+/// The intended changes, as lines in the form in which rows are printed.
 #[derive(Drop)]
 pub struct Accepted<'a> {
     lines: Vec<ListLine<'a>>,
@@ -70,8 +73,11 @@ impl<'a> Model for Accepted<'a> {
 }
 
 impl<'a> Accepted<'a> {
-    /// Reads the lines of a file, but for the empty ones and those that begin with `#`; or the first that is not in the form: it is to
-    /// begin with the word of a change that somebody meets, a colon, and a key in brackets. O(bytes).
+    /// Reads the lines of a file, without empty lines and those that begin with `#`. A line has to
+    /// begin with the word of a change that can be accepted, a colon, and a key in brackets.
+    /// O(bytes).
+    ///
+    /// Errors: `BadLine` with the first line that doesn't, or `NoMemory` if memory runs out.
     pub fn read(alloc: Global, bytes: &'a [u8]) -> Result<Accepted<'a>, AcceptFault>
         ensures { Gives result (accepted_of bytes.now) }
     {
@@ -82,16 +88,20 @@ impl<'a> Accepted<'a> {
         }
     }
 
-    /// Whether no change is meant. O(1).
+    /// Returns whether no change is intended. O(1).
     pub(crate) fn is_empty(&self) -> bool
         ensures { result ≡ (length self.now == 0) }
     {
         self.lines.is_empty()
     }
 
-    /// The rows that no line accepts, in order; or the first line that tells none of the rows. A line accepts a row whose change, keys
-    /// and texts it tells, with places after them or without; the places may be others. O(rows) where there are no lines, O(bytes) where they
-    /// are in the order of the rows, else O(bytes of the rows × lines).
+    /// Returns the rows that no line accepts, in order. A line accepts a row if it has the change,
+    /// keys and texts of the row; it may also have places, which needn't be those of the row.
+    /// O(rows) if there are no lines, O(bytes) if they are in the order of the rows, and otherwise
+    /// O(bytes of the rows × lines).
+    ///
+    /// Errors: `Stale` with the first line that matches none of the rows, or `NoMemory` if memory
+    /// runs out.
     pub fn leave_out<'r>(
         &self,
         alloc: Global,
@@ -106,7 +116,10 @@ impl<'a> Accepted<'a> {
     }
 }
 
-/// The lines of a list of what is meant, but for the empty ones and those that begin with `#`. O(bytes).
+/// Returns the lines of a list of intended changes, without empty lines and those that begin with
+/// `#`. O(bytes).
+///
+/// Errors: `AllocError` if memory runs out.
 pub fn list_lines(alloc: Global, bytes: &[u8]) -> Result<Vec<ListLine<'_>>, AllocError>
     ensures { IfOk result (λ lines. lines.items ≡ words.said_from 1 (lines_of bytes.now)) }
 {
@@ -123,7 +136,7 @@ pub fn list_lines(alloc: Global, bytes: &[u8]) -> Result<Vec<ListLine<'_>>, Allo
     Ok(lines)
 }
 
-/// Whether the line is empty, or a comment.
+/// Returns whether the line is empty or a comment.
 fn is_skipped(line: &[u8]) -> bool
     ensures { result ≡ words.is_skipped line.now }
 {
@@ -133,7 +146,7 @@ fn is_skipped(line: &[u8]) -> bool
     }
 }
 
-/// The number of the first line that is not in the form.
+/// Returns the number of the first line that is not in the required form.
 fn first_bad(lines: &[ListLine]) -> Option<usize>
     ensures { result
         ≡ option_map (λ line. line.number) (find (λ line. not (words.is_in_form line)) lines.now) }
@@ -146,7 +159,7 @@ fn first_bad(lines: &[ListLine]) -> Option<usize>
     None
 }
 
-/// Whether the line begins as the line of a change that can be accepted.
+/// Returns whether the line begins like the line of a change that can be accepted.
 fn is_in_form(line: &ListLine) -> bool
     ensures { result ≡ words.is_in_form line.now }
 {
@@ -156,7 +169,7 @@ fn is_in_form(line: &ListLine) -> bool
         || begins_as(line.text, Change::NewStart)
 }
 
-/// Whether the text begins as the line of such a change.
+/// Returns whether the text begins like the line of this change.
 fn begins_as(text: &[u8], change: Change) -> bool
     ensures { result ≡ words.begins_as text.now change }
 {
@@ -166,7 +179,8 @@ fn begins_as(text: &[u8], change: Change) -> bool
     }
 }
 
-/// The number of the first line that tells none of the rows. Where there is no line, the rows are not looked at.
+/// Returns the number of the first line that matches none of the rows. Without lines, the rows are
+/// not read.
 fn stale_line(
     alloc: Global,
     lines: &[ListLine],
@@ -184,7 +198,7 @@ fn stale_line(
     Ok(first_stale(lines, &texts))
 }
 
-/// The change, keys and texts of each row, as they are printed.
+/// Returns the change, keys and texts of each row, as they are printed.
 fn row_texts(alloc: Global, rows: &[DiffRow]) -> Result<Vec<String>, AllocError>
     ensures { IfOk result
         (λ texts. map (λ text. string_bytes text) texts.items ≡ map row_text rows.now) }
@@ -197,7 +211,7 @@ fn row_texts(alloc: Global, rows: &[DiffRow]) -> Result<Vec<String>, AllocError>
     Ok(texts)
 }
 
-/// The change, keys and texts of a row, as they are printed.
+/// Returns the change, keys and texts of a row, as they are printed.
 fn row_text(alloc: Global, row: &DiffRow) -> Result<String, AllocError>
     ensures { IfOk result (λ text. string_bytes text ≡ row_text row.now) }
 {
@@ -206,7 +220,8 @@ fn row_text(alloc: Global, row: &DiffRow) -> Result<String, AllocError>
     Ok(text)
 }
 
-/// The number of the first line that tells none of the texts. Texts in the order of the lines are found at once.
+/// Returns the number of the first line that matches none of the texts. Texts in the order of the
+/// lines are found at once.
 fn first_stale(lines: &[ListLine], texts: &[String]) -> Option<usize>
     ensures { result
         ≡ option_map (λ line. line.number)
@@ -222,7 +237,7 @@ fn first_stale(lines: &[ListLine], texts: &[String]) -> Option<usize>
     None
 }
 
-/// The index of a text that the line tells, looked for at the hint first.
+/// Returns the index of a text that the line matches, trying the hint first.
 fn told_by(line: &ListLine, hint: usize, texts: &[String]) -> Option<usize>
     ensures told { not (is_some result)
         ≡ words.is_stale (map (λ text. string_bytes text) texts.now) line.now }
@@ -239,7 +254,7 @@ fn told_by(line: &ListLine, hint: usize, texts: &[String]) -> Option<usize>
     None
 }
 
-/// Whether the line is the text, with places after it or without.
+/// Returns whether the line is the text, with or without places after it.
 fn tells(text: &str, line: &ListLine) -> bool
     ensures { result ≡ words.tells text.now line.now }
 {
@@ -249,7 +264,7 @@ fn tells(text: &str, line: &ListLine) -> bool
     }
 }
 
-/// Whether nothing is left, or a blank, after which places stand.
+/// Returns whether nothing is left, or a blank, after which the places come.
 fn is_end(rest: &[u8]) -> bool
     ensures { result ≡ words.is_end rest.now }
 {
@@ -259,7 +274,8 @@ fn is_end(rest: &[u8]) -> bool
     }
 }
 
-/// The rows that no line accepts, in order. Lines in the order of the rows are found at once.
+/// Returns the rows that no line accepts, in order. Lines in the order of the rows are found at
+/// once.
 fn not_told<'r>(
     alloc: Global,
     rows: &[DiffRow<'r>],
@@ -279,7 +295,7 @@ fn not_told<'r>(
     Ok(left)
 }
 
-/// The index of a line that accepts the row, looked for at the hint first.
+/// Returns the index of a line that accepts the row, trying the hint first.
 fn accepting(
     alloc: Global,
     row: &DiffRow,
@@ -296,7 +312,7 @@ fn accepting(
     Ok(telling(lines, hint, &text))
 }
 
-/// The index of a line that tells the text, looked for at the hint first.
+/// Returns the index of a line that matches the text, trying the hint first.
 fn telling(lines: &[ListLine], hint: usize, text: &str) -> Option<usize>
     ensures told { is_some result ≡ list_any (words.tells text.now) lines.now }
     ensures within { IfSome result (λ at. at < length lines.now) }
@@ -312,7 +328,10 @@ fn telling(lines: &[ListLine], hint: usize, text: &str) -> Option<usize>
     None
 }
 
-/// The list that accepts these rows: a line for each that somebody meets, without places. O(bytes).
+/// Returns the list that accepts these rows: a line without places for each row that is not
+/// harmless. O(bytes).
+///
+/// Errors: `AllocError` if memory runs out.
 pub fn accept_text(alloc: Global, rows: &[DiffRow]) -> Result<String, AllocError>
     ensures { IfOk result (λ text. string_bytes text ≡ words.accept_lines rows.now) }
 {

@@ -19,16 +19,20 @@ use std::fmt::Write;
 /// How rows are printed.
 #[derive(Clone, Copy, Debug)]
 pub struct Printed {
-    /// Whether those that belong together are one line.
+    /// Whether rows that belong together share a line.
     pub folds: bool,
-    /// Whether those whose text no sequence of the new table gives are printed alone.
+    /// Whether only the rows are printed whose old text no sequence of the new table gives.
     pub lost_alone: bool,
 }
 
-/// What `diff` answers on rows in order: the lines of those that are neither kept nor accepted, those that belong together in
-/// one line and those of lost texts alone if that is asked for, the line of the overlaps, and the line that counts all of them; yes if
-/// nobody meets any row that is not accepted. Or the first accepted line that matches no row. O(bytes + rows × log rows) if the accepted
-/// lines are in the order of the rows.
+/// Returns the answer of `diff` for rows in order: the lines of the rows that are neither kept nor
+/// accepted, the line of the overlaps, and the line of the counts. Rows that belong together share
+/// a line, and only rows of lost texts are printed, if that is asked for. The answer is yes if each
+/// row that is not accepted is harmless. O(bytes + rows × log rows) if the accepted lines are in
+/// the order of the rows.
+///
+/// Errors: `Stale` with the first accepted line that matches no row, or `NoMemory` if memory runs
+/// out.
 pub fn answer_diff(
     alloc: Global,
     rows: &[DiffRow],
@@ -45,7 +49,7 @@ pub fn answer_diff(
     Ok(answer_on(alloc, rows, &left, printed, overlaps)?)
 }
 
-/// What is answered on the rows that are not accepted, which are left of all rows.
+/// Returns the answer on `left`, those of all rows that are not accepted.
 fn answer_on(
     alloc: Global,
     rows: &[DiffRow],
@@ -62,7 +66,7 @@ fn answer_on(
     Ok(Answer::No(text))
 }
 
-/// The lines of the rows that are shown, that of the overlaps, and that of the counts.
+/// Returns the lines of the rows that are printed, of the overlaps, and of the counts.
 fn answer_text(
     alloc: Global,
     rows: &[DiffRow],
@@ -90,7 +94,7 @@ fn push_counts(text: &mut String, counts: &Counts, overlaps: Overlaps) -> Result
     Ok(())
 }
 
-/// The lines of the rows that are shown.
+/// Returns the lines of the rows that are printed.
 fn shown_text(
     alloc: Global,
     rows: &[DiffRow],
@@ -108,7 +112,7 @@ fn shown_text(
     lines_text(alloc, rows, left, printed.folds)
 }
 
-/// The lines of these rows of all rows.
+/// Returns the lines of `shown`, which are some of all rows.
 fn lines_text(
     alloc: Global,
     rows: &[DiffRow],

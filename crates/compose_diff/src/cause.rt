@@ -1,4 +1,4 @@
-//! A source of the old table of which the new one has nothing, told in one line.
+//! A source of the old table all of whose sequences are removed, as one line.
 ghost use Rattle.std.specs.Prelude.{◌≡◌, ℕ, ◌++◌, IfOk, OnOk, string_bytes};
 ghost use Rattle.compose_diff.specs.Causes as words;
 
@@ -9,10 +9,11 @@ use indexmap::IndexMap;
 use std::alloc::{AllocError, Global};
 use std::fmt::Write;
 
-/// How many rows the old table has in each source, by the index of the source.
+/// The number of rows that the old table has in each source, by the index of the source.
 type Counts = IndexMap<usize, usize>;
 
-/// Of which sources of the old table all rows are removed: how many rows each has, and how many of them are shown and removed.
+/// The sources of the old table all of whose rows are removed: the number of rows of each source,
+/// and the number of those that are printed and removed.
 #[derive(Drop)]
 pub(crate) struct Gone {
     all: Counts,
@@ -23,7 +24,8 @@ impl Gone {
     ghost use Rattle.std.specs.Prelude.{◌≡◌};
     ghost use Rattle.compose_diff.specs.Causes as words;
 
-    /// Whether the old table has two rows or more in this source, and as many are removed from it.
+    /// Returns whether the old table has two rows or more in this source, and as many are removed
+    /// from it.
     fn has(&self, source: usize) -> bool
         ensures { result ≡ words.has_gone self.now source }
     {
@@ -32,7 +34,7 @@ impl Gone {
     }
 }
 
-/// The sources that are gone where some of all rows are shown. O(rows).
+/// Returns the sources that are gone, if `shown` are those of all rows that are printed. O(rows).
 pub(crate) fn gone_sources(
     alloc: Global,
     rows: &[DiffRow],
@@ -46,7 +48,8 @@ pub(crate) fn gone_sources(
     Ok(Gone { all, removed })
 }
 
-/// How many rows, or removed ones, the old table has in each source.
+/// Returns the number of rows that the old table has in each source, of all rows or of the removed
+/// ones.
 fn count_by_source(
     alloc: Global,
     rows: &[DiffRow],
@@ -66,14 +69,14 @@ fn count_by_source(
     Ok(counts)
 }
 
-/// How many were counted for a source.
+/// Returns the number that was counted for a source.
 fn count_at(counts: &Counts, source: usize) -> usize
     ensures { result ≡ words.count_at counts.now source }
 {
     counts.get(&source).copied().unwrap_or(0)
 }
 
-/// The source in which the old table has the row, if the row is counted.
+/// Returns the source in which the old table has the row, if the row is counted.
 fn counted_source(row: &DiffRow, removed_alone: bool) -> Option<usize>
     ensures { (source : ℕ)
         → words.is_source source result ≡ words.is_counted removed_alone source row.now }
@@ -85,7 +88,7 @@ fn counted_source(row: &DiffRow, removed_alone: bool) -> Option<usize>
     Some(entry.source)
 }
 
-/// What the old table has for a removed row whose source is gone.
+/// Returns what the old table has for a removed row whose source is gone.
 pub(crate) fn gone_entry<'r>(gone: &Gone, row: &DiffRow<'r>) -> Option<Entry<'r>>
     ensures { result ≡ words.gone_entry (words.has_gone gone.now) row.now }
 {
@@ -96,7 +99,7 @@ pub(crate) fn gone_entry<'r>(gone: &Gone, row: &DiffRow<'r>) -> Option<Entry<'r>
     None
 }
 
-/// Appends the line of so many removed sequences, all of one source, to the text.
+/// Appends the line of this number of removed sequences, which are all of one source, to the text.
 pub(crate) fn push_cause(text: &mut String, entry: &Entry, count: usize) -> Result<(), AllocError>
     ensures { OnOk result
         (string_bytes text.new ≡ string_bytes text.old ++ words.cause_line entry.now count) }

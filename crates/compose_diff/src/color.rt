@@ -9,8 +9,11 @@ use compose_compare::Change;
 use std::alloc::{AllocError, Global};
 use std::fmt::Write;
 
-/// The text of an answer in colours for a terminal, as `git diff` has them: a line that tells what people lose is red, one that tells
-/// what they get is green, and the line of the counts is bold. O(bytes).
+/// Returns the text of an answer in colours for a terminal, like those of `git diff`: a line of
+/// what people lose is red, a line of what they get is green, and the line of the counts is bold.
+/// O(bytes).
+///
+/// Errors: `AllocError` if memory runs out.
 pub fn colored_text(alloc: Global, text: &str) -> Result<String, AllocError>
     ensures { IfOk result
         (λ colored. string_bytes colored ≡ words.colored_lines (lines text.now)) }
@@ -23,7 +26,7 @@ pub fn colored_text(alloc: Global, text: &str) -> Result<String, AllocError>
     Ok(colored)
 }
 
-/// The number of the colour of a line, red, green, or bold.
+/// Returns the number of the colour of a line: red, green, or bold.
 fn color_of(line: &str) -> &'static str
     ensures { result.now ≡ words.color_of line.now }
 {
@@ -36,14 +39,14 @@ fn color_of(line: &str) -> &'static str
     "1"
 }
 
-/// Whether the line begins with the word for one of these changes.
+/// Returns whether the line begins with the word for one of these changes.
 fn tells_one_of(line: &str, changes: &[Change]) -> bool
     ensures { result ≡ list_any (words.begins_with_word line.now) changes.now }
 {
     changes.iter().any(|change| begins_with_word(line, *change))
 }
 
-/// Whether the line begins with the word for this change.
+/// Returns whether the line begins with the word for this change.
 fn begins_with_word(line: &str, change: Change) -> bool
     ensures { result ≡ words.begins_with_word line.now change }
 {

@@ -1,4 +1,4 @@
-//! How often each thing happens.
+//! The number of rows for each change.
 ghost use Rattle.std.specs.Prelude.{◌≡◌, Some, IfOk};
 ghost use Rattle.compose_diff.specs.Counts as words;
 ghost use Rattle.compose_diff.specs.Counts.{counts_line};
@@ -9,24 +9,39 @@ use compose_compare::Change;
 use std::alloc::{AllocError, Global};
 use std::fmt;
 
-/// How often each thing happens, printed as
-/// `diff: 5205 kept, 3 changed, 0 waiting, 298 removed, 0 new starts, 12 added, 2 accepted; 4 texts lost` and a newline.
+/// The number of rows for each change, printed as
+///
+/// ```text
+/// diff: 52 kept, 3 changed, 0 waiting, 29 removed, 0 new starts, 1 added, 2 accepted; 4 texts lost
+/// ```
+///
+/// and a newline.
 #[derive(Clone, Copy, Debug, PartialEq, Eq, Drop)]
 pub struct Counts {
+    /// The number of sequences that give the same text.
     pub kept: usize,
+    /// The number of sequences that give another text.
     pub changed: usize,
+    /// The number of sequences that now only begin a longer one.
     pub waiting: usize,
+    /// The number of sequences that the new table no longer has.
     pub removed: usize,
+    /// The number of new sequences whose first key started no sequence before.
     pub new_starts: usize,
+    /// The number of all other new sequences.
     pub added: usize,
-    /// How many rows are accepted, and in none of the other counts.
+    /// The number of accepted rows, which are in none of the other counts.
     pub accepted: usize,
-    /// How many texts the old table gives, of rows that are not accepted, and no sequence of the new one.
+    /// The number of texts, each counted once, that the old table gives for a row that is not
+    /// accepted, and that no sequence of the new table gives.
     pub lost_texts: usize,
 }
 
 impl Counts {
-    /// The counts of the rows that are not accepted, beside so many that are. O(rows × log rows).
+    /// Counts the rows, which are those that are not accepted; `accepted` is the number of the
+    /// accepted ones. O(rows × log rows).
+    ///
+    /// Errors: `AllocError` if memory runs out.
     pub fn of(alloc: Global, rows: &[DiffRow], accepted: usize) -> Result<Counts, AllocError>
         ensures { IfOk result (λ counts. counts ≡ words.counts_of rows.now accepted) }
     {
@@ -72,7 +87,7 @@ impl fmt::Display for Counts {
     }
 }
 
-/// The word after the number of new starts, after a blank.
+/// Returns the words after the number of new starts, with a blank before them.
 fn starts_word(count: usize) -> &'static str
     ensures { result.now ≡ words.starts_word count }
 {
@@ -83,7 +98,7 @@ fn starts_word(count: usize) -> &'static str
     }
 }
 
-/// The word after the number of texts, after a blank.
+/// Returns the word after the number of texts, with a blank before it.
 fn texts_word(count: usize) -> &'static str
     ensures { result.now ≡ words.texts_word count }
 {
@@ -93,14 +108,15 @@ fn texts_word(count: usize) -> &'static str
     }
 }
 
-/// To how many of the rows this happens.
+/// Returns the number of rows to which this happens.
 fn count_of(rows: &[DiffRow], change: Change) -> usize
     ensures { result ≡ words.count_of change rows.now }
 {
     rows.iter().filter(|row| row.change == change).count()
 }
 
-/// Whether nobody who types with the old table meets what happens in the rows: each is kept, or added and no new start. O(rows).
+/// Returns whether the rows are harmless to everybody who types with the old table: each is kept,
+/// or added and no new start. O(rows).
 pub fn loses_nothing(rows: &[DiffRow]) -> bool
     ensures { result ≡ words.loses_nothing rows.now }
 {

@@ -1,4 +1,4 @@
-//! Told rows as lines, one for those that fold together, and one for a source that is gone.
+//! Rows as lines: one line for rows that fold together, and one for a source that is gone.
 ghost use Rattle.std.specs.Prelude.{◌≡◌, ◌≤◌, ◌++◌, length, take, IfOk, OnOk, None, string_bytes};
 ghost use Rattle.compose_diff.specs.Causes.{has_gone};
 ghost use Rattle.compose_diff.specs.Members.{Key, view, members_at, group_in, after};
@@ -12,7 +12,10 @@ use compose_compare::Change;
 use std::alloc::{AllocError, Global};
 use std::fmt::Write;
 
-/// A line for each row that is not kept, in order: what happens, the keys, the texts and the places. O(bytes).
+/// Returns a line for each row that is not kept, in order: what happens, the keys, the texts and
+/// the places. O(bytes).
+///
+/// Errors: `AllocError` if memory runs out.
 pub fn diff_text(alloc: Global, rows: &[DiffRow]) -> Result<String, AllocError>
     ensures { IfOk result (λ text. string_bytes text ≡ words.diff_lines rows.now) }
 {
@@ -22,13 +25,19 @@ pub fn diff_text(alloc: Global, rows: &[DiffRow]) -> Result<String, AllocError>
     Ok(text)
 }
 
-/// The same of the rows that are left of all rows, but rows that belong together are one line, which stands where the first of them does:
+/// Returns the lines of `left`, the rows that remain of `rows`. They are those of [`diff_text`],
+/// but rows that belong together share a line, at the place of the first of them:
 ///
-/// - Two removed rows or more are one line, which names the source, where they are all rows that the old table has in it.
-/// - Else rows that are all removed or all added, and that begin with the same two keys (or the same one, where they have two), are one
-///   line: their count, the texts of the first three and the place of the first.
+/// - Two or more removed rows share a line that names the source, if they are all rows that the old
+///   table has in it.
+/// - Otherwise rows that are all removed or all added, and that begin with the same two keys (or
+///   the same one, if they have two), share a line: their number, the texts of the first three, and
+///   the place of the first.
 ///
-/// O(bytes of the rows): what they have in common, and how many rows a source has, is looked up in hash maps.
+/// O(bytes of the rows): what rows have in common, and the number of rows of a source, is looked up
+/// in hash maps.
+///
+/// Errors: `AllocError` if memory runs out.
 pub fn folded_text(alloc: Global, rows: &[DiffRow], left: &[DiffRow]) -> Result<String, AllocError>
     ensures { IfOk result (λ text. string_bytes text ≡ words.folded_lines rows.now left.now) }
 {
@@ -39,7 +48,7 @@ pub fn folded_text(alloc: Global, rows: &[DiffRow], left: &[DiffRow]) -> Result<
     Ok(text)
 }
 
-/// The rows that are not kept, in order.
+/// Returns the rows that are not kept, in order.
 fn told<'r>(alloc: Global, rows: &[DiffRow<'r>]) -> Result<Vec<DiffRow<'r>>, AllocError>
     ensures { IfOk result (λ told. told.items ≡ words.told rows.now) }
 {
@@ -81,7 +90,8 @@ fn push_groups(
     Ok(())
 }
 
-/// Appends the lines of the group of a row to the text, and takes the group out: nothing where that was done before.
+/// Appends the lines of the group of a row to the text, and takes the group out; nothing if it was
+/// taken out before.
 fn push_group_of<'r>(
     alloc: Global,
     text: &mut String,
@@ -104,7 +114,7 @@ fn push_group_of<'r>(
     }
 }
 
-/// Appends the lines of a group to the text: one, or none of an empty one.
+/// Appends the line of a group to the text, or nothing if the group is empty.
 fn push_group(
     alloc: Global,
     text: &mut String,
@@ -124,7 +134,7 @@ fn push_group(
     }
 }
 
-/// Appends the line of a row alone, or that of rows that fold together, to the text.
+/// Appends the line of a single row, or that of rows that fold together, to the text.
 fn push_lines(alloc: Global, text: &mut String, rows: &[DiffRow]) -> Result<(), AllocError>
     ensures { OnOk result
         (string_bytes text.new ≡ string_bytes text.old ++ words.lines_by None rows.now) }
@@ -151,7 +161,7 @@ fn push_fold(alloc: Global, text: &mut String, rows: &[DiffRow]) -> Result<(), A
     text.push_str("\n")
 }
 
-/// The first three of the rows, or all.
+/// Returns the first three of the rows, or all if there are fewer.
 fn first_three<'s, 'r>(rows: &'s [DiffRow<'r>]) -> &'s [DiffRow<'r>]
     ensures { result.now ≡ take 3 rows.now }
 {

@@ -1,4 +1,4 @@
-//! Rows that share a line, wherever they stand.
+//! Rows that share a line, wherever they are in the list.
 ghost use Rattle.std.specs.Prelude.{◌≡◌, ℕ, List, ◌++◌, IfOk, OnOk, filter, map, option_map};
 ghost use Rattle.std.specs.Borrow.{Bor};
 ghost use Rattle.compose_diff.specs.Causes.{has_gone};
@@ -12,14 +12,14 @@ use compose_compare::Change;
 use indexmap::IndexMap;
 use std::alloc::{AllocError, Global};
 
-/// What the rows of a line have in common: the place of what happens to them among the changes, the source with which they are gone,
-/// and the keys with which they begin.
+/// What the rows of a line have in common: the rank of their change among the changes, the source
+/// with which they are gone, and the keys with which they begin.
 pub(crate) type Common<'r> = (u8, Option<usize>, &'r [&'r str]);
 
 /// The rows that have the same in common, in order.
 pub(crate) type Groups<'r> = IndexMap<Common<'r>, Vec<DiffRow<'r>>>;
 
-/// What the row has in common with those of its line, if it can share one.
+/// Returns what the row has in common with the others of its line, if it can share one.
 pub(crate) fn common<'r>(gone: &Gone, row: &DiffRow<'r>) -> Option<Common<'r>>
     ensures { option_map view result ≡ words.common (has_gone gone.now) row.now }
 {
@@ -32,14 +32,14 @@ pub(crate) fn common<'r>(gone: &Gone, row: &DiffRow<'r>) -> Option<Common<'r>>
     None
 }
 
-/// Whether rows to which this happens are folded.
+/// Returns whether rows to which this happens are folded.
 fn can_fold(change: Change) -> bool
     ensures { result ≡ words.can_fold change }
 {
     matches!(change, Change::Removed | Change::Added)
 }
 
-/// The keys by which rows are folded.
+/// Returns the keys by which rows are folded.
 pub(crate) fn fold_keys<'a>(row: &DiffRow<'a>) -> &'a [&'a str]
     ensures { map (λ key. key.now) result.now ≡ words.fold_keys row.now }
 {
@@ -47,7 +47,7 @@ pub(crate) fn fold_keys<'a>(row: &DiffRow<'a>) -> &'a [&'a str]
     &row.keys[..count]
 }
 
-/// The rows that share a line, by what they have in common. O(bytes of the keys).
+/// Returns the rows that share a line, by what they have in common. O(bytes of the keys).
 pub(crate) fn group_rows<'r>(
     alloc: Global,
     gone: &Gone,
@@ -66,7 +66,7 @@ pub(crate) fn group_rows<'r>(
     Ok(groups)
 }
 
-/// Adds a row to the last of those that have this in common.
+/// Adds a row after those that have this in common.
 fn add_row<'r>(
     alloc: Global,
     groups: &mut Groups<'r>,
@@ -84,7 +84,8 @@ fn add_row<'r>(
     Ok(())
 }
 
-/// Takes out the rows that have this in common: none where they were taken before.
+/// Takes out the rows that have this in common, and returns them: none if they were taken out
+/// before.
 pub(crate) fn take_group<'r>(
     alloc: Global,
     groups: &mut Groups<'r>,

@@ -8,10 +8,14 @@ use crate::row::{DiffRow, Entry, NewSequence};
 use std::alloc::{AllocError, Global};
 use std::fmt::Write;
 
-/// An object a line for each row, the rows that are kept too: `change`, `keys`, the texts `old` and `new`, and the places `old_file`,
-/// `old_line`, `new_file` and `new_line`, each `null` where the table doesn't have the sequence. Then the keys and the place of the longer
-/// sequence for which people wait (`longer`, `longer_file`, `longer_line`), and of the sequence that gives the old text now (`now`,
+/// Returns a JSON object, on a line of its own, for each row, also for those that are kept. Its
+/// members are `change`, `keys`, the texts `old` and `new`, and the places `old_file`, `old_line`,
+/// `new_file` and `new_line`, each `null` if the table doesn't have the sequence. Then come the
+/// keys and the place of the longer sequence for which a waiting one waits (`longer`,
+/// `longer_file`, `longer_line`), and of the sequence that gives the old text now (`now`,
 /// `now_file`, `now_line`), `null` if there is none. O(bytes).
+///
+/// Errors: `AllocError` if memory runs out.
 pub fn json_text(alloc: Global, rows: &[DiffRow]) -> Result<String, AllocError>
     ensures { IfOk result (λ text. string_bytes text ≡ words.json_rows rows.now) }
 {
@@ -33,7 +37,8 @@ fn push_object(text: &mut String, row: &DiffRow) -> Result<(), AllocError>
     text.push_str("}\n")
 }
 
-/// Appends the members for both places, for the longer sequence and for how the old text is typed now to the text.
+/// Appends the members for both places, for the longer sequence, and for the sequence that gives
+/// the old text now, to the text.
 fn push_end(text: &mut String, row: &DiffRow) -> Result<(), AllocError>
     ensures { OnOk result
         (string_bytes text.new ≡ string_bytes text.old ++ words.json_end row.now) }
@@ -128,7 +133,7 @@ fn push_others(text: &mut String, texts: &[&str]) -> Result<(), AllocError>
     Ok(())
 }
 
-/// Appends the text that a table has, or null, to the text.
+/// Appends the text that a table has, or `null`, to the text.
 fn push_text(text: &mut String, entry: &Option<Entry>) -> Result<(), AllocError>
     ensures { OnOk result
         (string_bytes text.new ≡ string_bytes text.old ++ words.json_text entry.now) }
@@ -155,8 +160,11 @@ fn push_place(text: &mut String, side: &str, entry: &Option<Entry>) -> Result<()
     Ok(())
 }
 
-/// Appends the text as a JSON string (RFC 8259) to the text: in quotes, with a backslash before a quote and a backslash, and what may
-/// steer a terminal as `\u` and four hexadecimal digits. O(bytes).
+/// Appends `inside` as a JSON string (RFC 8259) to the text: in quotes, with a backslash before a
+/// quote or a backslash, and with each character that could control a terminal as `\u` and four
+/// hexadecimal digits. O(bytes).
+///
+/// Errors: `AllocError` if memory runs out.
 pub fn push_json_string(text: &mut String, inside: &str) -> Result<(), AllocError>
     ensures { OnOk result
         (string_bytes text.new ≡ string_bytes text.old ++ words.json_string inside.now) }
@@ -166,7 +174,7 @@ pub fn push_json_string(text: &mut String, inside: &str) -> Result<(), AllocErro
     text.push_str("\"")
 }
 
-/// Appends what stands between the quotes to the text.
+/// Appends the characters between the quotes to the text.
 fn push_characters(text: &mut String, inside: &str) -> Result<(), AllocError>
     ensures { OnOk result
         (string_bytes text.new ≡ string_bytes text.old ++ words.json_characters inside.now) }
@@ -194,7 +202,7 @@ fn push_character(text: &mut String, character: char) -> Result<(), AllocError>
     text.push(character)
 }
 
-/// Whether a terminal may take the character for an instruction. O(1).
+/// Returns whether the character could control a terminal. O(1).
 pub fn is_unsafe(number: u32) -> bool
     ensures { result ≡ shown.is_unsafe number }
 {

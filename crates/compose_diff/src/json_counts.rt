@@ -12,8 +12,11 @@ use crate::row::DiffRow;
 use std::alloc::{AllocError, Global};
 use std::fmt::Write;
 
-/// The rows that are left of all rows as JSON ([`json_text`]), those of lost texts alone if that is asked for, and then one object more,
-/// whose member `counts` has the [`Counts`] of all that are left and the [`Overlaps`]. O(bytes + rows × log rows).
+/// Returns `left`, the rows that remain of `rows`, as JSON ([`json_text`]), or only those of lost
+/// texts if `lost_alone`. After them comes one more object, whose member `counts` has the
+/// [`Counts`] of all that remain, and the [`Overlaps`]. O(bytes + rows × log rows).
+///
+/// Errors: `AllocError` if memory runs out.
 pub fn json_answer(
     alloc: Global,
     rows: &[DiffRow],
@@ -30,7 +33,7 @@ pub fn json_answer(
     Ok(text)
 }
 
-/// The objects of all of the rows, or of those of lost texts alone.
+/// Returns the objects of all rows, or of those of lost texts alone.
 fn shown_objects(alloc: Global, rows: &[DiffRow], lost_alone: bool) -> Result<String, AllocError>
     ensures { IfOk result
         (λ text. string_bytes text ≡ json_rows (shown_rows lost_alone rows.now)) }
@@ -52,7 +55,8 @@ fn push_counts(text: &mut String, counts: &Counts, overlaps: Overlaps) -> Result
     push_overlaps(text, overlaps)
 }
 
-/// Appends how many sequences of the old table are kept and lost to the text.
+/// Appends the numbers of kept, changed, waiting and removed sequences of the old table to the
+/// text.
 fn push_old_counts(text: &mut String, counts: &Counts) -> Result<(), AllocError>
     ensures { OnOk result
         (string_bytes text.new ≡ string_bytes text.old ++ words.json_old_counts counts.now) }
@@ -74,7 +78,7 @@ fn push_new_counts(text: &mut String, counts: &Counts) -> Result<(), AllocError>
     push_count(text, ",\"lost_texts\":", counts.lost_texts)
 }
 
-/// Appends how many overlaps there are, and the end of the object, to the text.
+/// Appends the numbers of overlaps, and the end of the object, to the text.
 fn push_overlaps(text: &mut String, overlaps: Overlaps) -> Result<(), AllocError>
     ensures { OnOk result
         (string_bytes text.new ≡ string_bytes text.old ++ words.json_overlaps overlaps) }
@@ -84,7 +88,7 @@ fn push_overlaps(text: &mut String, overlaps: Overlaps) -> Result<(), AllocError
     text.push_str("}}\n")
 }
 
-/// Appends what stands before a count, and the count, to the text.
+/// Appends the text before a count, and the count, to the text.
 fn push_count(text: &mut String, before: &str, count: usize) -> Result<(), AllocError>
     ensures { OnOk result
         (string_bytes text.new ≡ string_bytes text.old ++ words.json_count before.now count) }

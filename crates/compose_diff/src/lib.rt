@@ -1,12 +1,15 @@
-//! The texts of `diff`: what a new compose table does to each sequence of an old one, as lines, and the changes that are meant.
+//! The output of `diff`: what a new Compose table does to each sequence of an old one, as lines,
+//! and the intended changes.
 //!
-//! A [`DiffRow`] is a sequence and what happens to it. [`sort_rows`] puts rows in the order in which they are told, and
-//! [`answer_diff`] gives the whole answer: a line for each ([`diff_text`], or [`folded_text`]) and the [`Counts`]. [`colored_text`] puts
-//! it in colours, and [`json_answer`] is the answer for programs. A line:
+//! A [`DiffRow`] is a sequence and what happens to it. [`sort_rows`] puts rows into the order in
+//! which they are printed, and [`answer_diff`] returns the whole answer: a line for each row
+//! ([`diff_text`], or [`folded_text`]) and the [`Counts`]. [`colored_text`] adds colours, and
+//! [`json_answer`] is the answer for programs. A line:
 //!
 //!     changed: <dead_hook> <o> "ở" "ờ" OLD:1234 NEW:361 now: <dead_horn> <dead_hook> <o> NEW:340
 //!
-//! [`Accepted`] are the changes that are meant, as such lines, and [`accept_text`] writes those that accept all rows.
+//! [`Accepted`] holds the intended changes, as such lines, and [`accept_text`] writes the lines
+//! that accept all rows.
 #![tactic(auto)]
 
 ghost use Rattle.std.specs.Prelude.{◌≡◌, ℕ, Bool, List, ◌∷◌, ◌++◌, filter, IsTrue};
@@ -51,34 +54,36 @@ pub use order::sort_rows;
 pub use overlaps::{Overlaps, push_overlaps};
 pub use row::{DiffRow, Entry, NewSequence};
 
-/// Each group of rows has all that fold together with one row, in the order in which they were, or is a row alone that folds together
-/// with none.
+/// Each group of rows has all rows that fold together with one row, in their order, or is a single
+/// row that folds together with none.
 pub fn law_groups()
     ensures { (gone : ℕ → Bool) (rows part : List DiffRow) (before after : List (List DiffRow))
         → groups gone rows ≡ before ++ part ∷ after → IsGroup gone rows part }
 {}
 
-/// Each row that is left is in one group, and so in one line ([`folded_text`]): none is left out or doubled.
+/// Each row that remains is in exactly one group, and so in one line ([`folded_text`]): none is
+/// omitted or repeated.
 pub fn law_told()
     ensures { (rows left : List DiffRow) → IsPermutation left (all_of (groups (is_gone rows left) left)) }
 {}
 
-/// Where, of all rows, some are left, and a source is gone from these ([`folded_text`]), every one of all rows that stands in that
-/// source is removed.
+/// If some of all rows remain, and a source is gone by these ([`folded_text`]), then every row that
+/// the old table has in this source is removed.
 pub fn law_gone()
     ensures { (keep : DiffRow → Bool) (rows : List DiffRow) (source : ℕ)
         → IsTrue (is_gone rows (told (filter keep rows)) source)
         → IsTrue (are_removed source rows) }
 {}
 
-/// The list that [`accept_text`] writes for rows whose sequences have keys is read by [`Accepted::read`], and accepts these rows: no line
-/// is stale, and the rows that are left are those that nobody meets.
+/// The list that [`accept_text`] writes for rows whose sequences have keys is read by
+/// [`Accepted::read`], and accepts these rows: no line is stale, and the rows that are left are the
+/// harmless ones.
 pub fn law_accept_text()
     ensures { (rows : List DiffRow) → IsTrue (list_all has_key rows)
         → AcceptsAll (accept_lines rows) rows }
 {}
 
-/// An answer in colours ([`colored_text`]) is the same answer without its escape sequences.
+/// An answer in colours ([`colored_text`]) without its escape sequences is the answer.
 pub fn law_colors()
     ensures { (printed : Printed) (overlaps : Overlaps) (rows left : List DiffRow)
         → uncolored (colored_lines (lines (answer_text printed overlaps rows left)))

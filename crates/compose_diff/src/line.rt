@@ -1,4 +1,4 @@
-//! The line of a told sequence.
+//! The line of a row.
 ghost use Rattle.std.specs.Prelude.{◌≡◌, ◌++◌, map, OnOk, string_bytes};
 ghost use Rattle.compose_diff.specs.Line as words;
 
@@ -9,7 +9,7 @@ use compose_shown::Shown;
 use std::alloc::{AllocError, Global};
 use std::fmt::Write;
 
-/// The word for what happens to a sequence.
+/// Returns the word for what happens to a sequence.
 pub(crate) fn change_word(change: Change) -> &'static str
     ensures { result.now ≡ words.change_word change }
 {
@@ -120,7 +120,7 @@ fn push_sequence(text: &mut String, sequence: &NewSequence) -> Result<(), AllocE
     push_path(text, sequence.path, sequence.line)
 }
 
-/// Appends the longer sequence for which people wait, if there is one, to the text.
+/// Appends the longer sequence for which a waiting one waits, if there is one, to the text.
 fn push_longer(text: &mut String, longer: &Option<NewSequence>) -> Result<(), AllocError>
     ensures { OnOk result
         (string_bytes text.new ≡ string_bytes text.old ++ words.longer_part longer.now) }
@@ -134,14 +134,16 @@ fn push_longer(text: &mut String, longer: &Option<NewSequence>) -> Result<(), Al
     }
 }
 
-/// Whether people lose the sequence to which this happens, so that the line says how its text is typed now.
+/// Returns whether people lose the sequence to which this happens. Its line then shows how its text
+/// is typed now.
 pub fn is_loss(change: Change) -> bool
     ensures { result ≡ words.is_loss change }
 {
     matches!(change, Change::Changed | Change::Waiting | Change::Removed)
 }
 
-/// Appends how the old text of a sequence to which this happens is typed now, or that it isn't, to the text.
+/// Appends to the text how the old text of a sequence to which this happens is typed now, or that
+/// it can't be typed.
 fn push_typing(
     text: &mut String,
     change: Change,
@@ -160,7 +162,7 @@ fn push_typing(
     }
 }
 
-/// Appends both places, the longer sequence, and how the old text is typed now, to the text.
+/// Appends both places, the longer sequence, and how the old text is typed now to the text.
 fn push_row_end(text: &mut String, row: &DiffRow) -> Result<(), AllocError>
     ensures { OnOk result
         (string_bytes text.new ≡ string_bytes text.old ++ words.row_end row.now) }

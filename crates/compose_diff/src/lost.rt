@@ -6,14 +6,16 @@ use crate::line::is_loss;
 use crate::row::DiffRow;
 use std::alloc::{AllocError, Global};
 
-/// Whether people lose the sequence, and no sequence of the new table gives its text. O(1).
+/// Returns whether people lose the sequence, and no sequence of the new table gives its text. O(1).
 pub fn is_lost(row: &DiffRow) -> bool
     ensures { result ≡ words.is_lost row.now }
 {
     is_loss(row.change) && row.typing.is_none()
 }
 
-/// The rows of such sequences, in order. O(rows).
+/// Returns the rows of lost texts, in order. O(rows).
+///
+/// Errors: `AllocError` if memory runs out.
 pub fn lost_rows<'r>(alloc: Global, rows: &[DiffRow<'r>]) -> Result<Vec<DiffRow<'r>>, AllocError>
     ensures { IfOk result (λ lost. lost.items ≡ words.lost_rows rows.now) }
 {
@@ -26,7 +28,8 @@ pub fn lost_rows<'r>(alloc: Global, rows: &[DiffRow<'r>]) -> Result<Vec<DiffRow<
     Ok(lost)
 }
 
-/// How many texts no sequence of the new table gives any more: each text of such rows once. O(rows × log rows) comparisons of texts.
+/// Returns the number of texts that no sequence of the new table gives any more: each text of such
+/// rows is counted once. O(rows × log rows) comparisons of texts.
 pub(crate) fn count_lost_texts(alloc: Global, rows: &[DiffRow]) -> Result<usize, AllocError>
     ensures { IfOk result (λ count. count ≡ length (words.lost_texts rows.now)) }
 {
@@ -36,7 +39,7 @@ pub(crate) fn count_lost_texts(alloc: Global, rows: &[DiffRow]) -> Result<usize,
     Ok(texts.as_slice().len())
 }
 
-/// The text that the old table has for each row of a lost text, in order.
+/// Returns the text that the old table has for each row of a lost text, in order.
 fn old_texts<'r>(alloc: Global, rows: &[DiffRow<'r>]) -> Result<Vec<&'r str>, AllocError>
     ensures { IfOk result
         (λ texts. map (λ text. text.now) texts.items ≡ map words.old_text (words.lost_rows rows.now)) }
@@ -50,7 +53,7 @@ fn old_texts<'r>(alloc: Global, rows: &[DiffRow<'r>]) -> Result<Vec<&'r str>, Al
     Ok(texts)
 }
 
-/// The text that the old table has for a row, or else an empty one.
+/// Returns the text that the old table has for a row, or an empty one.
 fn old_text<'r>(row: &DiffRow<'r>) -> &'r str
     ensures { result.now ≡ words.old_text row.now }
 {

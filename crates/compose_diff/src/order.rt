@@ -1,4 +1,4 @@
-//! The order in which rows are told.
+//! The order in which rows are printed.
 ghost use Rattle.std.specs.Prelude.{◌≡◌, OnOk, OnErr};
 ghost use Rattle.std.specs.List.Sorted.{IsPermutation};
 ghost use Rattle.compose_diff.specs.Order as words;
@@ -8,8 +8,11 @@ use crate::row::DiffRow;
 use compose_compare::Change;
 use std::alloc::AllocError;
 
-/// Puts the rows in the order in which they are told: changed, waiting, removed, new start, added, kept; in each group by the source
-/// and the line of what the old table has, or else the new one. Where memory is refused they stay as they are. O(rows × log rows).
+/// Sorts the rows into the order in which they are printed: changed, waiting, removed, new start,
+/// added, kept. Within each group they are sorted by the source and the line of the old table's
+/// definition, or else of the new one's. O(rows × log rows).
+///
+/// Errors: `AllocError` if memory runs out; the rows then stay as they are.
 pub fn sort_rows(rows: &mut Vec<DiffRow>) -> Result<(), AllocError>
     ensures same { IsPermutation rows.old.items rows.new.items }
     ensures sorted { OnOk result (AreInOrder rows.new.items) }
@@ -19,7 +22,8 @@ pub fn sort_rows(rows: &mut Vec<DiffRow>) -> Result<(), AllocError>
     Ok(())
 }
 
-/// The group of a row, and the source and the line of what the old table has, or else the new one.
+/// Returns the group of a row, and the source and the line of the old table's definition, or else
+/// of the new one's.
 fn rank(row: &DiffRow) -> (u8, usize, usize)
     ensures { result ≡ words.rank row.now }
 {
@@ -29,7 +33,7 @@ fn rank(row: &DiffRow) -> (u8, usize, usize)
     }
 }
 
-/// The place of a change among the groups.
+/// Returns the rank of a change among the groups.
 pub(crate) fn group(change: Change) -> u8
     ensures { result ≡ words.group change }
 {

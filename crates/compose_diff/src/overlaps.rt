@@ -5,14 +5,19 @@ ghost use Rattle.compose_diff.specs.Overlaps as words;
 use std::alloc::AllocError;
 use std::fmt::Write;
 
-/// How many sequences are defined in the sources of each table with which longer ones begin. The longer ones count.
+/// The number of sequences, in the sources of each table, that are a prefix of another one. The
+/// longer sequence counts.
 #[derive(Clone, Copy, Debug, PartialEq, Eq)]
 pub struct Overlaps {
+    /// The number in the old table.
     pub old: usize,
+    /// The number in the new table.
     pub new: usize,
 }
 
 /// Appends the line that counts overlaps, if there are any, to the text. O(1).
+///
+/// Errors: `AllocError` if memory runs out.
 pub fn push_overlaps(text: &mut String, overlaps: Overlaps) -> Result<(), AllocError>
     ensures { OnOk result
         (string_bytes text.new ≡ string_bytes text.old ++ words.overlaps_line overlaps) }

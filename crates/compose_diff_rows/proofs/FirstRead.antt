@@ -1,4 +1,4 @@
--- What a migration that was read says of its tables.
+-- What is known of the tables of a migration that was read.
 use Rattle.std.proofs.Common.{◌≡◌, ℕ, List, [], ◌∷◌, map, refl, sym, ◌∙◌, ap}
 use Rattle.std.specs.Prelude.{Some, option_map, slice_get, Result, Ok, Err}
 use Rattle.std.proofs.lemmas.Option.{same_Some}

@@ -1,4 +1,5 @@
--- The first of the shortest sequences that give a text: no other one is shorter, and none of its length comes before it.
+-- The first of the shortest sequences that give a text: no other one is shorter, and none of the same length comes
+-- before it.
 use Rattle.std.proofs.Common.{◌≡◌, ℕ, List, Bool, true, false, not, sym, ◌∙◌, ap, refl}
 use Rattle.std.specs.Prelude.{Option, Some, None, is_some}
 use Rattle.std.specs.Option.{option_map_or}
@@ -10,7 +11,7 @@ use Rattle.compose_diff_rows.specs.Rows.{first_typing}
 use Rattle.compose_diff_rows.specs.Typings.{IsFirstTyping}
 
 module _ (table : List Definition) (t_table : is_table table ≡ true) (text : List ℕ) where
-  -- what gives a text is a sequence
+  -- a sequence that gives a text is one of the table
   is_there : (t : List ℕ) → gives table text t ≡ true → is_sequence table t ≡ true
   is_there t h = sym (sequence_text table t) ∙ go (text_at table t) h
     where

@@ -1,4 +1,5 @@
--- The answer is yes exactly where each change is harmless or named by an accepted line, and without such lines where the new table follows.
+-- The answer is yes exactly if each change is harmless or named by an accepted line, and without such lines exactly if
+-- the new table follows the old one.
 use Rattle.std.proofs.Common.{◌≡◌, ℕ, List, [], ◌∷◌, ◌++◌, Bool, true, false, cond, not, ◌&&◌, ◌||◌, map, refl, sym, ◌∙◌, ap, ap₂, subst, inl, inr, nat_cmp}
 use Rattle.std.specs.Prelude.{◌↔◌, Option, Some, None, Result, Ok, Err, filter}
 use Rattle.std.specs.Option.{option_map, option_map_or}
@@ -140,7 +141,7 @@ module _ (names : KeysymNames) (fresh : List ℕ) (old new : Written) (whole : B
   abbrev test : List ℕ → Bool
   test = is_told_of whole names fresh old.table new.table
 
-  -- of a sequence of which no row is told nothing is lost
+  -- a sequence without a row is harmless
   untold : (w : Bool) (c : Change) (b : Bool) → is_told w c ≡ false → is_harmless c || b ≡ true
   untold w Kept b h = refl
   untold w Changed b h = let clash : true ≡ false = h in cc
@@ -213,7 +214,7 @@ module _ (asked : Asked) (e : Explainable) where
       and_true true = refl
       and_true false = refl
 
-  -- yes exactly where each harmful change is named
+  -- yes exactly if each harmful change is named
   pub meant_is : (answer : Answer) (lines : List Line) → IsDiff asked e answer → accepted_of asked.accepted ≡ Ok lines → IsYes answer ↔ AreMeant asked e lines
   meant_is answer lines diff read =
       let yes = yes_is asked.form asked.lost_alone (overlaps_in asked e) diff.rows diff.left answer diff.told in
@@ -249,7 +250,7 @@ fresh_of given e h = by_parts (migration_parts given) h
     by_parts (Err why) k = cc
     by_parts (Ok move) k = by_fault move (rising nat_cmp move.keys) (first_unmet (fresh_conditions move.old (rising nat_cmp move.keys))) refl k
 
--- yes exactly where the new table follows
+-- yes exactly if the new table follows the old one
 pub follows_is : (asked : Asked) (e : Explainable) (answer : Answer) → compared_parts asked.migration ≡ Ok e → IsDiff asked e answer → accepted_of asked.accepted ≡ Ok []
     → IsYes answer ↔ Follows e.move.names e.fresh e.move.old e.move.new
 follows_is asked e answer is diff read =

@@ -56,7 +56,7 @@ module _ (given : GivenMigration) where
 
 -- ---- the fresh keysyms
 
--- a copy of keysyms that is sorted and kept once each is the rising ones
+-- a copy of keysyms that is sorted, each kept once, has the rising ones
 pub rising_of : (keys copied items sorted fresh : List ℕ) → copied ≡ keys → items ≡ copied → IsPermutation items sorted → IsSorted nat_cmp sorted → fresh ≡ dedup nat_eq sorted
     → fresh ≡ rising nat_cmp keys
 rising_of keys copied items sorted fresh from same moved in_order is = rising_is keys sorted fresh (subst (λ (xs : List ℕ). IsPermutation xs sorted) (same ∙ from) moved) in_order is
@@ -79,9 +79,9 @@ module _ (move : Parts) (fresh seen : List ℕ) (is : fresh ≡ rising nat_cmp m
   pub fresh_unmet : (fault : CheckFault) → Some fault ≡ first_unmet (fresh_conditions move.old seen) → compared move ≡ Err (no_fresh (BadFresh fault))
   fresh_unmet fault h = given_fresh ∙ ap by_fault (sym h)
 
--- ---- the list of meant changes
+-- ---- the list of intended changes
 
--- where the list is read, no line is stale
+-- if the list is read, no line is stale
 not_stale : (bytes : List ℕ) (n : ℕ) → accepted_of bytes ≡ Err (Stale n) → ⊥
 not_stale bytes n h = go (said_from 1 (lines_of bytes)) (find (λ line. not (is_in_form line)) (said_from 1 (lines_of bytes))) h
   where
@@ -92,13 +92,13 @@ not_stale bytes n h = go (said_from 1 (lines_of bytes)) (find (λ line. not (is_
 -- ---- the whole
 
 module _ (asked : Asked) (e : Explainable) (is : compared_parts asked.migration ≡ Ok e) where
-  -- of what is compared, the first line that is not in the form is refused; or memory was
+  -- for what is compared, the first line that is not in the required form is refused; or memory ran out
   pub accept_refused : (fault : AcceptFault) → Gives {A = List Line} (Err fault) (accepted_of asked.accepted) → AnswersDiff asked (Err (accept_raised fault))
   accept_refused (Stale n) h = absurd (not_stale asked.accepted n h)
   accept_refused (BadLine n) h = (e, is, h)
   accept_refused NoMemory h = tt
 
-  -- the answer on both tables, where the lines of the list are read
+  -- the answer on both tables, if the lines of the list are read
   pub told_of : (lines : List Line) → accepted_of asked.accepted ≡ Ok lines → (r : Result Answer DiffFault) → TellsDiff asked e lines r → AnswersDiff asked r
   told_of lines read (Ok answer) h = let tells = h.3 in (e, is, record { lines = lines; rows = h.0; left = tells.0; tables = h.1; read = read; are = h.2; leaves = tells.1; told = tells.2 })
   told_of lines read (Err (Input refusal)) h = subst (λ (x : Refusal). IsRefused x (compared_parts asked.migration)) (sym h) tt
@@ -106,7 +106,7 @@ module _ (asked : Asked) (e : Explainable) (is : compared_parts asked.migration 
   told_of lines read (Err (Accept (BadLine n))) h = absurd h.2
   told_of lines read (Err (Accept NoMemory)) h = absurd h.2
 
--- a fault that is handed on is that of the whole
+-- a fault that is passed on is that of the whole
 pub handed_on : (asked : Asked) (r : Result Answer DiffFault) (fault : DiffFault) → IsErrAnd r (λ e. e ≡ fault) → AnswersDiff asked (Err fault) → AnswersDiff asked r
 handed_on asked (Ok answer) fault h g = absurd h
 handed_on asked (Err e) fault h g = subst (λ (x : DiffFault). AnswersDiff asked (Err x)) (sym h) g

@@ -23,7 +23,7 @@ module _ (table : List Definition) where
   pub leaf_there : (i : ℕ) → i < length (leaves table) → is_sequence table (get_or (leaves table) i []) ≡ true
   leaf_there i h = sym (leaf_means table (get_or (leaves table) i [])) ∙ any_at (leaves table) i h
 
-  -- a sequence stands at its number
+  -- a sequence is the leaf with its number
   pub leaf_at_number : (s : List ℕ) → is_sequence table s ≡ true → get_or (leaves table) (leaf_number table s) [] ≡ s
   leaf_at_number s h = found_at s (leaves table) (leaf_means table s ∙ h)
 

@@ -20,12 +20,12 @@ use Rattle.compose_diff_rows.specs.Rows.{Written, WrittenSequence, sequence_in, 
 
 -- ---- nodes
 
--- where sequences go on from a list, they do from what it begins with
+-- if sequences go on from a list, they go on from each prefix of it
 extended_before : (table : List Definition) (q r : List ℕ) → is_extended table (q ++ r) ≡ true → is_extended table q ≡ true
 extended_before table q r h = list_any-weaker (λ (d : Definition). is_proper_prefix (q ++ r) d.sequence) (λ (d : Definition). is_proper_prefix q d.sequence) (λ d e. shorter_prefix q r d.sequence e) table h
 
 module _ (names : KeysymNames) (table : List Definition) where
-  -- the node to which the keys lead from q; or sequences don't go on where they lead
+  -- the node to which the keys lead from q; or no sequences go on from where they lead
   abbrev pub Led : List ℕ → List (List ℕ) → Option NodeId → Type 0
   Led q keys found = MatchOption found ((s : List ℕ) → sequence_named names keys ≡ Some s → is_extended table (q ++ s) ≡ false)
       (λ node. (s : List ℕ) × (sequence_named names keys ≡ Some s) × (node.0 < length (nodes table)) × (nodes_words.node table node.0 ≡ q ++ s))
@@ -51,7 +51,7 @@ module _ (names : KeysymNames) (table : List Definition) where
       joined : (s : List ℕ) (b : Behind s) → p ++ s ≡ (p ++ k ∷ []) ++ b.tail
       joined s b = ap (λ x. p ++ x) b.whole ∙ sym (append_assoc p (k ∷ []) b.tail)
 
-      -- a key behind which no sequence goes on
+      -- a key after which no sequence goes on
       pub nowhere : is_extended table (p ++ k ∷ []) ≡ false → Led p (key ∷ rest) None
       nowhere h s e = let b = behind s e in ap (is_extended table) (joined s b) ∙ elim (cases_Bool (is_extended table ((p ++ k ∷ []) ++ b.tail))) [
         | inl f ↦ absurd (let clash = sym (extended_before table (p ++ k ∷ []) b.tail f) ∙ h in cc)
@@ -68,13 +68,13 @@ module _ (names : KeysymNames) (table : List Definition) where
         h.3 ∙ ap (λ x. x ++ h.0) (sym here) ∙ append_assoc p (k ∷ []) h.0,
       )
 
-  -- no keys lead on
+  -- without keys, the node stays the same
   pub no_keys : (q : List ℕ) (node : NodeId) → node.0 < length (nodes table) → nodes_words.node table node.0 ≡ q → Led q [] (Some node)
   no_keys q node below is = ([], refl, below, is ∙ sym (append-nil q))
 
 -- ---- the longer sequence
 
--- nothing where no sequence goes on
+-- nothing if no sequence goes on
 pub none_longer : (w : Written) → is_table w.table ≡ true → (s : List ℕ) → is_extended w.table s ≡ false → None ≡ longer_in w s
 none_longer w sound s h = go (first_longer w.table s) refl
   where
@@ -86,7 +86,7 @@ none_longer w sound s h = go (first_longer w.table s) refl
         (λ d f. ap (is_proper_prefix s) (sym (same_is t d.sequence f)) ∙ it.passes) w.table it.there in
         absurd (let clash = sym longer ∙ h in cc)
 
--- by what the names say
+-- by the sequence of the names
 pub longer_by_name : (w : Written) (o : Option (List ℕ)) (found : Option WrittenSequence) → (o ≡ None → found ≡ None) → ((s : List ℕ) → o ≡ Some s → found ≡ longer_in w s)
     → found ≡ option_and_then (longer_in w) o
 longer_by_name w None found none some = none refl

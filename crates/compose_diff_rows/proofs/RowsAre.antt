@@ -1,4 +1,4 @@
--- The rows that are told and the kept ones are the rows of what is compared.
+-- The reported rows and the kept ones are the rows of what is compared.
 use Rattle.std.proofs.Common.{◌≡◌, List, ◌++◌, Bool, map, subst, ◌∙◌, ap₂}
 use Rattle.std.specs.Prelude.{Result, Ok, Err}
 use Rattle.std.specs.List.Sorted.{IsPermutation}
@@ -17,7 +17,7 @@ use Rattle.compose_diff_rows.proofs.RowsSoFar.{old_rows_are, new_rows_are}
 
 module _ (asked : Asked) (e : Explainable) where
   module _ (old new : Written) (old_is : old ≡ old_written asked e) (new_is : new ≡ new_written asked e) (whole : Bool) (whole_is : whole ≡ tells_kept asked.form) where
-    -- rows made of what is told of the sequences, in order, and those that are kept
+    -- rows made of the reported sequences, in order, and those that are kept
     pub rows_are : AreLines e.move.names old.table old.lines → (of_old of_new : List Told)
         → of_old ≡ map (told_of e.move.names e.fresh old new old) (old_told whole e.move.names e.fresh old.table new.table)
         → of_new ≡ map (told_of e.move.names e.fresh old new new) (new_told old.table new.table) → (rows told kept : List DiffRow) → rows ≡ told ++ kept
@@ -39,7 +39,7 @@ module _ (asked : Asked) (e : Explainable) where
           others = others;
         })))
 
-  -- what is told of these rows is told of what is compared
+  -- what is reported of these rows is reported of what is compared
   pub rows_told : (lines : List Line) (rows : List DiffRow) → AreTables e → AreRows asked e rows → (r : Result Answer DiffFault) → TellsRows asked.form asked.lost_alone (overlaps_in asked e) lines rows r → TellsDiff asked e lines r
   rows_told lines rows tables are (Ok answer) h = (rows, tables, are, h)
   rows_told lines rows tables are (Err (Input refusal)) h = h

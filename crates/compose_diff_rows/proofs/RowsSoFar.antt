@@ -34,11 +34,11 @@ module _ (w : Written) (i : ℕ) (below : i < length (leaves w.table)) where
       ap (λ b. cond b (option_map (entry_at w leaf) (line_of w leaf)) None) (leaf_there w.table i below)
       ∙ ap (λ n. option_map (entry_at w leaf) (get_or w.lines n None)) (number_of_leaf w.table i below)
 
--- nothing where it has no such sequence
+-- nothing if it has no such sequence
 pub no_entry : (w : Written) (s : List ℕ) → is_sequence w.table s ≡ false → None ≡ entry_of w s
 no_entry w s h = sym (ap (λ b. cond b (option_map (entry_at w s) (line_of w s)) None) h)
 
--- what the new table alone has doesn't wait
+-- a sequence that only the new table has doesn't wait
 pub never_waiting : (names : KeysymNames) (fresh : List ℕ) (old new : List Definition) (s : List ℕ) → is_sequence old s ≡ false → is_same (change names fresh old new s) Waiting ≡ false
 never_waiting names fresh old new s h =
     ap (λ b. is_same (cond b (cond (agree_along names old new [] [] s) Kept (cond (is_sequence new s) Changed (cond (is_extended new s) Waiting Removed))) (cond (is_new_start names fresh old new s) NewStart Added)) Waiting) h
@@ -48,14 +48,14 @@ never_waiting names fresh old new s h =
     by true = refl
     by false = refl
 
--- nothing for what doesn't wait
+-- nothing for a sequence that doesn't wait
 pub not_waiting : {X : Type 0} (c : Change) (found : Option X) → is_same c Waiting ≡ false → (let none : Option X = None in none) ≡ cond (is_same c Waiting) found None
 not_waiting {X = X} c found h = sym (ap (λ b. cond {A = Option X} b found None) h)
 
--- ---- the rows of what is told
+-- ---- the rows of the reported sequences
 
 module _ (names : KeysymNames) (fresh : List ℕ) (old new : Written) where
-  -- of a sequence of the old table whose keys its line writes
+  -- for a sequence of the old table whose line writes its keys
   old_row_is : (s : List ℕ) → is_sequence old.table s ≡ true → sequence_named names (keys_of old s) ≡ Some s
       → old_row names new (told_of names fresh old new old s) ≡ row_of names fresh old new s
   old_row_is s h named = λ i. record {
@@ -67,7 +67,7 @@ module _ (names : KeysymNames) (fresh : List ℕ) (old new : Written) where
     typing = now_of new (change names fresh old.table new.table s) (entry_of old s);
   }
 
-  -- of one that the new table alone has
+  -- for a sequence that only the new table has
   new_row_is : (s : List ℕ) → is_sequence old.table s ≡ false → new_row (told_of names fresh old new new s) ≡ row_of names fresh old new s
   new_row_is s h = λ i. record {
     change = change names fresh old.table new.table s;
@@ -78,7 +78,7 @@ module _ (names : KeysymNames) (fresh : List ℕ) (old new : Written) where
     typing = (ap (now_of new (change names fresh old.table new.table s)) (no_entry old s h)) i;
   }
 
-  -- of all that are told of the old table
+  -- for all reported sequences of the old table
   module _ (test : List ℕ → Bool) where
     abbrev made : List ℕ → ToldRow
     made s = old_row names new (told_of names fresh old new old s)
@@ -93,14 +93,14 @@ module _ (names : KeysymNames) (fresh : List ℕ) (old new : Written) where
         go true e others = ap₂ (λ y ys. y ∷ ys) e others
         go false e others = others
 
-    -- where each line writes the keys of its sequence
+    -- if each line writes the keys of its sequence
     pub old_rows_are : AreLines names old.table old.lines
         → map (old_row names new) (map (told_of names fresh old new old) (filter test (leaves old.table))) ≡ map (row_of names fresh old new) (filter test (leaves old.table))
     old_rows_are are =
         map-map (old_row names new) (told_of names fresh old new old) (filter test (leaves old.table))
         ∙ along (leaves old.table) (λ i h. (leaf_there old.table i h, ap (sequence_named names) (keys_of_leaf old i h) ∙ keys_there old.table names old.lines are i h))
 
-  -- and of all that the new table alone has
+  -- and for all sequences that only the new table has
   pub new_rows_are : map new_row (map (told_of names fresh old new new) (new_told old.table new.table)) ≡ map (row_of names fresh old new) (new_told old.table new.table)
   new_rows_are = map-map new_row (told_of names fresh old new new) (new_told old.table new.table) ∙ go (leaves new.table)
     where
@@ -124,7 +124,7 @@ module _ (w : Written) (i : ℕ) (below : i < length (leaves w.table)) where
   pub entry_without : None ≡ get_or w.lines i None → None ≡ entry_of w (get_or (leaves w.table) i [])
   entry_without h = ap (option_map (entry_at w (get_or (leaves w.table) i []))) h ∙ sym (entry_of_leaf w i below)
 
-  -- with one, what stands there
+  -- with one, the entry at its place
   pub entry_with : (line : WrittenLine) (told : ToldEntry) → Some line ≡ get_or w.lines i None → told ≡ entry_at w (get_or (leaves w.table) i []) line
       → Some told ≡ entry_of w (get_or (leaves w.table) i [])
   entry_with line told h e = ap Some e ∙ ap (option_map (entry_at w (get_or (leaves w.table) i []))) h ∙ sym (entry_of_leaf w i below)
@@ -151,7 +151,7 @@ module _ {Y : Type 0} (test : List ℕ → Bool) (row_for : List ℕ → Y) (xs 
   with_next = ap (filter test) (take_more xs i [] h) ∙ filter-append test (take i xs) (get_or xs i [] ∷ [])
 
   module _ {R : Type 0} (told : R → Y) (before : List Y) (rows : List R) (so_far : map told rows ≡ before ++ map row_for (filter test (take i xs))) where
-    -- a leaf that is told
+    -- a leaf that is reported
     pub told_added : (row : R) → test (get_or xs i []) ≡ true → told row ≡ row_for (get_or xs i [])
         → map told (rows ++ row ∷ []) ≡ before ++ map row_for (filter test (take (i + 1) xs))
     told_added row told_here is =
@@ -160,20 +160,20 @@ module _ {Y : Type 0} (test : List ℕ → Bool) (row_for : List ℕ → Y) (xs 
         ∙ ap (λ b. before ++ map row_for (filter test (take i xs) ++ cond b (get_or xs i [] ∷ []) [])) (sym told_here)
         ∙ ap (λ ys. before ++ map row_for ys) (sym with_next)
 
-    -- one that is not
+    -- a leaf that is not
     pub not_told : test (get_or xs i []) ≡ false → map told rows ≡ before ++ map row_for (filter test (take (i + 1) xs))
     not_told absent =
         so_far ∙ ap (λ ys. before ++ map row_for ys) (sym (append-nil (filter test (take i xs))))
         ∙ ap (λ b. before ++ map row_for (filter test (take i xs) ++ cond b (get_or xs i [] ∷ []) [])) (sym absent)
         ∙ ap (λ ys. before ++ map row_for ys) (sym with_next)
 
--- what happens to a leaf of the new table, by the list of what happens to all
+-- what happens to a leaf of the new table, by the list of the changes of all leaves
 module _ (names : KeysymNames) (fresh : List ℕ) (old new : List Definition) (changes : List (Option Change)) (all : changes ≡ new_changes names fresh old new) where
   module _ (i : ℕ) (h : i < length (leaves new)) (d : Option Change) where
     slot_is : get_or changes i d ≡ cond (is_sequence old (get_or (leaves new) i [])) None (Some (change names fresh old new (get_or (leaves new) i [])))
     slot_is = ap (λ cs. get_or cs i d) all ∙ get_or-map (λ s. cond (is_sequence old s) None (Some (change names fresh old new s))) (leaves new) i [] d h
 
-    -- where something is told of it, only the new table has it
+    -- if it has a change, only the new table has it
     pub told_change : (c : Change) → get_or changes i d ≡ Some c → (is_sequence old (get_or (leaves new) i []) ≡ false) × (c ≡ change names fresh old new (get_or (leaves new) i []))
     told_change c e = go (is_sequence old (get_or (leaves new) i [])) (sym e ∙ slot_is)
       where
@@ -181,7 +181,7 @@ module _ (names : KeysymNames) (fresh : List ℕ) (old new : List Definition) (c
         go true f = cc
         go false f = (refl, same_Some c (change names fresh old new (get_or (leaves new) i [])) f)
 
-    -- where nothing is, the old table has it too
+    -- if it has none, the old table has it too
     pub no_change : get_or changes i d ≡ None → is_sequence old (get_or (leaves new) i []) ≡ true
     no_change e = go (is_sequence old (get_or (leaves new) i [])) (sym e ∙ slot_is)
       where
@@ -195,7 +195,7 @@ pub old_change_at : (names : KeysymNames) (fresh : List ℕ) (old new : List Def
     → get_or changes i d ≡ change names fresh old new (get_or (leaves old) i [])
 old_change_at names fresh old new changes all i d h = ap (λ cs. get_or cs i d) all ∙ get_or-map (λ s. change names fresh old new s) (leaves old) i [] d h
 
--- what a table has for the sequence of names, or nothing where these have none
+-- what a table has for the sequence of names, or nothing if these have none
 pub entry_by_name : (w : Written) (o : Option (List ℕ)) (found : Option ToldEntry) → (o ≡ None → found ≡ None) → ((s : List ℕ) → o ≡ Some s → found ≡ entry_of w s)
     → found ≡ option_and_then (entry_of w) o
 entry_by_name w None found none some = none refl

@@ -22,7 +22,7 @@ module _ (w : Written) (text : List ℕ) (found : List LeafId) (are : map (looku
   first_of : (xs : List LeafId) → map (lookup.sequence_at w.table) xs ≡ shortest_first (giving w.table text) → slice_get (map (lookup.sequence_at w.table) xs) 0 ≡ first_typing w.table text
   first_of xs e = ap (λ (ss : List (List ℕ)). slice_get ss 0) e
 
-  -- none where no leaf is found
+  -- none if no leaf is found
   pub no_first : slice_get found 0 ≡ None → None ≡ option_and_then (sequence_in w) (first_typing w.table text)
   no_first h = go found are h
     where
@@ -30,7 +30,7 @@ module _ (w : Written) (text : List ℕ) (found : List LeafId) (are : map (looku
       go [] e none = ap (option_and_then (sequence_in w)) (first_of [] e)
       go (x ∷ xs) e none = cc
 
-  -- else that of the first leaf
+  -- otherwise that of the first leaf
   pub first_is : (leaf : LeafId) → slice_get found 0 ≡ Some leaf → sequence_in w (get_or (leaves w.table) leaf.0 []) ≡ option_and_then (sequence_in w) (first_typing w.table text)
   first_is leaf h = go found are h
     where

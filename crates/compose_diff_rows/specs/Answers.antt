@@ -1,4 +1,4 @@
--- What `diff` answers on two tables in their sources and on the changes that are meant (this project's profile).
+-- What `diff` answers on the sources of two tables and on the intended changes (this project's profile).
 use Rattle.std.specs.Prelude.{◌≡◌, ℕ, Bool, true, false, not, List, [], ◌∷◌, ◌++◌, map, Option, Result, Ok, Err, string_bytes, IsTrue}
 use Rattle.std.specs.Option.{option_map_or}
 use Rattle.std.specs.Ordering.{nat_cmp}
@@ -38,7 +38,8 @@ use Rattle.compose_diff_rows.specs.declared.asking.DiffFault.TheVariants.{Input,
 
 -- ---- what is compared
 
--- what `diff` is asked: a migration, the paths of the sources of both tables, the list of the changes that are meant, and how the others are told
+-- the input of `diff`: a migration, the paths of the sources of both tables, the list of intended changes, and the form
+-- in which the other rows are printed
 pub record Asked : Type 0 where
   pub migration : GivenMigration
   pub old_paths : List (List ℕ)
@@ -57,7 +58,8 @@ asked input = record {
   form = input.form;
 }
 
--- the tables, and the fresh keysyms in rising order, each once; or the first condition that these do not meet for the old table
+-- the tables, and the fresh keysyms in rising order, each once; or the first condition that these do not meet for the
+-- old table
 abbrev pub compared : Parts → Result Explainable NoAnswer
 compared move =
     let fresh = rising nat_cmp move.keys in
@@ -74,7 +76,7 @@ AreTables e = IsTrue (is_table e.move.old) × IsTrue (is_table e.move.new)
 
 -- ---- the rows
 
--- the name of the first source, which is the root; without sources an empty one
+-- the name of the first source, which is the root; empty without sources
 abbrev pub root_of : List Source → List ℕ
 root_of [] = []
 root_of (s ∷ sources) = s.name
@@ -83,7 +85,7 @@ root_of (s ∷ sources) = s.name
 abbrev pub lines_in : KeysymNames → List Source → List Definition → List (Option WrittenLine)
 lines_in names sources table = map (counting_line names (read_lines sources (root_of sources))) (leaves table)
 
--- a table as its sources write it, of which the first is its root
+-- a table as its sources write it; the first source is its root
 abbrev pub written_in : KeysymNames → List Source → List (List ℕ) → List Definition → Written
 written_in names sources paths table = record {
   table = table;
@@ -98,7 +100,8 @@ old_written asked e = written_in e.move.names asked.migration.old.sources asked.
 abbrev pub new_written : Asked → Explainable → Written
 new_written asked e = written_in e.move.names asked.migration.new.sources asked.new_paths e.move.new
 
--- rows: those that are told, each once, in the order in which they are told; and then the kept ones, where these are not told
+-- the rows: those that are reported, each once, in the order in which they are printed; and then the kept ones, if
+-- these are not reported
 pub record AreSorted (whole : Bool) (names : KeysymNames) (fresh : List ℕ) (old new : Written) (rows : List DiffRow) : Type 0 where
   pub told : List DiffRow
   pub kept : List DiffRow
@@ -107,7 +110,7 @@ pub record AreSorted (whole : Bool) (names : KeysymNames) (fresh : List ℕ) (ol
   pub sorted : AreInOrder told
   pub others : map told_row kept ≡ kept_rows whole names fresh old new
 
--- whether kept sequences are told too
+-- whether kept sequences are reported too
 abbrev pub tells_kept : Form → Bool
 tells_kept Json = true
 tells_kept _ = false
@@ -118,14 +121,14 @@ AreRows asked e rows = AreSorted (tells_kept asked.form) e.move.names e.fresh (o
 
 -- ---- the answer
 
--- how many sequences are defined in the sources of either table with which longer ones begin
+-- the number of sequences, in the sources of each table, that are a prefix of another one
 abbrev pub overlaps_in : Asked → Explainable → Overlaps
 overlaps_in asked e = record {
   old = overlap_count e.move.names asked.migration.old.sources (root_of asked.migration.old.sources);
   new = overlap_count e.move.names asked.migration.new.sources (root_of asked.migration.new.sources);
 }
 
--- what is printed of all rows, some of which are left: of these all, or those of lost texts alone
+-- what is printed of the rows that are left of all rows: of these all, or those of lost texts alone
 abbrev pub form_text : Form → Bool → Overlaps → List DiffRow → List DiffRow → List ℕ
 form_text Folded lost_alone overlaps rows left = answer_text (record { folds = true; lost_alone = lost_alone }) overlaps rows left
 form_text Lines lost_alone overlaps rows left = answer_text (record { folds = false; lost_alone = lost_alone }) overlaps rows left
@@ -133,14 +136,14 @@ form_text Json lost_alone overlaps rows left = json_answer lost_alone overlaps r
 form_text AcceptList lost_alone overlaps rows left = accept_lines (shown_rows lost_alone left)
 form_text (Page markup folds) lost_alone overlaps rows left = page_text markup (record { folds = folds; lost_alone = lost_alone }) overlaps rows left
 
--- yes where nobody meets any of the rows that are left
+-- yes if each of the rows that are left is harmless
 abbrev pub IsTold : Form → Bool → Overlaps → List DiffRow → List DiffRow → Answer → Type 0
 IsTold form lost_alone overlaps rows left (Yes text) = IsTrue (loses_nothing left) × (string_bytes text ≡ form_text form lost_alone overlaps rows left)
 IsTold form lost_alone overlaps rows left (No text) = IsTrue (not (loses_nothing left)) × (string_bytes text ≡ form_text form lost_alone overlaps rows left)
 IsTold form lost_alone overlaps rows left (Invalid fault) = ⊥
 IsTold form lost_alone overlaps rows left (FreshNotAllowed keysym) = ⊥
 
--- the answer on what is compared: of its rows those are left that no line accepts
+-- the answer on what is compared: the rows that are left are those that no line accepts
 pub record IsDiff (asked : Asked) (e : Explainable) (answer : Answer) : Type 0 where
   pub lines : List Line
   pub rows : List DiffRow
@@ -151,7 +154,7 @@ pub record IsDiff (asked : Asked) (e : Explainable) (answer : Answer) : Type 0 w
   pub leaves : left_of lines rows ≡ Ok left
   pub told : IsTold asked.form asked.lost_alone (overlaps_in asked e) rows left answer
 
--- a line of the list of meant changes tells none of the rows
+-- a line of the list of intended changes matches none of the rows
 pub record IsStale (asked : Asked) (e : Explainable) (line : ℕ) : Type 0 where
   pub lines : List Line
   pub rows : List DiffRow
@@ -159,7 +162,8 @@ pub record IsStale (asked : Asked) (e : Explainable) (line : ℕ) : Type 0 where
   pub are : AreRows asked e rows
   pub stale : left_of lines rows ≡ Err (Stale line)
 
--- the answer, or what is refused first: the migration, its fresh keysyms, a line of the list, a line that tells no row
+-- the answer, or what is refused first: the migration, its fresh keysyms, a line of the list, a line that matches no
+-- row
 abbrev pub AnswersDiff : Asked → Result Answer DiffFault → Type 0
 AnswersDiff asked (Ok answer) = (e : Explainable) × (compared_parts asked.migration ≡ Ok e) × IsDiff asked e answer
 AnswersDiff asked (Err (Input refusal)) = IsRefused refusal (compared_parts asked.migration)

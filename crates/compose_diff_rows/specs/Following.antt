@@ -1,4 +1,4 @@
--- What the answer of `diff` says of people who type (this project's profile).
+-- What the answer of `diff` means for people who type (this project's profile).
 use Rattle.std.specs.Prelude.{ℕ, Bool, ◌||◌, List, [], ◌++◌, Option, Some, None, codes, IsTrue}
 use Rattle.std.specs.List.{list_any}
 use Rattle.compose_lex.specs.Escape.{quote}
@@ -39,6 +39,6 @@ is_meant asked e lines s =
     is_harmless (change e.move.names e.fresh e.move.old e.move.new s)
     || is_named lines (row_of e.move.names e.fresh (old_written asked e) (new_written asked e) s)
 
--- and so of each sequence of either table
+-- and so for each sequence of either table
 abbrev pub AreMeant : Asked → Explainable → List Line → Type 0
 AreMeant asked e lines = (s : List ℕ) → IsTrue (is_sequence e.move.old s || is_sequence e.move.new s) → IsTrue (is_meant asked e lines s)

@@ -1,4 +1,4 @@
--- What is told of two tables: a row for each sequence of either.
+-- The rows of two tables: one for each sequence of either table.
 use Rattle.std.specs.Prelude.{ℕ, Bool, true, not, if◌then◌else◌, List, [], ◌++◌, map, filter, get_or, slice_get, Option, Some, None, unwrap_or}
 use Rattle.std.specs.Option.{option_map, option_map_or, option_and_then}
 use Rattle.keysym_core.specs.Names.{KeysymNames}
@@ -22,7 +22,7 @@ use Rattle.compose_diff_rows.specs.declared.written.WrittenTable.{WrittenTable}
 
 -- ---- rows as values
 
--- what a table has for a sequence: its text, and where the definition is that counts
+-- what a table has for a sequence: its text, and the place of the definition that counts
 pub record ToldEntry : Type 0 where
   pub text : List ℕ
   pub source : ℕ
@@ -35,7 +35,8 @@ pub record WrittenSequence : Type 0 where
   pub path : List ℕ
   pub line : ℕ
 
--- what happens to a sequence, the names of its keys, what each table has for it, the longer one for which people wait, and how its text is typed now
+-- what happens to a sequence, the names of its keys, what each table has for it, the longer one for which it waits, and
+-- how its text is typed now
 pub record ToldRow : Type 0 where
   pub change : Change
   pub keys : List (List ℕ)
@@ -55,7 +56,7 @@ told_row row = record { change = row.change; keys = map (λ key. key.now) row.ke
 
 -- ---- a table as it is written
 
--- its definitions, for each of its sequences in order the line that counts, and the paths of its sources
+-- its definitions, the line that counts for each of its sequences in order, and the paths of its sources
 pub record Written : Type 0 where
   pub table : List Definition
   pub lines : List (Option WrittenLine)
@@ -68,7 +69,7 @@ written view w = record { table = view w.table.now; lines = w.lines.now; paths =
 abbrev pub line_of : Written → List ℕ → Option WrittenLine
 line_of w s = get_or w.lines (leaf_number w.table s) None
 
--- the names of the keys of a sequence, as that line writes them
+-- the names of the keys of a sequence, as they are written in that line
 abbrev pub keys_of : Written → List ℕ → List (List ℕ)
 keys_of w s = option_map_or (λ line. line.keys) (line_of w s) []
 
@@ -79,7 +80,7 @@ entry_at w s line = record { text = unwrap_or (text_at w.table s) []; source = l
 abbrev pub entry_of : Written → List ℕ → Option ToldEntry
 entry_of w s = if is_sequence w.table s then option_map (entry_at w s) (line_of w s) else None
 
--- a sequence of it as the line that counts writes it, if there is one
+-- a sequence of the table as it is written in the line that counts, if there is one
 abbrev pub sequence_at : Written → WrittenLine → WrittenSequence
 sequence_at w line = record { keys = line.keys; path = get_or w.paths line.place.source []; line = line.place.line }
 
@@ -92,24 +93,24 @@ sequence_in w s = option_map (sequence_at w) (line_of w s)
 abbrev pub first_typing : List Definition → List ℕ → Option (List ℕ)
 first_typing table text = slice_get (shortest_first (giving table text)) 0
 
--- where people lose a sequence for which the old table has this, how its text is typed with the new one
+-- if people lose a sequence for which the old table has this entry, how its text is typed with the new one
 abbrev pub now_of : Written → Change → Option ToldEntry → Option WrittenSequence
 now_of new c None = None
 now_of new c (Some entry) = if is_loss c then option_and_then (sequence_in new) (first_typing new.table entry.text) else None
 
--- ---- for what people wait
+-- ---- the sequence for which a waiting one waits
 
 -- the first of the shortest sequences that begin with s and go on, as it is written
 abbrev pub longer_in : Written → List ℕ → Option WrittenSequence
 longer_in new s = option_and_then (sequence_in new) (first_longer new.table s)
 
--- of a sequence that is waiting, the first of the shortest longer ones
+-- for a waiting sequence, the first of the shortest longer ones
 abbrev pub longer_of : Written → Change → List ℕ → Option WrittenSequence
 longer_of new c s = if is_same c Waiting then longer_in new s else None
 
 -- ---- the rows
 
--- the keys are written as in the old table, or in the new one where that alone has the sequence
+-- the keys are written as in the old table, or as in the new one if only that has the sequence
 abbrev pub row_of : KeysymNames → List ℕ → Written → Written → List ℕ → ToldRow
 row_of names fresh old new s = record {
   change = change names fresh old.table new.table s;
@@ -120,22 +121,22 @@ row_of names fresh old new s = record {
   typing = now_of new (change names fresh old.table new.table s) (entry_of old s);
 }
 
--- ---- which are told
+-- ---- the sequences that get a row
 
--- whether a row is told of a sequence of the old table: of a kept one only where all rows are asked for
+-- whether a sequence of the old table to which this happens gets a row; a kept one only if all rows are wanted
 abbrev pub is_told : Bool → Change → Bool
 is_told whole Kept = whole
 is_told whole _ = true
 
--- the same of a sequence, by what happens to it
+-- the same for a sequence, by what happens to it
 abbrev pub is_told_of : Bool → KeysymNames → List ℕ → List Definition → List Definition → List ℕ → Bool
 is_told_of whole names fresh old new s = is_told whole (change names fresh old new s)
 
--- the sequences of the old table of which a row is told, in its order
+-- the sequences of the old table that get a row, in its order
 abbrev pub old_told : Bool → KeysymNames → List ℕ → List Definition → List Definition → List (List ℕ)
 old_told whole names fresh old new = filter (is_told_of whole names fresh old new) (leaves old)
 
--- the sequences that the new table alone has, in its order
+-- the sequences that only the new table has, in its order
 abbrev pub new_told : List Definition → List Definition → List (List ℕ)
 new_told old new = filter (λ s. not (is_sequence old s)) (leaves new)
 
@@ -143,7 +144,7 @@ new_told old new = filter (λ s. not (is_sequence old s)) (leaves new)
 abbrev pub told_rows : Bool → KeysymNames → List ℕ → Written → Written → List ToldRow
 told_rows whole names fresh old new = map (row_of names fresh old new) (old_told whole names fresh old.table new.table) ++ map (row_of names fresh old new) (new_told old.table new.table)
 
--- of a kept sequence that is not told only what the old table has for it
+-- for a kept sequence that is not reported, only what the old table has for it
 abbrev pub kept_row : Written → List ℕ → ToldRow
 kept_row old s = record { change = Kept; keys = []; old = entry_of old s; new = None; longer = None; typing = None }
 
@@ -151,9 +152,10 @@ kept_row old s = record { change = Kept; keys = []; old = entry_of old s; new = 
 abbrev pub kept_rows : Bool → KeysymNames → List ℕ → Written → Written → List ToldRow
 kept_rows whole names fresh old new = map (kept_row old) (filter (λ s. not (is_told_of whole names fresh old.table new.table s)) (leaves old.table))
 
--- ---- in words for private functions
+-- ---- definitions for private functions
 
--- a sequence of one of the tables: what happens to it, the names of its keys, what the table has for it, the longer one, and how its text is typed now
+-- a sequence of one of the tables: what happens to it, the names of its keys, what the table has for it, the longer
+-- one, and how its text is typed now
 pub record Told : Type 0 where
   pub change : Change
   pub keys : List (List ℕ)
@@ -164,7 +166,7 @@ pub record Told : Type 0 where
 abbrev pub named_sequence : NamedSequence → WrittenSequence
 named_sequence s = record { keys = map (λ key. key.now) s.keys.items; path = s.path.now; line = s.line }
 
--- such a sequence as the code keeps it
+-- such a sequence as the code represents it
 abbrev pub told_sequence : ToldSequence → Told
 told_sequence told = record { change = told.change; keys = map (λ key. key.now) told.keys.items; entry = option_map told_entry told.entry; longer = option_map named_sequence told.longer; typing = option_map named_sequence told.typing }
 
@@ -182,10 +184,10 @@ told_of names fresh old new w s = record {
   typing = now_of new (change names fresh old.table new.table s) (entry_of old s);
 }
 
--- the row of a sequence of the old table: what the new one has for it is found by the names of its keys
+-- the row of a sequence of the old table; what the new table has for it is found by the names of its keys
 abbrev pub old_row : KeysymNames → Written → Told → ToldRow
 old_row names new told = record { change = told.change; keys = told.keys; old = told.entry; new = option_and_then (entry_of new) (sequence_named names told.keys); longer = told.longer; typing = told.typing }
 
--- the row of a sequence that the new table alone has
+-- the row of a sequence that only the new table has
 abbrev pub new_row : Told → ToldRow
 new_row told = record { change = told.change; keys = told.keys; old = None; new = told.entry; longer = None; typing = None }

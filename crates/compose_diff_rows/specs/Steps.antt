@@ -1,4 +1,4 @@
--- What the steps of `diff` give, beside memory that is refused.
+-- What the steps of `diff` return, if memory doesn't run out.
 use Rattle.std.specs.Prelude.{◌≡◌, ℕ, Bool, List, Result, Ok, Err, IsTrue}
 use Rattle.std.specs.declared.vec.Vec.{Vec}
 use Rattle.std.specs.declared.alloc.Global.{Global}
@@ -23,17 +23,17 @@ use Rattle.compose_diff_rows.specs.declared.asking.DiffInput.{DiffInput}
 use Rattle.compose_diff_rows.specs.declared.asking.DiffFault.{DiffFault}
 use Rattle.compose_diff_rows.specs.declared.asking.DiffFault.TheVariants.{Input, Accept}
 
--- a fault of the list of meant changes as one of `diff`; out of memory is the whole's own
+-- a fault of the list of intended changes as one of `diff`; running out of memory is a fault of its own
 abbrev pub accept_raised : AcceptFault → DiffFault
 accept_raised (Stale n) = Accept (Stale n)
 accept_raised (BadLine n) = Accept (BadLine n)
 accept_raised NoMemory = Input refusals.NoMemory
 
--- what is read of a migration, seen as values
+-- what is read of a migration, as values
 abbrev pub placed_parts : {T : Type 0} → (T → List Definition) → PlacedMigration T → Parts
 placed_parts view m = record { names = m.names; keys = m.keys.items; old = view m.old.table; new = view m.new.table }
 
--- the migration is the one that the input says, with the lines that count in both tables, and how many overlaps these have
+-- the migration is that of the input, with the lines that count in both tables, and the number of overlaps of each
 pub record IsPlaced {T : Type 0} (view : T → List Definition) (input : DiffInput) (m : PlacedMigration T) : Type 0 where
   pub said : Parts
   pub read : migration_of (given_of input.tables) ≡ Ok said
@@ -43,13 +43,13 @@ pub record IsPlaced {T : Type 0} (view : T → List Definition) (input : DiffInp
   pub old_overlaps : m.old.overlaps ≡ overlap_count m.names input.tables.old.sources.now (root_of input.tables.old.sources.now)
   pub new_overlaps : m.new.overlaps ≡ overlap_count m.names input.tables.new.sources.now (root_of input.tables.new.sources.now)
 
--- the fresh keysyms of what is compared, which rise; or the condition that they do not meet
+-- the fresh keysyms of what is compared, in rising order; or the condition that they do not meet
 abbrev pub GivesFresh : Parts → Result (Vec ℕ Global) DiffFault → Type 0
 GivesFresh move (Ok fresh) = (compared move ≡ Ok (record { move = move; fresh = fresh.items })) × IsTrue (keys_rise fresh.items)
 GivesFresh move (Err (Input refusal)) = IsRefused refusal (compared move)
 GivesFresh move (Err (Accept fault)) = ⊥
 
--- what is told of the rows that no line accepts, or the first line that tells none of the rows
+-- the answer on the rows that no line accepts, or the first line that matches none of the rows
 abbrev pub TellsRows : Form → Bool → Overlaps → List Line → List DiffRow → Result Answer DiffFault → Type 0
 TellsRows form lost_alone overlaps lines rows (Ok answer) = (left : List DiffRow) × (left_of lines rows ≡ Ok left) × IsTold form lost_alone overlaps rows left answer
 TellsRows form lost_alone overlaps lines rows (Err (Input refusal)) = refusal ≡ refusals.NoMemory
@@ -57,7 +57,7 @@ TellsRows form lost_alone overlaps lines rows (Err (Accept (Stale n))) = left_of
 TellsRows form lost_alone overlaps lines rows (Err (Accept (BadLine n))) = ⊥
 TellsRows form lost_alone overlaps lines rows (Err (Accept NoMemory)) = ⊥
 
--- the same of the rows of what is compared
+-- the same for the rows of what is compared
 abbrev pub TellsDiff : Asked → Explainable → List Line → Result Answer DiffFault → Type 0
 TellsDiff asked e lines (Ok answer) = (rows : List DiffRow) × AreTables e × AreRows asked e rows × TellsRows asked.form asked.lost_alone (overlaps_in asked e) lines rows (Ok answer)
 TellsDiff asked e lines (Err (Input refusal)) = refusal ≡ refusals.NoMemory

@@ -1,4 +1,4 @@
-//! What `diff` is asked, and why it has no answer.
+//! The input of `diff`, and why it has no answer.
 use compose_answer::Refusal;
 use compose_diff::AcceptFault;
 use compose_migration::MigrationInput;
@@ -6,45 +6,46 @@ use compose_page::Markup;
 use std::alloc::{AllocError, AllocFailed};
 use thiserror::Error;
 
-/// How the rows are told that are not accepted.
+/// The form in which the rows that are not accepted are printed.
 #[derive(Clone, Copy, Debug, PartialEq, Eq)]
 pub enum Form {
-    /// As lines, of which those that belong together are one, and a line of counts.
+    /// As lines, with one line for rows that belong together, and a line of counts.
     Folded,
-    /// As a line for each, and a line of counts.
+    /// As a line for each row, and a line of counts.
     Lines,
-    /// As a JSON object for each, the kept ones too.
+    /// As a JSON object for each row, also for those that are kept.
     Json,
     /// As the list that accepts them.
     AcceptList,
-    /// As a page that people read, some of whose parts may be folded.
+    /// As a page that people read, in this markup language; `folds` is whether some of its parts
+    /// are folded.
     Page { markup: Markup, folds: bool },
 }
 
-/// What `diff` is asked.
+/// The input of `diff`.
 #[derive(Clone, Copy)]
 pub struct DiffInput<'a, 'w> {
     /// The names, the key names of the fresh keysyms, and the sources of both tables.
     pub tables: MigrationInput<'a, 'w>,
-    /// The path of each source of the old table.
+    /// The path of each source of the old table, in the order of the sources.
     pub old_paths: &'a [&'a str],
-    /// The path of each source of the new table.
+    /// The path of each source of the new table, in the order of the sources.
     pub new_paths: &'a [&'a str],
-    /// The list of the changes that are meant.
+    /// The list of intended changes.
     pub accepted: &'a [u8],
-    /// Whether the rows whose text no sequence of the new table gives are printed alone.
+    /// Whether only the rows are printed whose text no sequence of the new table gives.
     pub lost_alone: bool,
-    /// How the others are told.
+    /// The form in which the other rows are printed.
     pub form: Form,
 }
 
 /// Why `diff` has no answer.
 #[derive(Debug, PartialEq, Eq, Drop, Error)]
 pub enum DiffFault {
-    /// A part that it is given is refused, or memory was refused.
+    /// A part of the input is refused, or memory ran out.
     #[error("{0}")]
     Input(Refusal),
-    /// The list of the changes that are meant is refused.
+    /// The list of intended changes is refused.
     #[error("refused: accept: {0}")]
     Accept(AcceptFault),
 }

@@ -1,6 +1,8 @@
-//! From two tables to the rows of `diff`: each sequence of either, what happens to it, its keys as they are written, and where its definitions stand.
+//! From two tables to the rows of `diff`: each sequence of either table, what happens to it, its
+//! keys as they are written, and the places of its definitions.
 //!
-//! [`diff_migration`] reads both tables from their sources and answers. Where kept sequences aren't told, their keys aren't read.
+//! [`diff_migration`] reads both tables from their sources and returns the answer. If kept
+//! sequences aren't printed, their keys aren't read.
 //!
 //! ```text
 //! old  1  <Multi_key> <e> : "é"     # changed: <Multi_key> <e> "é" "è" old:1 new:2
@@ -33,8 +35,9 @@ mod written;
 pub use asking::{DiffFault, DiffInput, Form};
 pub use telling::diff_migration;
 
-/// A row names the shortest sequence by which the new table types the old text, the first in order of several: no shorter sequence has
-/// that text, and none of its length comes before it. If none is named, no sequence has it.
+/// A row names the shortest sequence with which the new table types the old text, and of several
+/// the first in order: no shorter sequence has that text, and none of the same length comes before
+/// it. If a row names none, no sequence has the text.
 pub fn law_typing()
     ensures found { (table : List Definition) (text s : List ℕ) → IsTrue (is_table table)
         → first_typing table text ≡ Some s → IsFirstTyping table text s }
@@ -42,8 +45,9 @@ pub fn law_typing()
         → first_typing table text ≡ None → (t : List ℕ) → IsTrue (gives table text t) → ⊥ }
 {}
 
-/// A waiting row names the shortest sequence of the new table that begins with its own and goes on, the first in order of several: no
-/// shorter one does, and none of its length comes before it. If none is named, none does.
+/// A waiting row names the shortest sequence of the new table that begins with its own and goes on,
+/// and of several the first in order: no shorter one does, and none of the same length comes before
+/// it. If a row names none, no sequence does.
 pub fn law_longer()
     ensures found { (table : List Definition) (s longer : List ℕ) → IsTrue (is_table table)
         → first_longer table s ≡ Some longer → IsFirstLonger table s longer }
@@ -52,9 +56,10 @@ pub fn law_longer()
         → IsTrue (is_proper_prefix s t) → ⊥ }
 {}
 
-/// What [`diff_migration`] answers on two tables says how people type with them. Where no change is accepted, it is yes exactly if
-/// the new table follows the old one, with the fresh keysyms as they are given. Where some are, it is yes exactly if each sequence
-/// of either table whose change is harmful is named by one of the accepted lines.
+/// What the answer of [`diff_migration`] means for people who type. If no changes are accepted, it
+/// is yes exactly if the new table follows the old one, with the given fresh keysyms. If some are,
+/// it is yes exactly if each sequence of either table whose change is harmful is named by one of
+/// the accepted lines.
 pub fn law_answer()
     ensures follows { (asked : Asked) (e : Explainable) (answer : Answer)
         → compared_parts asked.migration ≡ Ok e → IsDiff asked e answer

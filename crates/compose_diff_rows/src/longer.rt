@@ -1,4 +1,4 @@
-//! The longer sequence for which people wait.
+//! The longer sequence for which a waiting one waits.
 ghost use Rattle.std.specs.Prelude.{◌≡◌, ◌<◌, ◌++◌, ℕ, List, Some, false, length, map, MatchOption};
 ghost use Rattle.std.specs.Option.{option_map, option_and_then};
 ghost use Rattle.compose_model.specs.Nodes as nodes_words;
@@ -15,8 +15,8 @@ use compose_lookup::first_longer;
 use compose_tree::{ComposeTable, NodeId, Target};
 use keysym_core::Names;
 
-/// The longer sequence of the new table for which people wait who type the keys of these names, where this happens to them. At the cost of
-/// `longer_named`.
+/// Returns the longer sequence of the new table for which the sequence with the keys of these names
+/// waits, if it does. Costs as much as `longer_named`.
 pub(crate) fn longer_now<'a, T: ComposeTable>(
     names: &Names,
     change: Change,
@@ -33,7 +33,8 @@ pub(crate) fn longer_now<'a, T: ComposeTable>(
     }
 }
 
-/// The first of the shortest sequences of a table that begin with the keys of these names and go on. O(keys × log edges of a node + edges from there on).
+/// Returns the first of the shortest sequences of a table that begin with the keys of these names
+/// and go on. O(keys × log edges of a node + edges from there on).
 fn longer_named<'a, T: ComposeTable>(
     names: &Names,
     keys: &[&str],
@@ -43,14 +44,15 @@ fn longer_named<'a, T: ComposeTable>(
         ≡ option_and_then (words.longer_in (words.written T.definitions new.now))
         (sequence_named names.now (map (λ key. key.now) keys.now)) }
 {
-    // The contract of this call says that the table has its root.
+    // This call's contract states that the table has its root.
     let _ = new.table.node_count();
     let node = node_named(names, new.table, NodeId::ROOT, keys)?;
     let leaf = first_longer(new.table, node)?;
     sequence_at(new, leaf)
 }
 
-/// The node to which the keys of these names lead from a node, if each name has a keysym, and a sequence goes on from there.
+/// Returns the node to which the keys of these names lead from a node, if each name has a keysym,
+/// and a sequence goes on from there.
 fn node_named<T: ComposeTable>(
     names: &Names,
     table: &T,

@@ -17,7 +17,7 @@ use compose_tree::{ComposeTable, TableFault};
 use keysym_core::{Keysym, Names};
 use std::alloc::Global;
 
-/// A move from an old table to a new one, both with the lines that count.
+/// A migration from an old table to a new one, both with the lines that count.
 #[derive(Drop)]
 pub(crate) struct PlacedMigration<'a, T: ComposeTable> {
     pub(crate) names: Names,
@@ -28,7 +28,8 @@ pub(crate) struct PlacedMigration<'a, T: ComposeTable> {
 }
 
 impl<'a, T: ComposeTable> PlacedMigration<'a, T> {
-    /// Reads the names, the keysyms of the key names, the old table and the new one, in this order; the first that is refused decides.
+    /// Reads the names, the keysyms of the key names, the old table and the new one, in this order.
+    /// The error is that of the first part that is refused.
     pub(crate) fn read(
         alloc: Global,
         input: &MigrationInput<'a, '_>,
@@ -68,7 +69,8 @@ impl<'a, T: ComposeTable> PlacedMigration<'a, T> {
     }
 }
 
-/// The table of a side, whose root is the first source, and the lines that count for its sequences.
+/// Returns the table of a side, whose root is the first source, and the lines that count for its
+/// sequences.
 fn read_side<'a, T: ComposeTable>(
     alloc: Global,
     names: &Names,
@@ -94,7 +96,8 @@ fn read_side<'a, T: ComposeTable>(
     }
 }
 
-/// The table whose root is the first source, and the lines that count for its sequences. Without a source, the root is missing.
+/// Returns the table whose root is the first source, and the lines that count for its sequences.
+/// Without sources, the root is missing.
 fn read_first<'a, T: ComposeTable>(
     alloc: Global,
     names: &Names,

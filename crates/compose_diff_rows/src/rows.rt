@@ -19,8 +19,9 @@ use compose_tree::{ComposeTable, LeafId};
 use keysym_core::Names;
 use std::alloc::{AllocError, Global};
 
-/// The rows of these sequences of the old table, and then of these ones that the new table alone has, each with the text and the place that
-/// either table has for it. O(keys of all sequences × log edges of a node).
+/// Returns the rows of these sequences of the old table, and then of these sequences that only the
+/// new table has, each with the text and the place that either table has for it. O(keys of all
+/// sequences × log edges of a node).
 pub(crate) fn told_rows<'a, T: ComposeTable>(
     alloc: Global,
     names: &Names,
@@ -42,7 +43,7 @@ pub(crate) fn told_rows<'a, T: ComposeTable>(
     Ok(rows)
 }
 
-/// The row of a sequence of the old table.
+/// Returns the row of a sequence of the old table.
 fn old_row<'a, T: ComposeTable>(
     names: &Names,
     told: &'a ToldSequence<'a>,
@@ -62,7 +63,7 @@ fn old_row<'a, T: ComposeTable>(
     }
 }
 
-/// A sequence of the new table, as a row has it.
+/// Returns a sequence of the new table as a row has it.
 fn as_new<'a>(sequence: &'a Option<NamedSequence<'a>>) -> Option<NewSequence<'a>>
     ensures { option_map new_sequence result ≡ option_map named_sequence sequence.now }
 {
@@ -72,7 +73,7 @@ fn as_new<'a>(sequence: &'a Option<NamedSequence<'a>>) -> Option<NewSequence<'a>
     }
 }
 
-/// What a table has for the sequence of the keys of these names, if it has it.
+/// Returns what a table has for the sequence with the keys of these names, if it has the sequence.
 fn entry_named<'a, T: ComposeTable>(
     names: &Names,
     keys: &[&str],
@@ -87,7 +88,7 @@ fn entry_named<'a, T: ComposeTable>(
     entry_at(written, leaf)
 }
 
-/// Adds the rows of sequences that the new table alone has.
+/// Adds the rows of sequences that only the new table has.
 fn add_new_rows<'a>(
     rows: &mut Vec<DiffRow<'a>>,
     told: &'a [ToldSequence<'a>],
@@ -109,8 +110,9 @@ fn add_new_rows<'a>(
     Ok(())
 }
 
-/// Adds the rows of the kept sequences of the old table, in its order, where these are not told: of each only what the old table has for it.
-/// `changes` says what happens to all its sequences. O(sequences).
+/// Adds the rows of the kept sequences of the old table, in its order, if these are not reported:
+/// each has only what the old table has for it. `changes` holds what happens to each sequence of
+/// the old table. O(sequences).
 pub(crate) fn add_kept_rows<'a, T: ComposeTable>(
     rows: &mut Vec<DiffRow<'a>>,
     whole: bool,
@@ -134,7 +136,7 @@ pub(crate) fn add_kept_rows<'a, T: ComposeTable>(
     Ok(())
 }
 
-/// The row of a kept sequence that is not told.
+/// Returns the row of a kept sequence that is not reported.
 fn kept_row<'a, T: ComposeTable>(leaf: LeafId, old: &WrittenTable<'a, T>) -> DiffRow<'a>
     requires { leaf.0 < length (leaves (T.definitions old.now.table.now)) }
     ensures { told_row result

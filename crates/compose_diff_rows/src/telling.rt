@@ -1,4 +1,4 @@
-//! The answer of `diff`: both tables are read, and what happens to their sequences is told.
+//! The answer of `diff`: both tables are read, and what happens to their sequences is printed.
 ghost use Rattle.std.specs.Prelude.{◌≡◌, ◌++◌, Bool, List, map, IfOk, IsTrue, string_bytes};
 ghost use Rattle.std.specs.List.Sorted.{IsPermutation};
 ghost use Rattle.compose_model.specs.Certificate.{keys_rise};
@@ -30,10 +30,16 @@ use compose_tree::ComposeTable;
 use keysym_core::{Keysym, Names};
 use std::alloc::{AllocError, Global};
 
-/// Tells what the new table does to each sequence of the old one, and what it adds; yes where nobody who types with the old table meets
-/// a change that is not accepted. The parts are read in the order names, key names, old table, new table, fresh keysyms, accepted
-/// changes; the first that is refused decides. At the cost of reading the tables with their places (`read_placed_table`), of comparing them
-/// (`compare`), and of the rows that are told: O(r log r + keys of these rows × log edges of a node).
+/// Returns what the new table does to each sequence of the old one, and what it adds. The answer is
+/// yes if each change that is not accepted is harmless to everybody who types with the old table.
+///
+/// Costs as much as reading the tables with their places (`read_placed_table`), comparing them
+/// (`compare`), and the printed rows: O(r log r + keys of these rows × log edges of a node) for r
+/// rows.
+///
+/// Errors: `Input` with the first part that is refused, in the order names, key names, old table,
+/// new table, fresh keysyms, or if memory runs out. `Accept` if a line of the list of intended
+/// changes is not in the required form, or matches none of the rows.
 pub fn diff_migration<T: ComposeTable>(
     alloc: Global,
     input: &DiffInput<'_, '_>,
@@ -46,7 +52,7 @@ pub fn diff_migration<T: ComposeTable>(
     }
 }
 
-/// The same, once both tables are read.
+/// Does the same, once both tables are read.
 fn diff_tables<T: ComposeTable>(
     alloc: Global,
     input: &DiffInput<'_, '_>,
@@ -60,7 +66,8 @@ fn diff_tables<T: ComposeTable>(
     answer_tables(alloc, input, migration, &fresh, &accepted)
 }
 
-/// The fresh keysyms of a migration in rising order, each once, if the old table has none of them.
+/// Returns the fresh keysyms of a migration in rising order, each once, if the old table has none
+/// of them.
 fn fresh_keysyms<T: ComposeTable>(
     alloc: Global,
     migration: &PlacedMigration<T>,
@@ -76,7 +83,7 @@ fn fresh_keysyms<T: ComposeTable>(
     }
 }
 
-/// Tells what happens to the sequences of two tables that were read.
+/// Returns the answer on two tables that were read.
 fn answer_tables<T: ComposeTable>(
     alloc: Global,
     input: &DiffInput<'_, '_>,
@@ -101,7 +108,7 @@ fn answer_tables<T: ComposeTable>(
         lines: &migration.new.lines,
         paths: input.new_paths,
     };
-    // The contracts of these calls say that both are tables.
+    // The contracts of these calls state that both are tables.
     let _ = old.table.node_count();
     let _ = new.table.node_count();
     let whole = tells_kept(input.form);
@@ -133,7 +140,7 @@ fn answer_tables<T: ComposeTable>(
     )
 }
 
-/// Whether kept sequences are told too.
+/// Returns whether kept sequences are reported too.
 fn tells_kept(form: Form) -> bool
     ensures { result ≡ answers.tells_kept form }
 {
@@ -143,7 +150,8 @@ fn tells_kept(form: Form) -> bool
     }
 }
 
-/// The rows of these sequences of the old table, and of these ones that the new table alone has, in the order in which they are told.
+/// Returns the rows of these sequences of the old table, and of these sequences that only the new
+/// table has, in the order in which they are printed.
 fn sorted_rows<'a, T: ComposeTable>(
     alloc: Global,
     names: &Names,
@@ -164,7 +172,7 @@ fn sorted_rows<'a, T: ComposeTable>(
     Ok(rows)
 }
 
-/// Prints the rows that are not accepted in this form, or those of lost texts alone.
+/// Prints, in this form, the rows that are not accepted, or only those of lost texts.
 fn answer_rows(
     alloc: Global,
     rows: &[DiffRow<'_>],
@@ -209,7 +217,7 @@ fn answer_rows(
     }
 }
 
-/// All of the rows, or those of lost texts alone.
+/// Returns all of the rows, or those of lost texts alone.
 fn shown_rows<'r>(
     alloc: Global,
     rows: &[DiffRow<'r>],
@@ -223,7 +231,8 @@ fn shown_rows<'r>(
     Vec::from_slice(alloc, rows)
 }
 
-/// The answer on rows that are left, of which this text is printed: yes if nobody meets any of them.
+/// Returns the answer on the rows that remain, which is printed as this text: yes if each of them
+/// is harmless.
 fn answer_on(rows: &[DiffRow<'_>], text: String) -> Answer
     ensures { (form : Form) (lost_alone : Bool) (overlaps : Overlaps) (all : List DiffRow)
         → string_bytes text ≡ form_text form lost_alone overlaps all rows.now

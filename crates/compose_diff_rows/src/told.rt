@@ -1,4 +1,4 @@
-//! The sequences of which a row is told.
+//! The sequences that get a row.
 ghost use Rattle.std.specs.Prelude.{◌≡◌, ◌<◌, ℕ, List, [], map, length, get_or, None, option_copied, IfOk};
 ghost use Rattle.std.specs.Option.{option_map, option_map_or};
 ghost use Rattle.keysym_core.specs.Names.{KeysymNames};
@@ -20,22 +20,23 @@ use compose_tree::{ComposeTable, LeafId};
 use keysym_core::Names;
 use std::alloc::{AllocError, Global};
 
-/// What is told of a sequence by its table.
+/// A sequence that gets a row, with what its table has for it.
 #[derive(Drop)]
 pub(crate) struct ToldSequence<'a> {
     /// What happens to it.
     pub(crate) change: Change,
-    /// The names of its keys, as the line writes them that counts.
+    /// The names of its keys, as they are written in the line that counts.
     pub(crate) keys: Events<'a>,
     /// What the table has for it.
     pub(crate) entry: Option<Entry<'a>>,
-    /// The longer sequence of the new table for which people wait, if they do.
+    /// The longer sequence of the new table for which it waits, if it does.
     pub(crate) longer: Option<NamedSequence<'a>>,
-    /// How its text is typed with the new table, where people lose it.
+    /// The sequence with which the new table gives its text, if people lose this one.
     pub(crate) typing: Option<NamedSequence<'a>>,
 }
 
-/// Whether a row is told of a sequence of the old table to which this happens: of a kept one only where all rows are asked for.
+/// Returns whether a sequence of the old table to which this happens gets a row; a kept one only if
+/// all rows are wanted.
 pub(crate) fn is_told(whole: bool, change: Change) -> bool
     ensures { result ≡ words.is_told whole change }
 {
@@ -47,8 +48,9 @@ pub(crate) fn is_told(whole: bool, change: Change) -> bool
     }
 }
 
-/// The sequences of the old table of which a row is told, in its order, where these things happen to all of them. At the cost of lexing their lines, and
-/// of looking for the texts of those that people lose.
+/// Returns the sequences of the old table that get a row, in its order; `changes` holds what
+/// happens to each of its sequences. Costs as much as lexing their lines, and finding the texts of
+/// those that people lose.
 pub(crate) fn told_of_old<'a, T: ComposeTable>(
     alloc: Global,
     names: &Names,
@@ -82,7 +84,8 @@ pub(crate) fn told_of_old<'a, T: ComposeTable>(
     Ok(told)
 }
 
-/// The sequences that the new table alone has, in its order, where these things happen to all that it has. At the cost of lexing their lines.
+/// Returns the sequences that only the new table has, in its order; `changes` holds what happens to
+/// each of its sequences. Costs as much as lexing their lines.
 pub(crate) fn told_of_new<'a, T: ComposeTable>(
     alloc: Global,
     changes: &[Option<Change>],
@@ -108,7 +111,7 @@ pub(crate) fn told_of_new<'a, T: ComposeTable>(
     Ok(told)
 }
 
-/// What is told of the sequence of this leaf of the old table, to which this happens.
+/// Returns what is reported of this leaf's sequence of the old table, to which this happens.
 fn lost_at<'a, T: ComposeTable>(
     names: &Names,
     leaf: LeafId,
@@ -148,7 +151,7 @@ fn lost_at<'a, T: ComposeTable>(
     }
 }
 
-/// What is told of the sequence of this leaf of the new table, to which this happens.
+/// Returns what is reported of this leaf's sequence of the new table, to which this happens.
 fn told_at<'a, T: ComposeTable>(
     leaf: LeafId,
     change: Change,
@@ -174,7 +177,8 @@ fn told_at<'a, T: ComposeTable>(
     }
 }
 
-/// The names of the keys of this leaf, as the line writes them that counts; none without a line.
+/// Returns the names of the keys of this leaf, as they are written in the line that counts; none
+/// without a line.
 fn keys_at<'a, T: ComposeTable>(written: &WrittenTable<'a, T>, leaf: LeafId) -> Events<'a>
     ensures { map (λ key. key.now) result.items
         ≡ option_map_or (λ line. line.keys) (get_or written.now.lines.now leaf.0 None) [] }
@@ -185,7 +189,7 @@ fn keys_at<'a, T: ComposeTable>(written: &WrittenTable<'a, T>, leaf: LeafId) -> 
     }
 }
 
-/// What a table has for the sequence of this leaf.
+/// Returns what a table has for the sequence of this leaf.
 pub(crate) fn entry_at<'a, T: ComposeTable>(
     written: &WrittenTable<'a, T>,
     leaf: LeafId,
@@ -205,7 +209,7 @@ pub(crate) fn entry_at<'a, T: ComposeTable>(
     })
 }
 
-/// The line that counts for this leaf, if there is one.
+/// Returns the line that counts for this leaf, if there is one.
 pub(crate) fn line_at<'a, T: ComposeTable>(
     written: &WrittenTable<'a, T>,
     leaf: LeafId,
@@ -215,7 +219,7 @@ pub(crate) fn line_at<'a, T: ComposeTable>(
     written.lines.get(leaf.0 as usize)?.as_ref()
 }
 
-/// The path at this index, if there is one, and else an empty one.
+/// Returns the path at this index, or an empty one if there is none.
 pub(crate) fn path_at<'a>(paths: &[&'a str], index: usize) -> &'a str
     ensures { result.now ≡ get_or (map (λ path. path.now) paths.now) index [] }
 {

@@ -17,16 +17,16 @@ use compose_tree::{ComposeTable, LeafId};
 /// A sequence of the new table, with the names of its keys.
 #[derive(Drop)]
 pub(crate) struct NamedSequence<'a> {
-    /// The names of its keys, as the line writes them that counts.
+    /// The names of its keys, as they are written in the line that counts.
     pub(crate) keys: Events<'a>,
     /// The path of the source.
     pub(crate) path: &'a str,
-    /// The line in it, from 1.
+    /// The line number in the source, from 1.
     pub(crate) line: usize,
 }
 
 impl<'a> NamedSequence<'a> {
-    /// The same, as a row has it.
+    /// Returns the sequence as a row has it.
     pub(crate) fn as_new(&'a self) -> NewSequence<'a>
         ensures { new_sequence result ≡ named_sequence self.now }
     {
@@ -38,9 +38,10 @@ impl<'a> NamedSequence<'a> {
     }
 }
 
-/// How the text of a sequence to which this happens, and for which the old table has this entry, is typed with the new table: by the first
-/// of the shortest sequences that give it. Nothing unless people lose the sequence. O(log n) comparisons of texts in the
-/// number n of the new table's sequences.
+/// Returns how the text of a sequence to which this happens, and for which the old table has this
+/// entry, is typed with the new table: the first of the shortest sequences that give it. `None`
+/// unless people lose the sequence. O(log n) comparisons of texts for the n sequences of the new
+/// table.
 pub(crate) fn typed_now<'a, T: ComposeTable>(
     change: Change,
     entry: &Option<Entry<'a>>,
@@ -61,7 +62,7 @@ pub(crate) fn typed_now<'a, T: ComposeTable>(
     first_typing(entry.text, new, index)
 }
 
-/// The first of the shortest sequences of the new table that give the text.
+/// Returns the first of the shortest sequences of the new table that give the text.
 fn first_typing<'a, T: ComposeTable>(
     text: &str,
     new: &WrittenTable<'a, T>,
@@ -77,7 +78,7 @@ fn first_typing<'a, T: ComposeTable>(
     sequence_at(new, *leaf)
 }
 
-/// The sequence of this leaf, as the line writes it that counts, if there is one.
+/// Returns the sequence of this leaf, as it is written in the line that counts, if there is one.
 pub(crate) fn sequence_at<'a, T: ComposeTable>(
     written: &WrittenTable<'a, T>,
     leaf: LeafId,

@@ -1,4 +1,4 @@
-//! Certificates and repertoires as texts, worked out.
+//! Worked certificates and repertoires, as texts.
 use crate::helpers::expect_text;
 use compose_cert::{CertFault, Certificate, Repertoire, RepertoireFault, Typing};
 use keysym_core::Keysym;
@@ -30,7 +30,7 @@ fn expect_written(
     Ok(())
 }
 
-/// The bound of a certificate, and how many pairs, typings and fresh keysyms it has.
+/// Returns the bound of a certificate, and the numbers of its pairs, typings and fresh keysyms.
 fn counts(certificate: &Certificate) -> [usize; 4] {
     [
         certificate.bound() as usize,
@@ -64,7 +64,7 @@ fn fresh_at(certificate: &Certificate, index: usize) -> Option<Keysym> {
     }
 }
 
-/// The character of a typing and how many keys it has.
+/// Returns the character of a typing, and the number of its keys.
 fn typed(typing: Option<&Typing>) -> Option<(char, usize)> {
     match typing {
         Some(typing) => Some((typing.character(), typing.keys().len())),
@@ -72,7 +72,7 @@ fn typed(typing: Option<&Typing>) -> Option<(char, usize)> {
     }
 }
 
-/// Expects what `TYPED` says.
+/// Expects the contents of `TYPED`.
 fn expect_typed(rt: &impl Abort, certificate: &Certificate) {
     assert_eq!(rt; counts(certificate), [2, 4, 2, 0]);
     assert_eq!(rt; pair_at(certificate, 3), Some((3, 3)));
@@ -99,7 +99,7 @@ fn a_text_with_fresh_keysyms_is_read_and_written_back(rt: HostRuntime) -> Result
     expect_written(&rt, rt.alloc(), &fresh, FRESH)
 }
 
-/// A certificate of these pairs and one typing of these keys, if there can be one.
+/// Returns a certificate with these pairs and one typing with these keys, if there can be one.
 fn of_one_typing(
     alloc: Global,
     pairs: Vec<(u32, u32)>,
@@ -138,7 +138,7 @@ fn parts_make_a_certificate(rt: HostRuntime) -> Result<(), CertFault> {
     }
 }
 
-/// A typing has a key.
+/// A typing has at least one key.
 #[test]
 fn a_typing_of_no_key_makes_no_certificate(rt: HostRuntime) -> Result<(), AllocError> {
     let alloc = rt.alloc();
@@ -147,7 +147,7 @@ fn a_typing_of_no_key_makes_no_certificate(rt: HostRuntime) -> Result<(), AllocE
     Ok(())
 }
 
-/// A text that is no certificate, and its fault.
+/// A text that is not a certificate, and its fault.
 struct CertificateRow {
     text: &'static [u8],
     fault: CertFault,
@@ -171,7 +171,7 @@ static NO_CERTIFICATES: [CertificateRow; 14] = [
     CertificateRow { text: b"compose-certificate 1\nbound 1\npairs 1048577\n", fault: CertFault::TooLarge },
 ];
 
-/// The fault of a text, if it is no certificate.
+/// Returns the fault of a text, if it is not a certificate.
 fn fault_of(alloc: Global, text: &[u8]) -> Option<CertFault> {
     read(alloc, text).err()
 }
@@ -187,7 +187,7 @@ fn faults_have_their_lines(rt: HostRuntime) {
     }
 }
 
-/// Whether this is the text of this certificate. False where memory ran out.
+/// Returns whether this is the text of this certificate. False if memory runs out.
 fn spells(alloc: Global, certificate: &Certificate, text: &[u8]) -> bool {
     match written(alloc, certificate) {
         Ok(written) => written.as_bytes() == text,
@@ -195,7 +195,8 @@ fn spells(alloc: Global, certificate: &Certificate, text: &[u8]) -> bool {
     }
 }
 
-/// Whether the text is refused, or read as a certificate with this very text. False where memory ran out.
+/// Returns whether the text is refused, or read as a certificate with exactly this text. False if
+/// memory runs out.
 fn is_refused_or_spells(alloc: Global, text: &[u8]) -> bool {
     match read(alloc, text) {
         Ok(certificate) => spells(alloc, &certificate, text),
@@ -237,7 +238,7 @@ fn a_cut_text_is_refused_at_its_line(rt: HostRuntime) {
     }
 }
 
-/// A text that is no repertoire, and its fault.
+/// A text that is not a repertoire, and its fault.
 struct RepertoireRow {
     text: &'static [u8],
     fault: RepertoireFault,
@@ -253,7 +254,7 @@ static NO_REPERTOIRES: [RepertoireRow; 6] = [
     RepertoireRow { text: b"# \xff\n", fault: RepertoireFault::BadLine { line: 1 } },
 ];
 
-/// A keysym, and whether the worked repertoire has a key of it.
+/// A keysym, and whether the worked repertoire has a key with it.
 struct KeyRow {
     number: u32,
     is_key: bool,
@@ -285,7 +286,7 @@ fn expect_keys(rt: &impl Abort, repertoire: &Repertoire) {
     }
 }
 
-/// The character at this index, if there is one.
+/// Returns the character at this index, if there is one.
 fn char_at(repertoire: &Repertoire, index: usize) -> Option<char> {
     if index < repertoire.count() {
         Some(repertoire.char_at(index))
@@ -314,7 +315,7 @@ fn an_empty_repertoire_is_read(rt: HostRuntime) -> Result<(), RepertoireFault> {
     Ok(())
 }
 
-/// The fault of a text, if it is no repertoire.
+/// Returns the fault of a text, if it is not a repertoire.
 fn repertoire_fault_of(alloc: Global, text: &[u8]) -> Option<RepertoireFault> {
     read_repertoire(alloc, text).err()
 }

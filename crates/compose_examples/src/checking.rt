@@ -1,4 +1,4 @@
-//! What the checker says of the worked migrations, over a table of each form.
+//! The verdicts of the checker on the worked migrations, over a table of each form.
 use crate::rows::{CHECKED, Row};
 use crate::tables::{Tables, certificate_of, repertoire_of};
 use compose_cert::{Certificate, Repertoire};
@@ -8,7 +8,7 @@ use keysym_core::Names;
 use std::alloc::Global;
 use std::test::Fail;
 
-/// The verdict as it is printed.
+/// Returns the verdict as it is printed.
 fn printed(alloc: Global, verdict: Verdict) -> Result<String, Fail> {
     match verdict {
         Verdict::Yes => Ok(String::from_str(alloc, "yes")?),
@@ -16,13 +16,13 @@ fn printed(alloc: Global, verdict: Verdict) -> Result<String, Fail> {
     }
 }
 
-/// The verdict on a row.
+/// Returns the verdict on a row.
 fn verdict<T: ComposeTable, U: ComposeTable>(alloc: Global, row: &Row) -> Result<String, Fail> {
     let Tables { names, old, new } = Tables::<T, U>::read(alloc, row.old, row.new)?;
     verdict_over(alloc, &names, &old, &new, row)
 }
 
-/// The verdict on the certificate of a row for these tables.
+/// Returns the verdict on the certificate of a row for these tables.
 fn verdict_over<T: ComposeTable, U: ComposeTable>(
     alloc: Global,
     names: &Names,
@@ -45,7 +45,7 @@ pub fn checked<T: ComposeTable, U: ComposeTable>(
     check(old, new, names, repertoire, certificate)
 }
 
-/// The first row on which the verdict is another one.
+/// Returns the first row with another verdict.
 fn first_wrong<T: ComposeTable, U: ComposeTable>(
     alloc: Global,
     rows: &[Row],

@@ -7,7 +7,7 @@ use keysym_core::Names;
 use std::alloc::Global;
 use std::test::Fail;
 
-/// What is printed of a row.
+/// Returns the printed text for a row.
 fn printed<T: ComposeTable, U: ComposeTable>(
     alloc: Global,
     row: &Explained,
@@ -16,7 +16,7 @@ fn printed<T: ComposeTable, U: ComposeTable>(
     printed_over(alloc, &old, &new, &names)
 }
 
-/// What is printed of these tables.
+/// Returns the printed text for these tables.
 fn printed_over<T: ComposeTable, U: ComposeTable>(
     alloc: Global,
     old: &T,
@@ -27,7 +27,7 @@ fn printed_over<T: ComposeTable, U: ComposeTable>(
     Ok(explain_all(alloc, names, &all)?)
 }
 
-/// The first row of which something else is printed.
+/// Returns the first row for which something else is printed.
 fn first_wrong<T: ComposeTable, U: ComposeTable>(
     alloc: Global,
     rows: &[Explained],

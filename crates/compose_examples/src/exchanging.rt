@@ -1,4 +1,5 @@
-//! Exchanges with a service whose replies are written out: what a client sends, and what it then prints.
+//! Exchanges with a service whose replies are written out: what a client sends, and what it then
+//! prints.
 ghost use Rattle.std.specs.Prelude.{None};
 
 use crate::helpers::{core, expect_text};
@@ -12,7 +13,8 @@ use std::fmt::Write;
 use std::process::Abort;
 use std::test::Fail;
 
-/// The requests of the examples, as they are printed: session 7 is opened, the key a is typed in it, and it is asked where it stands.
+/// The requests of the examples, as they are printed: session 7 is opened, the key a is typed in
+/// it, and its state is asked for.
 const OPEN: &str = "Request { session: 7, body: Open };";
 
 const OPEN_AND_KEY: &str =
@@ -21,10 +23,11 @@ const OPEN_AND_KEY: &str =
 const ALL: &str =
     "Request { session: 7, body: Open };Request { session: 7, body: Key(97) };Request { session: 7, body: Ask };";
 
-/// The notes, which are printed before all else.
+/// The notes, which are printed first.
 const NOTES: &str = "note: of the table\n";
 
-/// A service whose replies are written out, the last one first; and the requests that it was sent, as they are printed.
+/// A service whose replies are written out, the last one first; and the requests that it received,
+/// as they are printed.
 #[derive(Drop)]
 struct Script {
     replies: Vec<Reply>,
@@ -45,7 +48,7 @@ fn push_request(text: &mut String, request: &Request) -> Result<(), AllocError> 
     Ok(())
 }
 
-/// The three requests.
+/// Returns the three requests.
 fn requests(alloc: Global) -> Result<Vec<Request>, AllocError> {
     let mut requests = Vec::new(alloc);
     let session = 7;
@@ -78,7 +81,8 @@ fn run(
     }
 }
 
-/// Expects that these requests are sent and this is printed, where the service answers so, the last one first.
+/// Expects these requests and this printed text if these are the answers of the service, the last
+/// one first.
 fn expect(
     rt: &(impl Abort + AllocGlobal),
     row: &str,
@@ -103,7 +107,7 @@ fn expect(
     Ok(())
 }
 
-/// A reply in session 7.
+/// Returns a reply in session 7.
 fn reply(answer: Answer) -> Reply {
     Reply { session: 7, answer }
 }

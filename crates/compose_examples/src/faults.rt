@@ -1,4 +1,5 @@
-//! The printed texts of faults above the reading of tables, and the faults of fresh keysyms over each form of a table.
+//! The printed texts of faults in the crates above `compose_read`, and the faults of fresh keysyms
+//! over each form of a table.
 use crate::tables::{core, table};
 use compose_cert::{CertFault, RepertoireFault};
 use compose_check::{CheckFault, InputFault, check_fresh};
@@ -13,7 +14,7 @@ use std::fmt::Display;
 use std::process::Abort;
 use std::test::Fail;
 
-/// The text of the first fault that is printed in another way.
+/// Returns the text of the first fault that is printed differently.
 fn first_wrong<F: Display>(
     alloc: Global,
     faults: &[(F, &'static str)],
@@ -26,7 +27,7 @@ fn first_wrong<F: Display>(
     Ok(None)
 }
 
-/// A dead key that no worked table has.
+/// Returns a dead key that is in none of the worked tables.
 fn caron() -> Keysym {
     Keysym::new(0xfe5a).unwrap_or(Keysym::default())
 }
@@ -167,13 +168,13 @@ fn faults_of_typing_words_and_making(rt: HostRuntime) -> Result<(), Fail> {
     Ok(())
 }
 
-/// A small table.
+/// Returns a small table.
 fn small_table<T: ComposeTable>(alloc: Global) -> Result<T, Fail> {
     let names = core(alloc)?;
     table(alloc, &names, "<dead_acute> <e> : \"é\"\n")
 }
 
-/// Expects what is wrong with keysyms as fresh ones for a small table.
+/// Expects the faults of keysyms as fresh ones for a small table.
 fn expect_fresh<T: ComposeTable>(
     rt: &impl Abort,
     alloc: Global,

@@ -5,7 +5,8 @@ use std::alloc::Global;
 use std::process::Abort;
 use std::test::Fail;
 
-/// The lines of a source, what is left of them between the byte order mark and the end, and how many lines are left out.
+/// The lines of a source, those that remain (between the byte order mark and the end), and the
+/// number of skipped lines.
 struct FaultyRow {
     lines: &'static str,
     left: &'static str,
@@ -22,7 +23,7 @@ static FAULTY: [FaultyRow; 6] = [
     FaultyRow { lines: "<Shift_L> : \"x\"\n<b> : \"z\"\n", left: "\u{feff}\n<b> : \"z\"\n", faults: 1 },
 ];
 
-/// Expects what is left of a row, and a source after it as it is.
+/// Expects the remaining lines of a row, and a source after it that is unchanged.
 fn expect_left(rt: &impl Abort, alloc: Global, row: &FaultyRow) -> Result<(), Fail> {
     let sources = two_sources(alloc, row.lines.as_bytes(), "<c> : \"w\"\n")?;
     let others = other_lines(alloc, &core(alloc)?, &sources)?;

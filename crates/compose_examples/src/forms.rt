@@ -14,8 +14,8 @@ use std::alloc::{AllocError, Global};
 use std::fmt::Write;
 use std::process::Abort;
 
-/// The root's lines, those of the source `%L`, what is done where sequences overlap, and what is printed: the edges of each node behind its depth,
-/// and the texts; or the first fault.
+/// The root's lines, those of the source `%L`, the rule for overlapping sequences, and what is
+/// printed: the edges of each node after its depth, and the texts; or the first fault.
 struct TableRow {
     root: &'static str,
     included: &'static str,
@@ -36,7 +36,7 @@ static TABLES: [TableRow; 9] = [
     TableRow { root: "<nosuch> : \"x\"\n", included: "", rule: Rule::Refuse, prints: "1 Read: 4 UnknownKeysym source=0 line=1 index=0" },
 ];
 
-/// Prints an edge, and a mark unless it is found by its keysym.
+/// Prints an edge, and a mark unless looking up its keysym finds it.
 fn print_edge(
     text: &mut String,
     keysym: Keysym,
@@ -53,7 +53,7 @@ fn print_edge(
     Ok(())
 }
 
-/// A node's depth and its edges.
+/// Prints a node's depth and its edges.
 fn print_node<T: ComposeTable>(text: &mut String, table: &T, node: NodeId) -> Result<(), AllocError>
     requires { node.0 < length (nodes (T.definitions table.now)) }
 {
@@ -69,7 +69,7 @@ fn print_node<T: ComposeTable>(text: &mut String, table: &T, node: NodeId) -> Re
     Ok(())
 }
 
-/// Prints what a table says of itself.
+/// Prints all that the functions of a table return.
 fn push_whole<T: ComposeTable>(text: &mut String, table: &T) -> Result<(), AllocError> {
     for number in 0..table.node_count() {
         print_node(text, table, NodeId(number))?;
@@ -97,7 +97,7 @@ fn push_fault(text: &mut String, fault: &TableFault) -> Result<(), AllocError> {
     Ok(())
 }
 
-/// Expects what a table says of itself, or its fault.
+/// Expects the printed table, or its fault.
 fn expect_whole<T: ComposeTable>(
     rt: &impl Abort,
     alloc: Global,
@@ -164,7 +164,7 @@ fn expect_no_root(rt: &impl Abort, alloc: Global, names: &Names) -> Result<(), A
     )
 }
 
-/// There is no table where no source has the root's name.
+/// There is no table if no source has the root's name.
 #[test]
 fn reads_no_table_without_a_root(rt: HostRuntime) -> Result<(), AllocError> {
     let names = core(rt.alloc())?;

@@ -1,4 +1,4 @@
-//! Streams of requests and the bytes of replies, written out.
+//! Streams of requests, and the bytes of replies, written out.
 ghost use Rattle.std.specs.Prelude.{◌≤◌};
 
 use crate::helpers::expect_text;
@@ -11,19 +11,19 @@ use std::fmt::Write;
 use std::process::Abort;
 use std::test::Fail;
 
-/// Open session 7, and the keysym 0xfe50 in it.
+/// The bytes of two requests: open session 7, and the keysym 0xfe50 in it.
 const OPEN_AND_KEY: [u8; 22] = [
     1, 0, 0, 0, 7, 0, 0, 0, 0, 2, 0, 0, 0, 7, 0, 0, 0, 4, 0, 0, 0xfe, 0x50,
 ];
 
-/// How each of these requests is printed, and how both are.
+/// The printed form of each of these requests, and of both.
 const OPEN: &str = "Request { session: 7, body: Open };";
 
 const KEY: &str = "Request { session: 7, body: Key(65104) };";
 
 const BOTH: &str = "Request { session: 7, body: Open };Request { session: 7, body: Key(65104) };";
 
-/// How a stream ends: the fault behind its requests, and how many bytes are still held.
+/// The end of a stream: the fault after its requests, and the number of bytes that are still held.
 #[derive(Clone, Copy)]
 struct End {
     fault: Option<WireFault>,
@@ -43,7 +43,7 @@ fn push_request(text: &mut String, request: &Request) -> Result<(), AllocError> 
     Ok(())
 }
 
-/// Prints every request that stands, and gives the fault behind them.
+/// Prints every complete request, and returns the fault after them.
 fn take_all(
     alloc: Global,
     feeder: &mut Feeder,
@@ -59,7 +59,7 @@ fn take_all(
     Ok(None)
 }
 
-/// Feeds bytes in pieces of some size, prints the requests, and gives the end.
+/// Feeds bytes in pieces of some size, prints the requests, and returns the end.
 fn feed_pieces(
     alloc: Global,
     feeder: &mut Feeder,
@@ -81,7 +81,7 @@ fn expect_end(rt: &impl Abort, row: &str, found: End, wanted: End) {
     assert_eq!(rt; found.held, wanted.held, "{row}");
 }
 
-/// Expects bytes in pieces of some size to give these requests, and this end.
+/// Expects these requests and this end if the bytes are fed in pieces of some size.
 fn expect_pieces(
     rt: &impl Abort,
     alloc: Global,
@@ -98,8 +98,8 @@ fn expect_pieces(
     Ok(())
 }
 
-/// What the stream of an open and a key gives where it is cut: the requests of the first part, how many bytes are held behind them, and the
-/// requests that the other part gives.
+/// The result of cutting the stream of an open and a key: the requests of the first part, the
+/// number of bytes held after them, and the requests of the other part.
 #[derive(Clone, Copy)]
 struct Cut {
     before: &'static str,
@@ -122,7 +122,7 @@ fn cut_at(index: usize) -> Cut {
     }
 }
 
-/// Expects what the stream gives where it is cut, each part in pieces of some size.
+/// Expects the result of cutting the stream, each part being fed in pieces of some size.
 fn expect_cut(rt: &impl Abort, alloc: Global, index: usize, size: usize) -> Result<(), WireFault>
     requires { index ≤ 22 }
 {
@@ -148,7 +148,7 @@ fn cut_anywhere(rt: HostRuntime) -> Result<(), WireFault> {
     Ok(())
 }
 
-/// What follows an open and a key, and its fault.
+/// The bytes after an open and a key, and their fault.
 struct FaultRow {
     name: &'static str,
     bytes: &'static [u8],
@@ -171,7 +171,7 @@ static FAULTS: [FaultRow; 12] = [
     FaultRow { name: "a key that is cut", bytes: &[2, 0, 0, 0, 7, 0, 0, 0, 4, 0xff], fault: None },
 ];
 
-/// Expects these requests and then the fault of the row, and so many bytes to be held.
+/// Expects these requests and then the fault of the row, and this number of held bytes.
 fn expect_fault(
     rt: &impl Abort,
     alloc: Global,
@@ -195,7 +195,7 @@ fn expect_fault(
     Ok(())
 }
 
-/// Expects the fault of a row behind an open and a key; and that it stays, whatever follows.
+/// Expects the fault of a row after an open and a key, and that it stays whatever follows.
 fn expect_lasting_fault(rt: &impl Abort, alloc: Global, row: &FaultRow) -> Result<(), WireFault> {
     let mut feeder = Feeder::new(alloc);
     feed(&mut feeder, &OPEN_AND_KEY)?;
@@ -217,7 +217,7 @@ fn faults(rt: HostRuntime) -> Result<(), WireFault> {
     Ok(())
 }
 
-/// A fault, and how it is printed.
+/// A fault, and its printed form.
 struct PrintedRow {
     fault: WireFault,
     prints: &'static str,
@@ -246,7 +246,7 @@ fn fault_texts(rt: HostRuntime) -> Result<(), AllocError> {
     Ok(())
 }
 
-/// The next number by chance.
+/// Returns the next pseudorandom number.
 fn by_chance_behind(seed: u32) -> u32 {
     let mut next = seed;
     next ^= next << 13;
@@ -255,7 +255,7 @@ fn by_chance_behind(seed: u32) -> u32 {
     next
 }
 
-/// How long the payload of this kind is: by chance for a load.
+/// Returns the length of a payload of this kind: pseudorandom for a load.
 fn size_by_chance(kind: u8, seed: u32) -> u8 {
     match kind {
         2 => 4,
@@ -264,7 +264,7 @@ fn size_by_chance(kind: u8, seed: u32) -> u8 {
     }
 }
 
-/// Puts a frame by chance behind the others, and now and then a byte that begins none.
+/// Appends a pseudorandom frame, and now and then a byte that begins no frame.
 fn push_by_chance(stream: &mut Vec<u8>, seed: u32) -> Result<(), AllocError> {
     let kind = ((seed >> 8) % 8) as u8;
     let size = size_by_chance(kind, seed);
@@ -278,7 +278,7 @@ fn push_by_chance(stream: &mut Vec<u8>, seed: u32) -> Result<(), AllocError> {
     Ok(())
 }
 
-/// Expects a stream in pieces of some size to give the same as in one piece.
+/// Expects the same result in pieces of some size as in one piece.
 fn expect_same(
     rt: &impl Abort,
     alloc: Global,
@@ -291,7 +291,7 @@ fn expect_same(
     expect_pieces(rt, alloc, &mut feeder, stream, size, whole, end)
 }
 
-/// Expects a stream to give the same whole and in pieces of each size.
+/// Expects the same result in one piece and in pieces of each size.
 fn expect_same_in_pieces(rt: &impl Abort, alloc: Global, stream: &[u8]) -> Result<(), WireFault> {
     let mut feeder = Feeder::new(alloc);
     let mut whole = String::new(alloc);
@@ -302,7 +302,7 @@ fn expect_same_in_pieces(rt: &impl Abort, alloc: Global, stream: &[u8]) -> Resul
     Ok(())
 }
 
-/// Bytes by chance, mostly frames: what they give does not depend on the pieces.
+/// Pseudorandom bytes, mostly frames: the result does not depend on the pieces.
 #[test]
 fn by_chance(rt: HostRuntime) -> Result<(), WireFault> {
     let mut seed = 0x2545_f491u32;

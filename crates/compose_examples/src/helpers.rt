@@ -1,15 +1,16 @@
-//! What the worked examples are built of, and how a wrong answer is told.
+//! Common parts of the worked examples.
 use compose_read::{SourceFault, Sources};
 use keysym_core::Names;
 use std::alloc::{AllocError, Global};
 use std::process::Abort;
 
-/// Expects this text; a failed test tells the row.
+/// Asserts that the text is the wanted one; a failure shows the row.
 pub fn expect_text(rt: &impl Abort, row: &str, found: &str, wanted: &str) {
     assert_eq!(rt; found, wanted, "{row}");
 }
 
-/// Puts these pieces behind a text.
+/// Appends these pieces to a text.
+/// Errors: `AllocError` if memory runs out.
 pub fn push_all(text: &mut String, pieces: &[&str]) -> Result<(), AllocError> {
     for piece in pieces {
         text.push_str(piece)?;
@@ -17,7 +18,8 @@ pub fn push_all(text: &mut String, pieces: &[&str]) -> Result<(), AllocError> {
     Ok(())
 }
 
-/// This text so many times.
+/// Returns the text, repeated.
+/// Errors: `AllocError` if memory runs out.
 pub fn repeated(alloc: Global, text: &str, times: usize) -> Result<String, AllocError> {
     let mut whole = String::new(alloc);
     for _ in 0..times {
@@ -26,7 +28,8 @@ pub fn repeated(alloc: Global, text: &str, times: usize) -> Result<String, Alloc
     Ok(whole)
 }
 
-/// The names of the core. Only memory can be missing.
+/// Returns the built-in names.
+/// Errors: `AllocError` if memory runs out.
 pub fn core(alloc: Global) -> Result<Names, AllocError> {
     match Names::core(alloc) {
         Ok(names) => Ok(names),
@@ -34,7 +37,8 @@ pub fn core(alloc: Global) -> Result<Names, AllocError> {
     }
 }
 
-/// Adds a source of these bytes.
+/// Adds a source with these bytes.
+/// Errors: the fault of `Sources::add`; `NoMemory` if memory runs out.
 pub fn add(
     sources: &mut Sources,
     alloc: Global,
@@ -44,7 +48,8 @@ pub fn add(
     sources.add(name, Vec::from_slice(alloc, bytes)?)
 }
 
-/// The sources `r` and `%L`.
+/// Returns the sources `r` and `%L`.
+/// Errors: `NoMemory` if memory runs out.
 pub fn two_sources(alloc: Global, root: &[u8], included: &str) -> Result<Sources, SourceFault> {
     let mut sources = Sources::new(alloc);
     add(&mut sources, alloc, "r", root)?;

@@ -1,4 +1,4 @@
-//! Lists of keys as the lines of a text write them, and the line of a key that is refused.
+//! Lists of keys as the lines of a text write them, and the line with a refused key.
 use crate::helpers::expect_text;
 use compose_answer::Refusal;
 use compose_key_lists::{key_lists, refused_line};
@@ -6,7 +6,7 @@ use std::alloc::{AllocError, Global};
 use std::fmt::Write;
 use std::process::Abort;
 
-/// A text, and what is printed of it: its words, and after a bar how many of them each line has.
+/// A text, and what is printed for it: its words, and after a bar the number of words in each line.
 struct ListsRow {
     text: &'static str,
     prints: &'static str,
@@ -54,7 +54,8 @@ fn lists_of_lines(rt: HostRuntime) -> Result<(), AllocError> {
     Ok(())
 }
 
-/// The index of a refused key among those of lines with three, no and two keys, and what is said of its line.
+/// The index of a refused key among those of lines with three, no and two keys, and what is printed
+/// about its line.
 struct LineRow {
     index: usize,
     says: &'static str,
@@ -68,7 +69,7 @@ static REFUSED: [LineRow; 4] = [
     LineRow { index: 4, says: "composecheck: the key is in line 3 of standard input\n" },
 ];
 
-/// Expects what is said of the line of a refused key, and nothing of another refusal.
+/// Expects what is printed about the line of a refused key, and nothing for another refusal.
 fn expect_line(rt: &impl Abort, alloc: Global, row: &LineRow) -> Result<(), AllocError> {
     let index = row.index;
     let said = refused_line(alloc, &[3, 0, 2], &Err(Refusal::Key { index }))?;

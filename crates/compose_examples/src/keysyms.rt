@@ -1,4 +1,4 @@
-//! The names of keysyms by their worked examples.
+//! Worked examples of the names of keysyms.
 use crate::helpers::{core, expect_text};
 use arrayvec::ArrayVec;
 use keysym_core::{KeyList, Keysym, NameFault, Names, ShownChar, ShownKeysym};
@@ -7,13 +7,13 @@ use std::fmt::Write;
 use std::ops::Range;
 use std::process::Abort;
 
-/// A name or another form of a keysym, and the number of the keysym that it means.
+/// A name or another form of a keysym, and the value of the keysym that it means.
 struct ValueRow {
     name: &'static str,
     value: Option<u32>,
 }
 
-/// What the names of the core say.
+/// Values of the built-in names.
 #[rattlefmt::skip]
 static CORE: [ValueRow; 10] = [
     ValueRow { name: "U00E9", value: Some(0xe9) },
@@ -28,13 +28,14 @@ static CORE: [ValueRow; 10] = [
     ValueRow { name: "0x20000000", value: None },
 ];
 
-/// A header, and what its names and those of the core say.
+/// A header, and the values of its names together with the built-in ones.
 struct NamesRow {
     header: &'static [u8],
     values: &'static [ValueRow],
 }
 
-/// Names of each length, and none that is only like one of them; names with the same ends; and the Greek alpha.
+/// Names of each length, and names that are only similar to one of them; names with the same ends;
+/// and the Greek alpha.
 #[rattlefmt::skip]
 static NAMES: [NamesRow; 3] = [
     NamesRow {
@@ -90,7 +91,8 @@ const SAME_ENDS: &[u8] =
 
 const ALPHA: &[u8] = b"#define XK_Greek_alpha 0x07e1  /* U+03B1 GREEK SMALL LETTER ALPHA */";
 
-/// A character, the keysym behind which the next one with the character is sought, and the number of that one.
+/// A character, the keysym after which the next one with the character is looked for, and the value
+/// of that one.
 struct NextRow {
     character: char,
     after: u32,
@@ -122,7 +124,7 @@ static HEADERS: [HeaderRow; 7] = [
     HeaderRow { header: b"#define XK_space 0x0020", prints: "accepted" },
 ];
 
-/// A keysym, and how it is printed.
+/// A keysym, and its printed form.
 struct PrintedRow {
     number: u32,
     prints: &'static str,
@@ -142,7 +144,7 @@ fn keysym(number: u32) -> Keysym {
     Keysym::new(number).unwrap_or_default()
 }
 
-/// The number of a keysym, if there is one.
+/// Returns the value of a keysym, if there is one.
 fn number_of(keysym: Option<Keysym>) -> Option<u32> {
     match keysym {
         Some(keysym) => Some(keysym.value()),
@@ -174,7 +176,7 @@ fn expect_value(rt: &impl Abort, names: &Names, row: &ValueRow) {
     assert_eq!(rt; value_of(names, row.name), row.value, "{}", row.name);
 }
 
-/// Expects what the names of the core say.
+/// Expects the values of the built-in names.
 fn expect_core(rt: &impl Abort, names: &Names) {
     for row in &CORE {
         expect_value(rt, names, row);
@@ -207,7 +209,7 @@ fn names_of_headers_are_looked_up(rt: HostRuntime) -> Result<(), NameFault> {
     Ok(())
 }
 
-/// Expects the characters that a header adds which names the Greek alpha.
+/// Expects the characters that are added by a header with the Greek alpha.
 fn expect_alpha(rt: &impl Abort, names: &Names) {
     assert_eq!(rt; text_of(names, 0x7e1), Some('α'));
     for row in &NEXT {
@@ -221,7 +223,7 @@ fn a_header_adds_characters(rt: HostRuntime) -> Result<(), NameFault> {
     Ok(())
 }
 
-/// The fault of a header, if it has one.
+/// Returns the fault of a header, if it has one.
 fn fault_of(alloc: Global, header: &[u8]) -> Option<NameFault> {
     read(alloc, header).err()
 }
@@ -260,7 +262,7 @@ fn a_faulty_line_is_named(rt: HostRuntime) -> Result<(), AllocError> {
     Ok(())
 }
 
-/// Puts so many lines, each with a new name, behind the others.
+/// Appends a line with a new name for each of these numbers.
 fn push_lines(header: &mut String, numbers: Range<u32>) -> Result<(), AllocError> {
     for number in numbers {
         write!(header, "#define XK_made_{number} 0x{number:x}\n")?;
@@ -315,7 +317,7 @@ fn fields_of_faults_are_printed(rt: HostRuntime) -> Result<(), AllocError> {
     Ok(())
 }
 
-/// Bytes without a pattern, with the beginning of a definition here and there.
+/// Pseudorandom bytes, with the beginning of a definition here and there.
 fn random_bytes(alloc: Global) -> Result<Vec<u8>, AllocError> {
     let mut state: u32 = 1;
     let mut bytes = Vec::new(alloc);

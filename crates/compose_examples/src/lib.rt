@@ -1,10 +1,12 @@
-//! Worked examples, as tests: what is read from texts, tables in both forms, the bytes of requests and replies, and what no case of
-//! tests/cases can show of the commands, as an old and a new table of different forms, or faults that no command prints. So where the old
-//! table has `<a> <b> : "x"` and the new one `<a> <b> : "y"`, the shortest list of keys on which they differ is a, b.
+//! Worked examples, as tests: how texts are read, tables in both forms, the bytes of requests and
+//! replies, and what no case of tests/cases can show of the commands, such as an old and a new
+//! table of different forms, or faults that no command prints. For example, if the old table has
+//! `<a> <b> : "x"` and the new one `<a> <b> : "y"`, the shortest list of keys on which they differ
+//! is a, b.
 //!
-//! An example is a row of a table: what a function of the libraries is called with, and what it has to give. That is written down by hand,
-//! and never taken from the program. Most functions here call one function of the libraries, so that the contract of that one stays out of
-//! the proofs of the others.
+//! An example is a row of a table: the arguments of a function of the libraries, and the expected
+//! result, which is written by hand and never taken from the program. Most functions here call one
+//! function of the libraries, so that its contract stays out of the proofs of the others.
 #![tactic(auto)]
 
 #[cfg(test)]

@@ -1,4 +1,4 @@
-//! Worked lines and texts: what is read from them, or the printed fault.
+//! Worked lines and texts: how they are read, or the printed fault.
 use crate::helpers::{expect_text, push_all, repeated};
 use arrayvec::ArrayVec;
 use compose_lex::{LexFault, Line, Said, lex_line, lex_line_into, push_text, quote, unescape};
@@ -6,7 +6,8 @@ use std::alloc::{AllocError, Global};
 use std::fmt::Write;
 use std::process::Abort;
 
-/// A line, and what is read from it: the shortest line that says the same, which is empty for a blank line; or the printed fault.
+/// A line, and its reading: the shortest line with the same meaning, which is empty for a blank
+/// line; or the printed fault.
 struct LineRow {
     line: &'static str,
     reads: &'static str,
@@ -28,7 +29,8 @@ static LINES: [LineRow; 12] = [
     LineRow { line: "<a> <b> ~<c> : \"x\"", reads: "2 ModifierList at=8" },
 ];
 
-/// Lines that are read into one list of events, one after another: no line leaves an event to the next one, and the faulty one leaves none.
+/// Lines that are read into the same list of events, one after another: no line leaves an event for
+/// the next one, and the faulty one leaves none.
 #[rattlefmt::skip]
 static LINES_INTO: [LineRow; 5] = [
     LineRow { line: "<Multi_key> <apostrophe> <e> : \"é\" eacute # e acute", reads: "<Multi_key><apostrophe><e>:\"é\"eacute" },
@@ -38,8 +40,9 @@ static LINES_INTO: [LineRow; 5] = [
     LineRow { line: "<a> <b> :", reads: "6 NoResult" },
 ];
 
-/// Lines of each length up to 40 of these pieces, which come in turn. In `line` and `reads`, `*` stands for the pieces, `$` for what may stand at the
-/// end of a line, and `+` for the place that is four bytes behind the pieces.
+/// Lines of each length up to 40 of these pieces, which are repeated in turn. In `line` and
+/// `reads`, `*` stands for the pieces, `$` for a possible end of the line, and `+` for the place
+/// four bytes after the pieces.
 struct GrownRow {
     least: usize,
     pieces: [&'static str; 4],
@@ -47,8 +50,8 @@ struct GrownRow {
     reads: &'static str,
 }
 
-/// Names of each length; names that a byte ends which begins no token; blanks at each place, and nothing else; strings, and one without its last quote;
-/// and escapes behind each number of bytes.
+/// Names of each length; names that end in a byte which begins no token; blanks at each place, and
+/// nothing else; strings, and one without its last quote; and escapes after each number of bytes.
 #[rattlefmt::skip]
 static GROWN: [GrownRow; 15] = [
     GrownRow { least: 1, pieces: ["q", "Z", "7", "_"], line: "<*>:*$", reads: "<*>:*" },
@@ -68,7 +71,7 @@ static GROWN: [GrownRow; 15] = [
     GrownRow { least: 0, pieces: ["x", " ", "é", ">"], line: "<a>:\"*\\\\\\\"$\"b$", reads: "<a>:\"*\\\\\\\"$\"b" },
 ];
 
-/// What may stand at the end of a line: nothing, or a comment longer than any one step of the scans.
+/// Possible ends of a line: nothing, or a comment longer than any one step of the scans.
 const ENDS: [&str; 2] = [
     "",
     " # so much that no step of a scan goes past the end of it",
@@ -98,14 +101,15 @@ static TEXTS: [TextRow; 14] = [
     TextRow { raw: "", reads: "8 EmptyText" },
 ];
 
-/// A raw text whose text is put behind what stands there, whether that can be done, and what stands there then.
+/// A raw text whose text is appended, whether that succeeds, and the whole text afterwards.
 struct PushedRow {
     raw: &'static str,
     pushed: bool,
     whole: &'static str,
 }
 
-/// What is put behind the text `a`, one after another: of a text that is refused nothing is pushed.
+/// Texts that are appended to the text `a`, one after another; of a refused text nothing is
+/// appended.
 #[rattlefmt::skip]
 static PUSHED: [PushedRow; 6] = [
     PushedRow { raw: "é", pushed: true, whole: "aé" },
@@ -140,7 +144,8 @@ fn push_events(text: &mut String, events: &[&str]) -> Result<(), AllocError> {
     Ok(())
 }
 
-/// The end of a production: a colon, the string if it has one, and the result name if it has one.
+/// Appends the end of a production: a colon, the string if it has one, and the result name if it
+/// has one.
 fn push_result(
     text: &mut String,
     raw_text: Option<&str>,
@@ -153,7 +158,7 @@ fn push_result(
     text.push_str(result_name.unwrap_or(""))
 }
 
-/// The shortest line that says the same, or the printed fault.
+/// Appends the shortest line with the same meaning, or the printed fault.
 fn push_line(text: &mut String, said: &Result<Line, LexFault>) -> Result<(), AllocError> {
     match said {
         Ok(Line::Blank) => Ok(()),
@@ -172,7 +177,7 @@ fn push_line(text: &mut String, said: &Result<Line, LexFault>) -> Result<(), All
     }
 }
 
-/// The same of what a line says beside the names of its events.
+/// Appends the parts of a line except the names of its events, or the printed fault.
 fn push_said(text: &mut String, said: &Result<Said, LexFault>) -> Result<(), AllocError> {
     match said {
         Ok(Said::Blank) => Ok(()),
@@ -187,7 +192,7 @@ fn push_said(text: &mut String, said: &Result<Said, LexFault>) -> Result<(), All
     }
 }
 
-/// Expects what is read from a line.
+/// Expects the reading of a line.
 fn expect_line(rt: &impl Abort, alloc: Global, line: &str, reads: &str) -> Result<(), AllocError> {
     let mut text = String::new(alloc);
     push_line(&mut text, &read(line))?;
@@ -204,7 +209,8 @@ fn reads_lines(rt: HostRuntime) -> Result<(), AllocError> {
     Ok(())
 }
 
-/// Expects how a line of so many events is read; it is itself the shortest line that says the same.
+/// Expects the reading of a line with this number of events, which is itself the shortest line with
+/// the same meaning.
 fn expect_events(
     rt: &impl Abort,
     alloc: Global,
@@ -223,7 +229,7 @@ fn reads_as_many_events_as_may_be(rt: HostRuntime) -> Result<(), AllocError> {
     expect_events(&rt, rt.alloc(), 33, Some("7 TooManyKeysyms"))
 }
 
-/// Expects what is read from a line into a list, with the events that the list has then before it.
+/// Expects the reading of a line into a list, with the events that the list has then before it.
 fn expect_line_into(
     rt: &impl Abort,
     alloc: Global,
@@ -248,7 +254,7 @@ fn reads_lines_into_one_list(rt: HostRuntime) -> Result<(), AllocError> {
     Ok(())
 }
 
-/// A line of so many pieces, written out.
+/// Returns a line with this number of pieces, written out.
 fn written(alloc: Global, form: &str, pieces: &str, end: &str) -> Result<String, AllocError> {
     let mut line = String::new(alloc);
     for mark in form.chars() {
@@ -267,7 +273,7 @@ fn push_place(line: &mut String, place: usize) -> Result<(), AllocError> {
     Ok(())
 }
 
-/// Expects what is read from the line of a row that has these pieces, at each end.
+/// Expects the reading of the line of a row with these pieces, with each end.
 fn expect_grown(
     rt: &impl Abort,
     alloc: Global,
@@ -282,7 +288,7 @@ fn expect_grown(
     Ok(())
 }
 
-/// Expects what is read from the lines of a row, of each length.
+/// Expects the readings of the lines of a row, of each length.
 fn expect_each_length(rt: &impl Abort, alloc: Global, row: &GrownRow) -> Result<(), AllocError> {
     let mut pieces = String::new(alloc);
     for len in 0..=40usize {
@@ -317,7 +323,7 @@ fn expect_unescaped(
     Ok(())
 }
 
-/// Expects how a fault is printed.
+/// Expects the printed form of a fault.
 fn expect_fault(
     rt: &impl Abort,
     alloc: Global,
@@ -340,7 +346,7 @@ fn reads_texts(rt: HostRuntime) -> Result<(), AllocError> {
     Ok(())
 }
 
-/// Expects how a text of so many letters is read.
+/// Expects the reading of a text with this number of letters.
 fn expect_letters(
     rt: &impl Abort,
     alloc: Global,
@@ -384,7 +390,7 @@ fn is_pushed(text: &mut String, raw: &str) -> bool {
     push_text(text, raw).is_ok()
 }
 
-/// Expects whether a text is pushed, and what stands there then.
+/// Expects whether a text is appended, and the whole text afterwards.
 fn expect_pushed(rt: &impl Abort, text: &mut String, row: &PushedRow) {
     assert!(rt; is_pushed(text, row.raw) == row.pushed, "{}", row.raw);
     expect_text(rt, row.raw, text, row.whole);

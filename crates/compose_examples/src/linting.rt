@@ -1,11 +1,11 @@
-//! What is found in the lines of worked tables.
+//! The findings in the lines of worked tables.
 use crate::helpers::{core, expect_text, two_sources};
 use compose_answer::Answer;
 use compose_lint::{LintForm, LintInput, LintTable, Readers, lint_tables, lost_count};
 use std::alloc::Global;
 use std::test::Fail;
 
-/// The lines of the source `r`, those of `%L`, and what is found in them.
+/// The lines of the source `r`, those of `%L`, and the findings in them.
 struct LintRow {
     root: &'static str,
     included: &'static str,
@@ -37,7 +37,7 @@ static ROWS: [LintRow; 21] = [
     LintRow { root: "<a> <U01EB> : x\n", included: "", lines: "r:1:1: gtk3: the line is skipped, as it has no string\nr:1:1: gtk4: the sequence is never typed, as a keysym of it is above 0xffff\nr:1:1: gtk4: the line is skipped, as it has no string\n" },
 ];
 
-/// A row whose faulty lines are left out: the fault of its include stays.
+/// A row whose faulty lines are skipped: the fault of its include stays.
 #[rattlefmt::skip]
 static LEFT_OUT: LintRow =
     LintRow { root: "<a> <nosuch> : \"x\"\ninclude \"nowhere\"\n", included: "", lines: "r:2:9: fault: the manifest does not list the included file \"nowhere\"\n" };
@@ -50,7 +50,7 @@ const ALL: Readers = Readers {
     gtk4: true,
 };
 
-/// What is answered on a row, with its faulty lines or without them.
+/// Returns the answer on a row, with its faulty lines or without them.
 fn answered(alloc: Global, row: &LintRow, skip_faulty: bool) -> Result<Option<Answer>, Fail> {
     let sources = two_sources(alloc, row.root.as_bytes(), row.included)?;
     let table = LintTable {
@@ -69,7 +69,7 @@ fn answered(alloc: Global, row: &LintRow, skip_faulty: bool) -> Result<Option<An
     Ok(lint_tables(alloc, &input).ok())
 }
 
-/// What is printed of an answer that tells findings or none.
+/// Returns the printed text of an answer that has findings or none.
 fn printed(answer: &Option<Answer>) -> &str {
     match answer {
         Some(Answer::Yes(text)) => text,
@@ -94,8 +94,8 @@ fn faults_of_includes_stay(rt: HostRuntime) -> Result<(), Fail> {
     Ok(())
 }
 
-/// A line that both libraries skip after a mark, one that they skip for two reasons, one whose text
-/// they cut, and one that libxkbcommon skips for its missing newline.
+/// A line that both libraries skip after a byte order mark, one that they skip for two reasons, one
+/// whose text they cut, and one that libxkbcommon skips as its newline is missing.
 #[test]
 fn lost_lines_are_counted_once(rt: HostRuntime) -> Result<(), Fail> {
     let root = "\u{feff}<a> <b> : \"x\"\n< a> <NoSymbol> : \"y\"\n<a> <c> : \"\\0\"\n";

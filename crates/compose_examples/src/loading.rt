@@ -1,4 +1,4 @@
-//! A table is loaded while something is pending, over each form of a table.
+//! Loading a table while a key is pending, over each form of a table.
 use crate::tables::{Tables, keysym_of};
 use compose_model::Status;
 use compose_state::ComposeState;
@@ -12,10 +12,10 @@ const OLD: &str = "<dead_grave> <dead_acute> <e> : \"x\"\n<dead_acute> <e> : \"x
 
 const NEW: &str = "<dead_acute> <e> : \"x\"\n";
 
-/// The status, how many keysyms are pending, and the first of them.
+/// The status, the number of pending keysyms, and the first of them.
 type Standing = (Status, usize, Option<Keysym>);
 
-/// Where a state stands.
+/// Returns the status and the pending keysyms of a state.
 fn standing(state: &ComposeState) -> Standing {
     (
         state.status(),
@@ -39,7 +39,7 @@ fn type_key<T: ComposeTable>(
     Ok(())
 }
 
-/// Where a state stands after a key on the old table and a load of the new one.
+/// Returns the state after a key on the old table and a load of the new one.
 fn after_load<T: ComposeTable, U: ComposeTable>(
     alloc: Global,
     key: &str,
@@ -60,7 +60,7 @@ fn loaded<T: ComposeTable, U: ComposeTable>(
     Ok(standing(&state))
 }
 
-/// Where it stands after a key on each table, without a load.
+/// Returns the state after a key on each table, without a load.
 fn without_load<T: ComposeTable, U: ComposeTable>(
     alloc: Global,
     key: &str,
@@ -83,7 +83,7 @@ fn not_loaded<T: ComposeTable, U: ComposeTable>(
     Ok(standing(&state))
 }
 
-/// Expects this standing after a key and a load, over tables of each form.
+/// Expects this state after a key and a load, over tables of each form.
 fn expect_after_load(
     rt: &impl Abort,
     alloc: Global,

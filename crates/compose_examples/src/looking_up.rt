@@ -1,4 +1,4 @@
-//! Which sequences of worked tables give a text.
+//! The sequences of worked tables that produce a text.
 use crate::tables::{core, table};
 use compose_lookup::TextIndex;
 use compose_tree::{ComposeTable, LeafId, ListTable, PackedTable};
@@ -6,13 +6,15 @@ use std::alloc::Global;
 use std::fmt::Write;
 use std::test::Fail;
 
-/// A text, and the numbers of the leaves that give it in the table below, a blank after each.
+/// A text, and the numbers of the leaves that produce it in the table below, with a blank after
+/// each.
 struct FoundRow {
     text: &'static str,
     leaves: &'static str,
 }
 
-/// Sequences in another order than that of their numbers: `<a> <b> <c>` is leaf 0, `<a> <c>` 1, `<b>` 2, `<c> <a>` 3, `<c> <b>` 4.
+/// Sequences in another order than that of their numbers: `<a> <b> <c>` is leaf 0, `<a> <c>` 1,
+/// `<b>` 2, `<c> <a>` 3, `<c> <b>` 4.
 static LINES: &str =
     "<c> <b> : \"x\"\n<b> : \"yy\"\n<a> <c> : \"x\"\n<a> <b> <c> : \"x\"\n<c> <a> : \"y\"\n";
 
@@ -26,7 +28,7 @@ static FOUND: [FoundRow; 6] = [
     FoundRow { text: "é", leaves: "" },
 ];
 
-/// The numbers of leaves, a blank after each.
+/// Returns the numbers of leaves, with a blank after each.
 fn numbers(alloc: Global, leaves: &[LeafId]) -> Result<String, Fail> {
     let mut text = String::new(alloc);
     for leaf in leaves {
@@ -36,13 +38,13 @@ fn numbers(alloc: Global, leaves: &[LeafId]) -> Result<String, Fail> {
     Ok(text)
 }
 
-/// The leaves of a new index that give the text.
+/// Returns the leaves that a new index finds for the text.
 fn found<T: ComposeTable>(alloc: Global, table: &T, text: &str) -> Result<String, Fail> {
     let index = TextIndex::new(alloc, table)?;
     numbers(alloc, index.leaves_with(table, text))
 }
 
-/// The first text for which other leaves are found.
+/// Returns the first text for which other leaves are found.
 fn first_wrong<T: ComposeTable>(alloc: Global) -> Result<Option<&'static str>, Fail> {
     let names = core(alloc)?;
     let table: T = table(alloc, &names, LINES)?;

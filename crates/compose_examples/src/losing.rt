@@ -1,4 +1,4 @@
-//! What `diff` prints of worked rows, and which of them are accepted.
+//! What `diff` prints for worked rows, and which of them are accepted.
 use compose_answer::Answer;
 use compose_compare::Change;
 use compose_diff::{
@@ -9,7 +9,7 @@ use compose_diff::{
 use std::alloc::Global;
 use std::test::Fail;
 
-/// What a table has for a sequence.
+/// Returns the definition of a sequence in a table.
 fn entry(text: &'static str, path: &'static str, line: usize) -> Option<Entry<'static>> {
     Some(Entry {
         text,
@@ -19,7 +19,7 @@ fn entry(text: &'static str, path: &'static str, line: usize) -> Option<Entry<'s
     })
 }
 
-/// A row that the old table alone has.
+/// Returns a row that only the old table has.
 fn old_row(
     change: Change,
     keys: &'static [&'static str],
@@ -36,7 +36,7 @@ fn old_row(
     }
 }
 
-/// A row that the new table alone has.
+/// Returns a row that only the new table has.
 fn new_row(
     change: Change,
     keys: &'static [&'static str],
@@ -53,7 +53,7 @@ fn new_row(
     }
 }
 
-/// A row of each change, in the reverse of the order in which they are told.
+/// Returns a row of each change, in the reverse of the order in which they are printed.
 fn each() -> [DiffRow<'static>; 6] {
     [
         DiffRow {
@@ -108,7 +108,7 @@ fn run() -> [DiffRow<'static>; 8] {
     ]
 }
 
-/// The lines of the rows of each change, in the order in which they are told.
+/// The lines of the rows of each change, in the order in which they are printed.
 const EACH: &str =
     "changed: <dead_hook> <o> \"ở\" \"ờ\" en/Compose:1234 fi/Compose:361 now: <dead_horn> <dead_hook> <o> fi/Compose:340\nwaiting: <a> <b> \"\\\"\" OLD:3 longer: <a> <b> <c> NEW:5 now: none\nremoved: <Multi_key> <parenleft> <1> \"①\" OLD:9 now: none\nnew start: <F13> \"x\" NEW:7\nadded: <Multi_key> <a> <b> \"x\" NEW:8\n";
 
@@ -167,7 +167,7 @@ fn one_row_is_not_folded(rt: HostRuntime) -> Result<(), Fail> {
     Ok(())
 }
 
-/// A removed row of an include of the old table.
+/// Returns a removed row of an include of the old table.
 fn included_row(keys: &'static [&'static str], line: usize) -> DiffRow<'static> {
     let entry = Entry {
         text: "α",
@@ -185,7 +185,8 @@ fn included_row(keys: &'static [&'static str], line: usize) -> DiffRow<'static> 
     }
 }
 
-/// All rows of an include, which are removed, behind one of three rows of the file that includes it.
+/// Returns all rows of an include, which are removed, after one of three rows of the file that
+/// includes it.
 fn missing() -> [DiffRow<'static>; 5] {
     [
         old_row(Change::Removed, &["Greek_a"], "α", 2),
@@ -261,16 +262,16 @@ fn kept_rows_are_objects_too(rt: HostRuntime) -> Result<(), Fail> {
     Ok(())
 }
 
-/// As people get it unless they ask for something else.
+/// The default form for people.
 const FOLDED: Printed = Printed {
     folds: true,
     lost_alone: false,
 };
 
-/// Tables in which no longer sequence begins with another one.
+/// Tables without overlapping sequences.
 const NO_OVERLAPS: Overlaps = Overlaps { old: 0, new: 0 };
 
-/// The answer on the rows of each change, of which these lines are accepted.
+/// Returns the answer on the rows of each change if these lines are accepted.
 fn answer(alloc: Global, lines: &str) -> Result<Answer, Fail> {
     let mut rows = Vec::from_array(alloc, each())?;
     sort_rows(&mut rows)?;
@@ -370,7 +371,7 @@ fn typing_is_an_object_too(rt: HostRuntime) -> Result<(), Fail> {
     Ok(())
 }
 
-/// How many of the rows of each change these lines leave.
+/// Returns the number of the rows of each change that these lines leave.
 fn left(alloc: Global, lines: &str) -> Result<usize, AcceptFault> {
     let accepted = Accepted::read(alloc, lines.as_bytes())?;
     let left = accepted.leave_out(alloc, &each())?;

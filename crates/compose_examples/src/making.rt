@@ -11,13 +11,13 @@ use keysym_core::{Keysym, Names, ShownChar};
 use std::alloc::Global;
 use std::test::Fail;
 
-/// What is printed for a row.
+/// Returns the printed text for a row.
 fn printed<T: ComposeTable, U: ComposeTable>(alloc: Global, row: &Asked) -> Result<String, Fail> {
     let Tables { names, old, new } = Tables::<T, U>::read(alloc, row.old, row.new)?;
     printed_over(alloc, &names, &old, &new, row)
 }
 
-/// What is printed of these tables for the rest of the row.
+/// Returns the printed text for these tables and the rest of the row.
 fn printed_over<T: ComposeTable, U: ComposeTable>(
     alloc: Global,
     names: &Names,
@@ -31,7 +31,7 @@ fn printed_over<T: ComposeTable, U: ComposeTable>(
     printed_made(alloc, old, new, names, &repertoire, &made)
 }
 
-/// What is printed of what was made for these tables.
+/// Returns the printed text for what was made for these tables.
 fn printed_made<T: ComposeTable, U: ComposeTable>(
     alloc: Global,
     old: &T,
@@ -65,13 +65,13 @@ fn explained(alloc: Global, names: &Names, found: &Counterexample) -> Result<Str
     Ok(explain(alloc, names, found)?)
 }
 
-/// The line of a character that can't be typed.
+/// Returns the line of a character that can't be typed.
 fn unreachable(alloc: Global, character: char) -> Result<String, Fail> {
     let shown = ShownChar(character);
     Ok(format!(in alloc; "unreachable {shown}\n")?)
 }
 
-/// The text of a certificate that the checker accepts.
+/// Returns the text of a certificate, if the checker accepts it.
 fn certified(alloc: Global, certificate: &Certificate, verdict: Verdict) -> Result<String, Fail> {
     match verdict {
         Verdict::Yes => Ok(certificate.write_text(alloc)?),
@@ -79,7 +79,7 @@ fn certified(alloc: Global, certificate: &Certificate, verdict: Verdict) -> Resu
     }
 }
 
-/// The first row of which something else is printed.
+/// Returns the first row for which something else is printed.
 fn first_wrong<T: ComposeTable, U: ComposeTable>(
     alloc: Global,
     rows: &[Asked],

@@ -1,4 +1,4 @@
-//! What is said of the faults of worked tables and of the other files, and where they stand.
+//! The messages about the faults of worked tables and of other files, and their places.
 use crate::tables::core;
 use compose_cert::{CertFault, RepertoireFault};
 use compose_lex::LexFault;
@@ -18,7 +18,8 @@ use std::io;
 use std::process::Abort;
 use std::test::Fail;
 
-/// The root's lines, those of the source `%L`, and what is printed of the first fault, where the path of a source is its name.
+/// The root's lines, those of the source `%L`, and what is printed for the first fault, if the path
+/// of a source is its name.
 #[rattlefmt::skip]
 static FAULTY: [(&str, &str, &str); 38] = [
     ("<a> 5 : \"x\"", "", "r:1:5: expected \":\" or \"<\", found \"5\""),
@@ -61,7 +62,7 @@ static FAULTY: [(&str, &str, &str); 38] = [
     ("<a> : \"x\"\n", "", "-: no fault"),
 ];
 
-/// The sources `r` and `%L`.
+/// Returns the sources `r` and `%L`.
 fn two_sources(alloc: Global, root: &[u8], included: &str) -> Result<Sources, Fail> {
     let mut sources = Sources::new(alloc);
     sources.add("r", Vec::from_slice(alloc, root)?)?;
@@ -69,7 +70,7 @@ fn two_sources(alloc: Global, root: &[u8], included: &str) -> Result<Sources, Fa
     Ok(sources)
 }
 
-/// The first fault that is read from the root, if there is one.
+/// Returns the first fault when reading from the root, if there is one.
 fn first_fault(alloc: Global, names: &Names, sources: &Sources) -> Option<ReadFault> {
     match read_definitions(alloc, names, sources, "r") {
         Ok(_) => None,
@@ -77,7 +78,7 @@ fn first_fault(alloc: Global, names: &Names, sources: &Sources) -> Option<ReadFa
     }
 }
 
-/// The name of a fault's source, or a hyphen, and its position there.
+/// Returns the name of a fault's source, or a hyphen, and its position there.
 fn stands<'a>(sources: &'a Sources, fault: &ReadFault) -> (&'a str, Option<Position>) {
     match fault_position(sources, fault) {
         Some((source, position)) => (sources.name(source).unwrap_or("-"), Some(position)),
@@ -85,7 +86,7 @@ fn stands<'a>(sources: &'a Sources, fault: &ReadFault) -> (&'a str, Option<Posit
     }
 }
 
-/// What is printed of a fault, without the program's name.
+/// Returns the printed fault, without the program's name.
 fn printed_fault(
     alloc: Global,
     sources: &Sources,
@@ -101,7 +102,7 @@ fn printed_fault(
     String::from_str(alloc, text.strip_prefix("composecheck: ").unwrap_or("?"))
 }
 
-/// What is printed of the first fault.
+/// Returns the printed text of the first fault.
 fn printed_first(alloc: Global, names: &Names, sources: &Sources) -> Result<String, AllocError> {
     match first_fault(alloc, names, sources) {
         Some(fault) => printed_fault(alloc, sources, &fault),
@@ -124,7 +125,7 @@ fn faults_of_tables(rt: HostRuntime) -> Result<(), Fail> {
     check_faulty(&rt, rt.alloc(), &names)
 }
 
-/// What is printed of the first fault of this root.
+/// Returns the printed text of the first fault of this root.
 fn printed_root(alloc: Global, names: &Names, root: &[u8]) -> Result<String, Fail> {
     let sources = two_sources(alloc, root, "")?;
     Ok(printed_first(alloc, names, &sources)?)
@@ -138,7 +139,7 @@ fn fault_of_bytes(rt: HostRuntime) -> Result<(), Fail> {
     Ok(())
 }
 
-/// What is printed of a string of so many blanks.
+/// Returns the printed text for a string of this number of blanks.
 fn printed_string(alloc: Global, names: &Names, blanks: usize) -> Result<String, Fail> {
     let mut line = String::from_str(alloc, "<a>: \"")?;
     for _ in 0..blanks {
@@ -161,7 +162,7 @@ fn faults_of_long_strings(rt: HostRuntime) -> Result<(), Fail> {
     Ok(())
 }
 
-/// Expects what is printed of a fault.
+/// Expects the printed text of a fault.
 fn expect_told(
     rt: &impl Abort,
     alloc: Global,
@@ -212,7 +213,7 @@ fn faults_of_sizes(rt: HostRuntime) -> Result<(), Fail> {
     )
 }
 
-/// Expects what is printed of a file.
+/// Expects the printed text for a file.
 fn expect_printed(
     rt: &impl Abort,
     alloc: Global,
@@ -264,7 +265,7 @@ fn messages_about_files(rt: HostRuntime) -> Result<(), Fail> {
     )
 }
 
-/// The line of a fault and its words.
+/// Returns the line of a fault and its words.
 fn parts(words: FaultWords) -> (Option<usize>, &'static str) {
     (words.line, words.words)
 }

@@ -5,7 +5,7 @@ use compose_page::{Markup, page_text};
 use std::alloc::{AllocError, Global};
 use std::test::Fail;
 
-/// A sequence that is removed, and whose text another one gives.
+/// Returns a removed sequence whose text another one produces.
 fn row() -> DiffRow<'static> {
     DiffRow {
         change: Change::Removed,
@@ -26,7 +26,7 @@ fn row() -> DiffRow<'static> {
     }
 }
 
-/// The page of this row, or that of the lost texts of it alone.
+/// Returns the page of this row, or only that of its lost texts.
 fn page(alloc: Global, markup: Markup, lost_alone: bool) -> Result<String, AllocError> {
     let printed = Printed {
         folds: true,

@@ -1,4 +1,5 @@
-//! Where the definitions of worked tables stand, which of them count, and how their events are written.
+//! The places of the definitions of worked tables, which of the definitions count, and how their
+//! events are written.
 use crate::helpers::{add, core, expect_text, two_sources};
 use compose_model::Rule;
 use compose_places::{
@@ -13,8 +14,9 @@ use std::fmt::Write;
 use std::process::Abort;
 use std::test::Fail;
 
-/// The root's lines, those of the source `%L`, and what is printed: of each definition in reading order its source and its line, and of each
-/// sequence in rising order which definition counts, from 0. Where sequences overlap, the longest stay.
+/// The root's lines, those of the source `%L`, and what is printed: for each definition in reading
+/// order its source and its line, and for each sequence in rising order the definition that counts,
+/// from 0. Of overlapping sequences the longest ones stay.
 struct TableRow {
     root: &'static str,
     included: &'static str,
@@ -34,8 +36,9 @@ static TABLES: [TableRow; 8] = [
     TableRow { root: "\n\n\n\n\n\n\n\n\n\n\n\n\n\n\n\n\n\n\n\n<a> : \"x\"\n\n", included: "", places: "0:21 ", last: "0 " },
 ];
 
-/// The root's lines, those of the source `%L`, and what is printed of each sequence in rising order: the source and the line of the
-/// definition that counts, and the names of its keys as that line writes them.
+/// The root's lines, those of the source `%L`, and what is printed for each sequence in rising
+/// order: the source and the line of the definition that counts, and the names of its keys as that
+/// line writes them.
 struct CountingRow {
     root: &'static str,
     included: &'static str,
@@ -51,7 +54,8 @@ static COUNTING: [CountingRow; 5] = [
     CountingRow { root: "<eacute> : \"1\"\n<U00E9> : \"2\"\n", included: "", lines: "0:2 U00E9 " },
 ];
 
-/// A line of a root with a line before and behind it, and the names of its events, if it is a definition.
+/// A line of a root with a line before and after it, and the names of its events, if it is a
+/// definition.
 struct WrittenRow {
     line: &'static str,
     events: Option<&'static str>,
@@ -69,14 +73,16 @@ static WRITTEN: [WrittenRow; 8] = [
     WrittenRow { line: "Ctrl<a> : \"x\"", events: None },
 ];
 
-/// The number of a source and of a line of it, and the names of the events that are written there, if a definition stands there.
+/// The number of a source and of a line in it, and the names of the events that are written there,
+/// if there is a definition.
 struct PlaceRow {
     source: usize,
     line: usize,
     events: Option<&'static str>,
 }
 
-/// The first and the last line of a source have numbers of their own; no other number, and no other source, has a line.
+/// The first and the last line of a source are found by their numbers; no other number, and no
+/// other source, has a line.
 #[rattlefmt::skip]
 static BY_NUMBER: [PlaceRow; 8] = [
     PlaceRow { source: 0, line: 1, events: Some("b ") },
@@ -110,7 +116,7 @@ fn places_of(
     definition_places(alloc, sources, root)
 }
 
-/// Expects where the definitions stand that are read from the root.
+/// Expects the places of the definitions that are read from the root.
 fn expect_places(
     rt: &impl Abort,
     alloc: Global,
@@ -124,7 +130,7 @@ fn expect_places(
     Ok(())
 }
 
-/// Expects the places of a row, and none from a root that is missing.
+/// Expects the places of a row, and none from a missing root.
 fn expect_places_of(rt: &impl Abort, alloc: Global, row: &TableRow) -> Result<(), SourceFault> {
     let sources = two_sources(alloc, row.root.as_bytes(), row.included)?;
     expect_places(rt, alloc, &sources, "r", row.places)?;
@@ -258,7 +264,7 @@ fn expect_last_by(
     expect_last::<PackedTable>(rt, alloc, names, defined, &sources, prints)
 }
 
-/// A sequence of the table that no definition has is without a last one.
+/// For a sequence of the table that no definition has, no definition counts.
 fn expect_last_of_another(rt: &impl Abort, alloc: Global, names: &Names) -> Result<(), Fail> {
     let defined = two_sources(alloc, b"<c> : \"1\"\n<b> : \"2\"\n<a> <a> : \"3\"\n", "")?;
     let text = "<a> : \"x\"\n<b> : \"y\"\n<c> <c> : \"z\"\n";
@@ -354,7 +360,7 @@ fn counting_lines(rt: HostRuntime) -> Result<(), Fail> {
     expect_each_lines(&rt, rt.alloc(), &names)
 }
 
-/// Whether so many sequences are counted with which longer ones begin.
+/// Returns whether this number of sequences is counted as proper prefixes of other ones.
 fn has_overlaps<T: ComposeTable>(
     alloc: Global,
     names: &Names,
@@ -377,7 +383,7 @@ fn overlaps_are_counted_once(rt: HostRuntime) -> Result<(), Fail> {
     Ok(())
 }
 
-/// Prints the names of the events that are written at a place, or a word where no definition stands there.
+/// Prints the names of the events that are written at a place, or a word if there is no definition.
 fn push_written(
     text: &mut String,
     sources: &Sources,
@@ -405,7 +411,8 @@ fn expect_events(
     Ok(())
 }
 
-/// Expects the events of a line in the middle of the root, and of the included source that has no other line.
+/// Expects the events of a line in the middle of the root, and of the same line alone in the
+/// included source.
 fn expect_written_in(
     rt: &impl Abort,
     alloc: Global,
@@ -416,7 +423,8 @@ fn expect_written_in(
     expect_events(rt, alloc, sources, 1, 1, events)
 }
 
-/// The root with this line between two others, and the included source with this line alone.
+/// Returns the root with this line between two others, and the included source with this line
+/// alone.
 fn written_sources(alloc: Global, line: &str) -> Result<Sources, SourceFault> {
     let mut root = String::from_str(alloc, "\u{feff}<b> : \"x\"\n")?;
     root.push_str(line)?;
@@ -456,14 +464,14 @@ fn written_lines_by_number(rt: HostRuntime) -> Result<(), SourceFault> {
     Ok(())
 }
 
-/// A source with a line that is not UTF-8, and one that is.
+/// Returns a source with a line that is not UTF-8, and one that is.
 fn with_bytes(alloc: Global) -> Result<Sources, SourceFault> {
     let mut sources = Sources::new(alloc);
     add(&mut sources, alloc, "r", b"<a> : \"x\" # \xe9\n<b> : \"x\"")?;
     Ok(sources)
 }
 
-/// A line that is not UTF-8 has no events, and is no definition.
+/// A line that is not UTF-8 has no events, and is not a definition.
 fn expect_of_bytes(rt: &impl Abort, alloc: Global, sources: &Sources) -> Result<(), AllocError> {
     expect_events(rt, alloc, sources, 0, 1, None)?;
     expect_events(rt, alloc, sources, 0, 2, Some("b "))?;

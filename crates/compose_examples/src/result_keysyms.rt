@@ -9,8 +9,8 @@ use std::fmt::Write;
 use std::process::Abort;
 use std::test::Fail;
 
-/// The root's lines, those of the source `%L`, and the number of the result keysym of each sequence of the root's table in rising order, and of
-/// that source's table.
+/// The root's lines, those of the source `%L`, and the values of the result keysyms of the
+/// sequences of the root's table in rising order, and of that source's table.
 struct ResultRow {
     root: &'static str,
     included: &'static str,
@@ -35,7 +35,7 @@ fn push_numbers(text: &mut String, results: &[Keysym]) -> Result<(), AllocError>
     Ok(())
 }
 
-/// Expects these numbers of result keysyms.
+/// Expects these values of result keysyms.
 fn expect_numbers(
     rt: &impl Abort,
     alloc: Global,

@@ -1,30 +1,47 @@
-//! Migrations, with the answers that were worked out by hand. What a case of tests/cases shows is not here.
+//! Migrations with answers that were worked out by hand. What a case of tests/cases shows is not
+//! here.
 
-/// Two tables of one source each, and what is printed of the keys on which they differ.
+/// Two tables of one source each, and what is printed about the keys on which they differ.
 pub struct Explained {
+    /// The name of the example.
     pub name: &'static str,
+    /// The source of the old table.
     pub old: &'static str,
+    /// The source of the new table.
     pub new: &'static str,
+    /// The expected text.
     pub prints: &'static str,
 }
 
-/// A migration with fresh keysyms, and what is printed where a certificate is asked for.
+/// A migration with fresh keysyms, and what is printed if a certificate is asked for.
 pub struct Asked {
+    /// The name of the example.
     pub name: &'static str,
+    /// The source of the old table.
     pub old: &'static str,
+    /// The source of the new table.
     pub new: &'static str,
+    /// The repertoire.
     pub repertoire: &'static str,
+    /// The name of the fresh keysym; empty if there is none.
     pub fresh: &'static str,
+    /// The expected text.
     pub prints: &'static str,
 }
 
-/// A migration by a certificate, and what the checker says.
+/// A migration with a certificate, and the verdict of the checker.
 pub struct Row {
+    /// The name of the example.
     pub name: &'static str,
+    /// The source of the old table.
     pub old: &'static str,
+    /// The source of the new table.
     pub new: &'static str,
+    /// The repertoire.
     pub repertoire: &'static str,
+    /// The certificate.
     pub certificate: &'static str,
+    /// The expected verdict.
     pub says: &'static str,
 }
 

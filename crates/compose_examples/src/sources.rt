@@ -1,4 +1,4 @@
-//! Worked tables: what they settle to, or their first fault.
+//! Worked tables: the sequences that remain, or the first fault.
 use crate::helpers::{add, core, expect_text, repeated, two_sources};
 use compose_model::Rule;
 use compose_read::{
@@ -9,8 +9,8 @@ use std::alloc::{AllocError, Global};
 use std::fmt::Write;
 use std::process::Abort;
 
-/// The root's lines, those of the source `%L`, what is done where sequences overlap, and what is printed: of each sequence its keysyms and its text;
-/// or the first fault.
+/// The root's lines, those of the source `%L`, the rule for overlapping sequences, and what is
+/// printed: for each sequence its keysyms and its text; or the first fault.
 struct TableRow {
     root: &'static str,
     included: &'static str,
@@ -41,7 +41,7 @@ static TABLES: [TableRow; 19] = [
     TableRow { root: "<a> \"x\"", included: "", rule: Rule::Refuse, prints: "3 Lex source=0 line=1: 1 BadToken at=4" },
 ];
 
-/// Tables whose order the first three keysyms do not tell.
+/// Tables whose order is not decided by the first three keysyms.
 #[rattlefmt::skip]
 static HINTED: [TableRow; 8] = [
     TableRow { root: "<a> <a> <a> <a> <a> <c> : \"1\"\n<a> <a> <a> <a> <a> <b> <z> : \"2\"\n<a> <a> <a> <a> <a> <b> <y> : \"3\"\n", included: "", rule: Rule::Refuse, prints: "0x61,0x61,0x61,0x61,0x61,0x62,0x79=3;0x61,0x61,0x61,0x61,0x61,0x62,0x7a=2;0x61,0x61,0x61,0x61,0x61,0x63=1;" },
@@ -54,7 +54,7 @@ static HINTED: [TableRow; 8] = [
     TableRow { root: "<0xfe00> <a> : \"1\"\n<0xfdff> <b> : \"2\"\n<0x2101> <c> : \"3\"\n<0x2100> <d> : \"4\"\n<0x20ff> <e> : \"5\"\n", included: "", rule: Rule::Refuse, prints: "0x20ff,0x65=5;0x2100,0x64=4;0x2101,0x63=3;0xfdff,0x62=2;0xfe00,0x61=1;" },
 ];
 
-/// The root's bytes, of which the second line is no UTF-8, and what is printed.
+/// The root's bytes, whose second line is not UTF-8, and what is printed.
 struct BytesRow {
     root: &'static [u8],
     prints: &'static str,
@@ -67,7 +67,7 @@ static NOT_UTF8: [BytesRow; 3] = [
     BytesRow { root: b"include \"%L\"\n\xa9", prints: "6 MissingInclude source=0 line=1" },
 ];
 
-/// Some lines, and how often they stand in a source.
+/// Some lines, and how often they occur in a source.
 struct Lines {
     line: &'static str,
     times: usize,
@@ -127,7 +127,8 @@ static LARGE: [ListedRow; 6] = [
     },
 ];
 
-/// Chains of includes, and sources that are included often. The long ones of these would take hours if they were gone through at each include.
+/// Chains of includes, and sources that are included often. The long ones would take hours if all
+/// their lines were read at each include.
 #[rattlefmt::skip]
 static INCLUDING: [ListedRow; 11] = [
     ListedRow {
@@ -270,7 +271,7 @@ fn settled(alloc: Global, definitions: Definitions, rule: Rule) -> Result<Sequen
     settle(alloc, definitions, rule)
 }
 
-/// Prints the keysyms with commas between them.
+/// Prints the keysyms, separated by commas.
 fn push_keys(text: &mut String, keys: &[Keysym]) -> Result<(), AllocError> {
     for (index, key) in keys.iter().enumerate() {
         let comma = if index > 0 { "," } else { "" };
@@ -300,7 +301,7 @@ fn push_read_fault(text: &mut String, fault: &ReadFault) -> Result<(), AllocErro
     Ok(())
 }
 
-/// Prints the settled sequences, or why there are none.
+/// Prints the sequences that remain, or why there are none.
 fn push_settled(
     text: &mut String,
     settled: &Result<Sequences, SettleFault>,
@@ -311,7 +312,7 @@ fn push_settled(
     }
 }
 
-/// Prints what a root settles to, or the first fault.
+/// Prints the sequences that remain when reading from a root, or the first fault.
 fn push_table(
     text: &mut String,
     alloc: Global,
@@ -324,7 +325,7 @@ fn push_table(
     }
 }
 
-/// Expects what is printed of what was read.
+/// Expects the printed text.
 fn expect_printed(
     rt: &impl Abort,
     alloc: Global,
@@ -377,7 +378,7 @@ fn hinted_orders(rt: HostRuntime) -> Result<(), SourceFault> {
     expect_hinted(&rt, rt.alloc(), &names)
 }
 
-/// The source `r` alone.
+/// Returns the source `r` alone.
 fn one_source(alloc: Global, root: &[u8]) -> Result<Sources, SourceFault> {
     let mut sources = Sources::new(alloc);
     add(&mut sources, alloc, "r", root)?;
@@ -409,7 +410,7 @@ fn lines_before_one_that_is_not_utf8(rt: HostRuntime) -> Result<(), SourceFault>
     expect_each_bytes(&rt, rt.alloc(), &names)
 }
 
-/// A text with a number in it.
+/// Returns a text with a number in it.
 fn numbered(alloc: Global, before: &str, number: usize, after: &str) -> Result<String, AllocError> {
     let mut text = String::new(alloc);
     write!(text, "{before}{number}{after}")?;
@@ -480,7 +481,7 @@ fn includes(rt: HostRuntime) -> Result<(), SourceFault> {
     expect_including(&rt, rt.alloc(), &names)
 }
 
-/// Adds 64 sources, of which each includes the next one.
+/// Adds 64 sources, each of which includes the next one.
 fn add_most(sources: &mut Sources, alloc: Global) -> Result<(), SourceFault> {
     for number in 0..64usize {
         let text = numbered(alloc, "include \"s", number.wrapping_add(1), "\"\n")?;
@@ -489,14 +490,14 @@ fn add_most(sources: &mut Sources, alloc: Global) -> Result<(), SourceFault> {
     Ok(())
 }
 
-/// Expects how many sources there are, and the name of the last one.
+/// Expects the number of sources, and the name of the last one.
 fn expect_last(rt: &impl Abort, sources: &Sources, count: usize, name: &str) {
     assert_eq!(rt; sources.count(), count);
     let last = sources.name(count.wrapping_sub(1));
     expect_text(rt, "the last source", last.unwrap_or("none"), name);
 }
 
-/// Expects a source of this name not to be added.
+/// Expects that a source with this name is refused.
 fn expect_refused(
     rt: &impl Abort,
     alloc: Global,
@@ -508,7 +509,7 @@ fn expect_refused(
     assert!(rt; refused == Err(fault), "{name}");
 }
 
-/// 64 sources, of which each includes the next one.
+/// 64 sources, each of which includes the next one.
 fn most_sources(alloc: Global) -> Result<Sources, SourceFault> {
     let mut sources = Sources::new(alloc);
     add_most(&mut sources, alloc)?;

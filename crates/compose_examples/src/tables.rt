@@ -1,6 +1,7 @@
-//! Tables of one source, and what else is read for a row.
+//! Tables of one source, and the other parts of a row.
 //!
-//! Most functions here call one function of the libraries, whose contract then stays out of the proofs of those that call these.
+//! Most functions here call one function of the libraries, whose contract then stays out of the
+//! proofs of those that call these.
 use compose_cert::{CertFault, Certificate, Repertoire, RepertoireFault};
 use compose_migration::{KeyFault, look_up_keys};
 use compose_model::Rule;
@@ -10,7 +11,8 @@ use keysym_core::{Keysym, NameFault, Names};
 use std::alloc::Global;
 use std::test::Fail;
 
-/// The sources that have this text alone.
+/// Returns the sources with this text alone.
+/// Errors: memory runs out.
 pub fn one_source(alloc: Global, text: &str) -> Result<Sources, Fail> {
     let mut sources = Sources::new(alloc);
     sources.add("root", Vec::from_slice(alloc, text.as_bytes())?)?;
@@ -21,22 +23,27 @@ fn read<T: ComposeTable>(alloc: Global, names: &Names, sources: &Sources) -> Res
     read_table(alloc, names, sources, "root", Rule::Refuse)
 }
 
-/// The table of one source.
+/// Reads the table of one source.
+/// Errors: the table is refused, or memory runs out.
 pub fn table<T: ComposeTable>(alloc: Global, names: &Names, text: &str) -> Result<T, Fail> {
     let sources = one_source(alloc, text)?;
     Ok(read(alloc, names, &sources)?)
 }
 
-/// The tables of two sources, and the names by which they are read.
+/// The tables of two sources, and the names with which they are read.
 #[derive(Drop)]
 pub struct Tables<T: ComposeTable, U: ComposeTable> {
+    /// The names.
     pub names: Names,
+    /// The old table.
     pub old: T,
+    /// The new table.
     pub new: U,
 }
 
 impl<T: ComposeTable, U: ComposeTable> Tables<T, U> {
-    /// Reads two sources by the names of the core.
+    /// Reads two sources with the built-in names.
+    /// Errors: a table is refused, or memory runs out.
     pub fn read(alloc: Global, old: &str, new: &str) -> Result<Tables<T, U>, Fail> {
         let names = core(alloc)?;
         let (old, new) = both(alloc, &names, old, new)?;
@@ -55,20 +62,26 @@ fn both<T: ComposeTable, U: ComposeTable>(
     Ok((old, new))
 }
 
-/// The names of the core.
+/// Returns the built-in names.
+/// Errors: `NoMemory` if memory runs out.
 pub fn core(alloc: Global) -> Result<Names, NameFault> {
     Names::core(alloc)
 }
 
+/// Reads a repertoire.
+/// Errors: the fault of the text; `NoMemory` if memory runs out.
 pub fn repertoire_of(alloc: Global, text: &str) -> Result<Repertoire, RepertoireFault> {
     Repertoire::read(alloc, text.as_bytes())
 }
 
+/// Reads a certificate.
+/// Errors: the fault of the text; `NoMemory` if memory runs out.
 pub fn certificate_of(alloc: Global, text: &str) -> Result<Certificate, CertFault> {
     Certificate::read(alloc, text.as_bytes())
 }
 
-/// The fresh keysyms of a row, which has none or one.
+/// Returns the fresh keysyms of a row, which has one or none.
+/// Errors: the name has no keysym, or memory runs out.
 pub fn fresh_of(alloc: Global, names: &Names, key_name: &str) -> Result<Vec<Keysym>, Fail> {
     if key_name.is_empty() {
         return Ok(Vec::new(alloc));
@@ -80,7 +93,8 @@ fn keys_of(alloc: Global, names: &Names, key_names: &[&str]) -> Result<Vec<Keysy
     look_up_keys(alloc, names, key_names)
 }
 
-/// The keysym of a key name.
+/// Returns the keysym of a key name.
+/// Errors: the name has no keysym.
 pub fn keysym_of(names: &Names, key_name: &str) -> Result<Keysym, Fail> {
     Ok(names.lookup(key_name).ok_or("a keysym")?)
 }

@@ -9,14 +9,14 @@ use compose_tree::PackedTable;
 use std::alloc::Global;
 use std::test::Fail;
 
-/// The old table: two definitions of one sequence, of which the last counts, in other words than the first.
+/// The old table: two definitions of one sequence, written differently, the last of which counts.
 const OLD: &str =
     "<Multi_key> <a> : \"x\"\n# again\n<Multi_key> <U0061> : \"y\"\n<Multi_key> <b> : \"b\"\n";
 
-/// The new table: that sequence with another text, one alone, and a new start.
+/// The new table: that sequence with another text, one that is only here, and a new start.
 const NEW: &str = "<Multi_key> <0x61> : \"z\"\n<Multi_key> <c> : \"c\"\n<dead_acute> <a> : \"á\"\n";
 
-/// The answer on these sources in this form, where these lines are accepted.
+/// Returns the answer on these sources in this form, if these lines are accepted.
 fn answer<'a>(
     alloc: Global,
     old: &'a Sources,
@@ -46,7 +46,8 @@ fn answer<'a>(
     diff_migration::<PackedTable>(alloc, &input)
 }
 
-/// Whether the worked tables are told so, where these lines are accepted: with losses, or without any.
+/// Returns whether this is printed for the worked tables if these lines are accepted: with losses,
+/// or without any.
 fn is_told(
     alloc: Global,
     accepted: &str,
@@ -57,7 +58,7 @@ fn is_told(
     is_told_of(alloc, (OLD, NEW), accepted, form, loses, text)
 }
 
-/// The same of these two tables.
+/// Returns whether this is printed for these two tables.
 fn is_told_of(
     alloc: Global,
     tables: (&str, &str),

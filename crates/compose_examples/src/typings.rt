@@ -8,14 +8,15 @@ use std::alloc::Global;
 use std::fmt::Write;
 use std::test::Fail;
 
-/// What is found, a line each: the character, and the keys' numbers; or the character that has no typing.
+/// Returns what is found, a line each: the character, and the values of the keys; or the character
+/// without a typing.
 fn found<T: ComposeTable>(alloc: Global, source: &str, repertoire: &str) -> Result<String, Fail> {
     let names = core(alloc)?;
     let new: T = table(alloc, &names, source)?;
     found_over(alloc, &new, &names, repertoire)
 }
 
-/// What is found over this table.
+/// Returns what is found over this table.
 fn found_over<T: ComposeTable>(
     alloc: Global,
     new: &T,
@@ -46,7 +47,7 @@ fn typings_of<T: ComposeTable>(
     find_typings(alloc, new, names, repertoire)
 }
 
-/// A line for each typing.
+/// Returns a line for each typing.
 fn lines_of(alloc: Global, typings: &[Typing]) -> Result<String, Fail> {
     let mut lines = String::new(alloc);
     for typing in typings {
@@ -55,7 +56,7 @@ fn lines_of(alloc: Global, typings: &[Typing]) -> Result<String, Fail> {
     Ok(lines)
 }
 
-/// Puts the line of a typing behind the others.
+/// Appends the line of a typing.
 fn push_line(lines: &mut String, typing: &Typing) -> Result<(), Fail> {
     let shown = ShownChar(typing.character());
     write!(lines, "{shown}")?;
@@ -67,7 +68,8 @@ fn push_line(lines: &mut String, typing: &Typing) -> Result<(), Fail> {
     Ok(())
 }
 
-/// Several ways to one character: a longer one, one of as many keys that comes later, and the least; and a key that types itself.
+/// Several typings of one character: a longer one, one with the same number of keys that comes
+/// later, and the least; and a key that types itself.
 const WAYS: &str =
     "<Multi_key> <apostrophe> <e> : \"é\"\n<dead_acute> <e> : \"é\"\n<dead_acute> <c> : \"é\"\n<Multi_key> <a> : \"á\"\n";
 

@@ -1,4 +1,4 @@
-//! The lines that are visited from a root, and the faults that they have, in reading order.
+//! The lines that are visited from a root, and their faults, in reading order.
 use crate::helpers::{core, expect_text, two_sources};
 use compose_read::{ReadFault, SourceFault, Sources, VisitedLine, Visits, read_faults};
 use keysym_core::Names;
@@ -6,8 +6,8 @@ use std::alloc::{AllocError, Global};
 use std::fmt::Write;
 use std::process::Abort;
 
-/// The root's lines, those of the source `%L`, and what is printed: of each visited line its source, its number, how many includes lead to it,
-/// and its text.
+/// The root's lines, those of the source `%L`, and what is printed: for each visited line its
+/// source, its number, the number of includes that lead to it, and its text.
 struct VisitedRow {
     root: &'static str,
     included: &'static str,
@@ -25,7 +25,8 @@ static VISITED: [VisitedRow; 7] = [
     VisitedRow { root: " \tinclude\"%L\" # again", included: "\n", prints: "0:1:0  \tinclude\"%L\" # again\n1:1:1 \n" },
 ];
 
-/// The root's lines, those of the source `%L`, how many faults are asked for, and what is printed: each fault with a semicolon behind it.
+/// The root's lines, those of the source `%L`, the greatest number of faults, and what is printed:
+/// each fault with a semicolon after it.
 struct FaultsRow {
     root: &'static str,
     included: &'static str,
@@ -60,7 +61,7 @@ fn push_line(text: &mut String, line: VisitedLine<'_>) -> Result<(), AllocError>
     Ok(())
 }
 
-/// Prints the lines that are left to visit.
+/// Prints the remaining lines.
 fn push_lines(text: &mut String, visits: Visits<'_>) -> Result<(), AllocError> {
     for line in visits {
         push_line(text, line)?;
@@ -68,7 +69,7 @@ fn push_lines(text: &mut String, visits: Visits<'_>) -> Result<(), AllocError> {
     Ok(())
 }
 
-/// Prints the lines that are visited from the root, or a word where no source has its name.
+/// Prints the lines that are visited from the root, or a word if no source has its name.
 fn push_visits(text: &mut String, sources: &Sources, root: &str) -> Result<(), AllocError> {
     match visits(sources, root) {
         Some(visits) => push_lines(text, visits),
@@ -76,7 +77,7 @@ fn push_visits(text: &mut String, sources: &Sources, root: &str) -> Result<(), A
     }
 }
 
-/// Expects what is printed of the lines that are visited from the root.
+/// Expects the printed text of the lines that are visited from the root.
 fn expect_visits(
     rt: &impl Abort,
     alloc: Global,
@@ -104,7 +105,8 @@ fn visited_lines(rt: HostRuntime) -> Result<(), SourceFault> {
     Ok(())
 }
 
-/// A line that is not UTF-8 is visited, and includes nothing; and from a root that is missing no line is visited.
+/// A line that is not UTF-8 is visited, and includes nothing; and from a missing root no line is
+/// visited.
 fn expect_visited_bytes(
     rt: &impl Abort,
     alloc: Global,
@@ -143,7 +145,7 @@ fn faults(
     read_faults(alloc, names, sources, root, most)
 }
 
-/// Expects what is printed of these faults.
+/// Expects the printed text of these faults.
 fn expect_faults(
     rt: &impl Abort,
     alloc: Global,
@@ -156,7 +158,7 @@ fn expect_faults(
     Ok(())
 }
 
-/// Expects what is printed of the first faults that are read from the root.
+/// Expects the printed text of the first faults when reading from the root.
 fn expect_faults_from(
     rt: &impl Abort,
     alloc: Global,
@@ -194,7 +196,8 @@ fn faults_of_all_lines(rt: HostRuntime) -> Result<(), SourceFault> {
     expect_each_faulty(&rt, rt.alloc(), &names)
 }
 
-/// Expects the faults of lines of which one is not UTF-8; and a root that no source has is a fault of its own, if one is asked for.
+/// Expects the faults of lines, one of which is not UTF-8; and a missing root is itself a fault, if
+/// one is asked for.
 fn expect_faults_of_bytes(
     rt: &impl Abort,
     alloc: Global,

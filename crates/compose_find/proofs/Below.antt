@@ -24,7 +24,7 @@ lies : (folder path rest : List ℕ) → path ≡ folder ++ 47 ∷ rest → lies
 lies folder path rest e =
     (starts_is Decides-eqb path (folder ++ 47 ∷ []) (lies_below folder path) refl).1 rest (e ∙ sym (append_assoc folder (47 ∷ []) rest))
 
--- a path that begins with the folder lies below it where a slash follows
+-- a path that begins with the folder lies below it exactly if a slash follows
 pub below_by_rest : (folder path rest : List ℕ) → path ≡ folder ++ rest → begins (λ b. b == 47) rest ≡ lies_below folder path
 below_by_rest folder path rest e = same_test (begins (λ b. b == 47) rest) (lies_below folder path) (there rest e) back
   where
@@ -35,6 +35,6 @@ below_by_rest folder path rest e = same_test (begins (λ b. b == 47) rest) (lies
     back : lies_below folder path ≡ true → begins (λ b. b == 47) rest ≡ true
     back lies = let is = below folder path lies in ap (begins (λ b. b == 47)) (append_cancel_left folder rest (47 ∷ is.0) (sym e ∙ is.1))
 
--- one that doesn't begin with the folder lies not below it
+-- a path that doesn't begin with the folder doesn't lie below it
 pub not_below : (folder path : List ℕ) → ((rest : List ℕ) → path ≢ folder ++ rest) → false ≡ lies_below folder path
 not_below folder path lacks = same_test false (lies_below folder path) (λ e. cc) (λ e. (let is = below folder path e in absurd (lacks (47 ∷ is.0) is.1)))

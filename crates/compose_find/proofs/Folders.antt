@@ -21,7 +21,7 @@ pub folder_none : (path : List ℕ) → ((i : ℕ) → i < length path → slash
 folder_none [] h = refl
 folder_none (b ∷ rest) h = rw (no_slash (b ∷ rest) h) refl
 
--- the folder of a path is what stands up to its last slash
+-- the folder of a path is the path up to its last slash
 pub folder_some : (path : List ℕ) (at : ℕ) → at < length path → slash (get_or path at 0) ≡ true → ((i : ℕ) → at + 1 ≤ i → i < length path → slash (get_or path i 0) ≡ true → ⊥)
     → folder_of path ≡ take (at + 1) path
 folder_some [] at less is h = absurd (omega arith)

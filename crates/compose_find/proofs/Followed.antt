@@ -1,4 +1,5 @@
--- What is found as the search goes on: each source so far is the root or included by one before it, and those that were read are followed.
+-- What is found so far: each source is the root or included by one before it, and the includes of those that were read
+-- are followed.
 use Rattle.std.proofs.Common.{◌≡◌, ◌⊎◌, ℕ, suc, zero, ◌+◌, ◌<◌, ◌≤◌, List, [], ◌∷◌, ◌++◌, Bool, true, false, cond, map, length, Option, Some, None, refl, sym, ◌∙◌, ap, subst, inl, inr, arith}
 use Rattle.std.specs.Prelude.{Result, Ok, Err, slice_get, Contains, bytes_eq, nat_le, is_some}
 use Rattle.std.specs.List.{find, IsDistinct, AllByRecursion}
@@ -16,19 +17,19 @@ use Rattle.compose_find.specs.Sources.{IsFirstPlace, LeadsTo, IncludesSource, Is
 
 -- ---- steps in order
 
--- where two steps succeed, the first does, and the second on what it gave
+-- if two steps succeed, the first succeeds, and the second does with its result
 both : {A B E : Type 0} (r : Result A E) (f : A → Result B E) (y : B) → r >>= f ≡ Ok y → (x : A) × (r ≡ Ok x) × (f x ≡ Ok y)
 both (Ok x) f y e = (x, refl, e)
 both (Err fault) f y e = cc
 
--- what a step gave is one thing
+-- a step has one result
 one_ok : {A E : Type 0} (r : Result A E) (x y : A) → r ≡ Ok x → r ≡ Ok y → x ≡ y
 one_ok (Ok z) x y e f = cc
 one_ok (Err fault) x y e f = cc
 
 -- ---- lists
 
--- an element by its index is one of the list
+-- an element at an index is in the list
 contained : {X : Type 0} (xs : List X) (i : ℕ) (x : X) → slice_get xs i ≡ Some x → Contains xs x
 contained xs i x e = (i, slice_get_within xs i x e, get_or_from_slice_get xs i x x e)
 
@@ -36,26 +37,26 @@ contained xs i x e = (i, slice_get_within xs i x e, get_or_from_slice_get xs i x
 index_of : {X : Type 0} (xs : List X) (x : X) → Contains xs x → (i : ℕ) × (i < length xs) × (slice_get xs i ≡ Some x)
 index_of xs x c = (c.0, c.1, slice_get-get_or xs c.0 x c.1 ∙ ap Some c.2)
 
--- an element keeps its index where others are added
+-- an element keeps its index if others are added after it
 kept : {X : Type 0} (xs ys : List X) (i : ℕ) (x : X) → slice_get xs i ≡ Some x → slice_get (xs ++ ys) i ≡ Some x
 kept [] ys i x e = cc
 kept (y ∷ xs) ys zero x e = e
 kept (y ∷ xs) ys (suc i) x e = kept xs ys i x e
 
--- with one element more, an element is that one or stood there before
+-- if one element is added, each element is that one or was there before
 before_or_last : {X : Type 0} (xs : List X) (y : X) (i : ℕ) (x : X) → slice_get (xs ++ y ∷ []) i ≡ Some x → (slice_get xs i ≡ Some x) ⊎ ((i ≡ length xs) × (y ≡ x))
 before_or_last [] y zero x e = inr (refl, (let same : Some y ≡ Some x = e in cc))
 before_or_last [] y (suc i) x e = cc
 before_or_last (z ∷ xs) y zero x e = inl e
 before_or_last (z ∷ xs) y (suc i) x e = elim (before_or_last xs y i x e) [ inl h ↦ inl h | inr h ↦ inr (omega (arith, h.0), h.1) ]
 
--- what is past the end is nothing
+-- there is nothing past the end
 none_past : {X : Type 0} (xs : List X) (i : ℕ) → slice_get xs i ≡ None → length xs ≤ i
 none_past [] i e = omega arith
 none_past (x ∷ xs) zero e = cc
 none_past (x ∷ xs) (suc i) e = let h : length xs ≤ i = none_past xs i e in omega arith
 
--- what is found passes, and stands in the list
+-- an element that is found passes the test, and is in the list
 found_passes : {X : Type 0} (p : X → Bool) (xs : List X) (x : X) → find p xs ≡ Some x → (p x ≡ true) × ((i : ℕ) × (slice_get xs i ≡ Some x))
 found_passes p [] x e = cc
 found_passes p (y ∷ xs) x e = go (found_passes p xs x) (p y) refl e
@@ -65,7 +66,7 @@ found_passes p (y ∷ xs) x e = go (found_passes p xs x) (p y) refl e
     go rest true is e = let same : y ≡ x = cc in (ap p (sym same) ∙ is, (zero, e))
     go rest false is e = let r = rest e in (r.0, (suc r.1.0, r.1.1))
 
--- names stay distinct with a name that none of them is
+-- names stay distinct if a new one is added
 distinct_more : (name : List ℕ) (sources : List FoundSource) (new : FoundSource) → new.name ≡ name → find (λ m. bytes_eq name m.name) sources ≡ None → IsDistinct bytes_eq (map (λ m. m.name) sources)
     → IsDistinct bytes_eq (map (λ m. m.name) (sources ++ new ∷ []))
 unfolding IsDistinct
@@ -111,10 +112,10 @@ of_known from include path known sources more e = go (bytes_eq known.path path) 
     go true same e = ((bytes_eq-Decides known.path path).0 same, one_ok (Ok more) sources more (sym e) refl)
     go false same e = cc
 
--- ---- where an include leads
+-- ---- the target of an include
 
 module _ (files : List TriedFile) (words : Words) where
-  -- where a file's includes were found, there are the bytes in which they stand
+  -- if the includes of a path were found, its file was read, and they are the includes of its bytes
   bytes_there : (path : List ℕ) (includes : List Include) → looked_at files path ≡ Ok (Some includes) → (bytes : List ℕ) × (held_at files path ≡ Some bytes) × (includes_of bytes ≡ includes)
   bytes_there path includes e = go (find (λ f. bytes_eq path f.path) files) e
     where
@@ -165,7 +166,7 @@ module _ (files : List TriedFile) (words : Words) where
   at_include_ok from include (Ok y) x e = ap Ok (one_ok (Ok y) y x refl e)
   at_include_ok from include (Err fault) x e = cc
 
-  -- the path to which an include leads, for a source of its name
+  -- the path of an include, for a source of its name
   led : (from : FoundSource) (include : Include) (to : FoundSource) → leads_to files words from include ≡ Ok to.path → to.name ≡ include.raw → LeadsTo files words from include to
   led from include to e named = go (nat_le 8 from.depth) e
     where
@@ -190,7 +191,7 @@ module _ (files : List TriedFile) (words : Words) where
     included : (i : ℕ) (to : FoundSource) → slice_get sources (1 + i) ≡ Some to → (j : ℕ) × (from : FoundSource) × (j ≤ i) × (slice_get sources j ≡ Some from) × IncludesSource files words from to
     distinct : IsDistinct bytes_eq (map (λ m. m.name) sources)
 
-  -- a source that is followed among some is so among more
+  -- a source whose includes are followed among some sources is followed among more
   followed_more : (sources more : List FoundSource) (from : FoundSource) → ((i : ℕ) (m : FoundSource) → slice_get sources i ≡ Some m → slice_get more i ≡ Some m) → IsFollowed files words sources from
       → IsFollowed files words more from
   followed_more sources more from grows f = record {
@@ -202,7 +203,7 @@ module _ (files : List TriedFile) (words : Words) where
         (to.0, contained more at.0 to.0 (grows at.0 to.0 at.2), to.2);
   }
 
-  -- what a step brings: more sources, to one of which the include leads
+  -- what a step does: it adds sources, and the include leads to one of them
   record Brings (root : List ℕ) (index : ℕ) (sources : List FoundSource) (from : FoundSource) (include : Include) (more : List FoundSource) : Type 0 where
     so_far : IsSoFar root index more
     grows : (i : ℕ) (m : FoundSource) → slice_get sources i ≡ Some m → slice_get more i ≡ Some m
@@ -283,7 +284,7 @@ module _ (files : List TriedFile) (words : Words) where
         go path leads None none e = at_new sources include path more s at listed leads none e
         go path leads (Some known) is e = at_known sources include path known more s leads is e
 
-    -- what all includes bring
+    -- what the steps for all includes do
     record BringAll (sources : List FoundSource) (includes : List Include) (more : List FoundSource) : Type 0 where
       so_far : IsSoFar root index more
       grows : (i : ℕ) (m : FoundSource) → slice_get sources i ≡ Some m → slice_get more i ≡ Some m
@@ -353,7 +354,7 @@ module _ (files : List TriedFile) (words : Words) where
             }))
       ]
 
-  -- where all indexes were read, all sources are followed
+  -- if all indexes were read, all sources are followed
   whole : (root : List ℕ) (index : ℕ) (sources : List FoundSource) → IsSoFar root index sources → length sources ≤ index → AreSources files words root sources
   whole root index sources s past = record {
     root_first = s.root_first;
@@ -383,7 +384,7 @@ module _ (files : List TriedFile) (words : Words) where
 
 -- ---- from the root on
 
--- what a search that ends well finds are the sources of the root
+-- a search that succeeds finds the sources of the root
 pub finds_sources : FindsSources
 unfolding IsDistinct
 finds_sources files words root sources e = all_found files words root 64 0 (first ∷ []) sources (omega arith) (record {

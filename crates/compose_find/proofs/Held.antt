@@ -1,4 +1,4 @@
--- The sources that were found, with what their files hold.
+-- The sources that were found, with the bytes of their files.
 use Rattle.std.proofs.Common.{◌≡◌, ℕ, suc, zero, ◌<◌, ◌≤◌, List, [], ◌∷◌, Bool, true, false, cond, map, take, length, Some, None, refl, sym, ◌∙◌, ap, arith}
 use Rattle.std.specs.Prelude.{slice_get, bytes_eq, nat_lt, nat_le}
 use Rattle.std.specs.List.{IsDistinct, AllByRecursion}
@@ -13,13 +13,13 @@ use Rattle.compose_find.specs.Found.{TriedFile, FoundSource, held}
 use Rattle.compose_find.specs.Sources.{FindsBytes}
 use Rattle.compose_find.proofs.Followed.{finds_sources}
 
--- at the path of each source that is found there are bytes
+-- there are bytes at the path of each source that is found
 pub finds_bytes : FindsBytes
 finds_bytes files words root sources e source listed = let followed = (finds_sources files words root sources e).followed source listed in rw followed.there refl
 
 -- ---- names
 
--- a name that the first of some sources hasn't, where no two have one
+-- among distinct names, the first differs from the others
 other_name : (source : FoundSource) (sources : List FoundSource) (i : ℕ) (m : FoundSource) → AllByRecursion (λ y. bytes_eq source.name y ≡ false) (map (λ m. m.name) sources) → slice_get sources i ≡ Some m
     → bytes_eq m.name source.name ≡ false
 other_name source [] i m others at = cc
@@ -30,7 +30,7 @@ other_name source (x ∷ sources) zero m others at = let same : x ≡ m = cc in 
     flipped true is other = let clash : true ≡ false = sym ((bytes_eq-Decides source.name m.name).1 (sym ((bytes_eq-Decides m.name source.name).0 is))) ∙ other in cc
 other_name source (x ∷ sources) (suc i) m others at = other_name source sources i m others.1 at
 
--- a name that isn't taken, where there is room
+-- a new name can be added if there is room
 room : (place count : ℕ) → place ≡ count → count < 64 → cond (nat_lt place count) (Some NameTaken) (cond (nat_le 64 count) (Some TooManySources) None) ≡ None
 room place count is few = rw (le-ltb place count (omega arith), lt-leb 64 count few) refl
 

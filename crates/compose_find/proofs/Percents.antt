@@ -1,4 +1,4 @@
--- A text divided at its first percent sign, and what its parts stand for.
+-- A text divided at its first percent sign, and what its parts expand to.
 use Rattle.std.proofs.Common.{◌≡◌, ℕ, suc, ◌+◌, ◌<◌, ◌≤◌, List, [], ◌∷◌, ◌++◌, length, get_or, Bool, true, false, not, cond, refl, sym, ◌∙◌, ap, arith, eqb-true, append_assoc, ap₂, subst, drop, Bor, Some}
 use Rattle.std.specs.Prelude.{◌==◌, Result, Ok, Err, slice_get}
 use Rattle.std.specs.List.{prefix_len}
@@ -10,7 +10,7 @@ use Rattle.compose_find.specs.declared.fault.IncludeFault.{IncludeFault}
 use Rattle.compose_find.specs.declared.fault.IncludeFault.TheVariants.{Text, UnknownPercent, NoLocale, NoHome, TwoFiles, TooManySources, IncludeDepth, NoMemory}
 use Rattle.compose_find.specs.FindGives.{onto, Gives, IsPiece}
 
--- the text ends there, or a percent sign stands there
+-- either the text ends there, or a percent sign is there
 stops : (text : List ℕ) → prefix_len is_plain text < length text → get_or text (prefix_len is_plain text) 0 ≡ 37
 stops [] less = absurd (omega arith)
 stops (b ∷ rest) less = go (b == 37) refl less (stops rest)
@@ -32,9 +32,9 @@ within (b ∷ rest) = go (b == 37) (within rest)
 pub cut_at_percent : (text : List ℕ) → IsUtf8 text → IsCharBoundary text (prefix_len is_plain text)
 cut_at_percent text u = (within text, λ less high. absurd (let at = stops text less in omega (arith, at)))
 
--- ---- what the parts stand for
+-- ---- what the parts expand to
 
--- nothing put before a path leaves it as it is
+-- a path with nothing before it is itself
 pub onto-none : (r : Result (List ℕ) IncludeFault) → onto [] r ≡ r
 onto-none (Ok path) = refl
 onto-none (Err e) = refl
@@ -43,7 +43,7 @@ one_more : (b : ℕ) (xs : List ℕ) (r : Result (List ℕ) IncludeFault) → on
 one_more b xs (Ok path) = refl
 one_more b xs (Err e) = refl
 
--- a text stands for its bytes before the first percent sign and for what the rest stands for
+-- a text expands to its bytes before the first percent sign, followed by what the rest expands to
 pub plain_first : (words : Words) (text : List ℕ) → path_of words text ≡ onto (leading is_plain text) (path_of words (behind is_plain text))
 plain_first words [] = refl
 plain_first words (b ∷ rest) = go (b == 37) refl (plain_first words rest)
@@ -58,7 +58,7 @@ joined : (word : List ℕ) (r : Result (List ℕ) IncludeFault) → r >>= (λ mo
 joined word (Ok path) = refl
 joined word (Err e) = refl
 
--- behind a percent sign
+-- after a percent sign
 pub meaning_first : (words : Words) (rest : List ℕ) (x : List ℕ × List ℕ) → meaning_at words rest ≡ Ok x → path_from words true rest ≡ onto x.0 (path_of words x.1)
 meaning_first words [] x e = cc
 meaning_first words (b ∷ rest) x e = go (meaning words b) e
@@ -67,7 +67,7 @@ meaning_first words (b ∷ rest) x e = go (meaning words b) e
     go (Ok word) e = let same : (word, rest) ≡ x = cc in joined word (path_of words rest) ∙ ap (λ y. onto y.0 (path_of words y.1)) same
     go (Err fault) e = cc
 
--- a percent sign whose meaning has a fault gives that fault to the path
+-- a fault in the meaning of a percent sign is the fault of the path
 pub meaning_faults : (words : Words) (rest : List ℕ) (fault : IncludeFault) → meaning_at words rest ≡ Err fault → path_from words true rest ≡ Err fault
 meaning_faults words [] fault e = cc
 meaning_faults words (b ∷ rest) fault e = go (meaning words b) e
@@ -84,7 +84,7 @@ plain_shorter (b ∷ rest) = go (b == 37) (plain_shorter rest)
     go true h = omega arith
     go false h = omega arith
 
--- where something stands before the first percent sign
+-- if there are bytes before the first percent sign
 pub plain_shortens : (b : ℕ) (rest : List ℕ) → b == 37 ≡ false → length (behind is_plain (b ∷ rest)) < length (b ∷ rest)
 plain_shortens b rest e = rw e (let h = plain_shorter rest in omega (arith, h))
 
@@ -113,13 +113,13 @@ divided : (text : List ℕ) (b : ℕ) (rest : List ℕ) → Some b ≡ slice_get
 divided [] b rest first left = cc
 divided (a ∷ text) b rest first left = cc
 
--- a percent sign and what follows it give a piece, or the fault of its meaning
+-- a percent sign and what follows it are a piece, or have the fault of its meaning
 pub percent_piece : (words : Words) (text : List ℕ) (b : ℕ) (rest : List ℕ) (r : Result (Bor (List ℕ) × Bor (List ℕ)) IncludeFault) → Some b ≡ slice_get text 0 → b ≡ 37 → rest ≡ drop 1 text
     → Gives (λ x. (x.0.now, x.1.now)) r (meaning_at words rest) → IsPiece words text r
 percent_piece words text b rest r first is left gives =
     subst (λ t. IsPiece words t r) (ap (λ k. k ∷ rest) (sym is) ∙ divided text b rest first left) (percent_first words rest r gives)
 
--- the bytes before the first percent sign are a piece that stands for itself
+-- the bytes before the first percent sign are a piece that expands to itself
 pub plain_piece : (words : Words) (text plain rest : List ℕ) → 0 < length text → ((b : ℕ) → Some b ≡ slice_get text 0 → b ≡ 37 → ⊥) → plain ≡ leading is_plain text → rest ≡ behind is_plain text
     → (path_of words text ≡ onto plain (path_of words rest)) × (length rest < length text)
 plain_piece words [] plain rest some other p r = absurd (omega arith)
@@ -135,12 +135,12 @@ onto-append : (xs ys : List ℕ) (r : Result (List ℕ) IncludeFault) → onto x
 onto-append xs ys (Ok path) = ap Ok (sym (append_assoc xs ys path))
 onto-append xs ys (Err e) = refl
 
--- one more piece put behind the path that is expanded leaves what the whole text stands for
+-- one more piece added to the expanded path leaves the expansion of the whole text unchanged
 pub piece_more : (words : Words) (text done : List ℕ) (piece rest all : List ℕ) (path : List ℕ) → path ≡ done ++ piece → path_of words text ≡ onto piece (path_of words rest)
     → onto done (path_of words text) ≡ path_of words all → onto path (path_of words rest) ≡ path_of words all
 piece_more words text done piece rest all path is more before =
     ap (λ p. onto p (path_of words rest)) is ∙ sym (onto-append done piece (path_of words rest)) ∙ ap (onto done) (sym more) ∙ before
 
--- the fault of what is left of a text is that of the whole text
+-- the fault of the rest of a text is that of the whole text
 pub piece_faults : (words : Words) (text done all : List ℕ) (fault : IncludeFault) → path_of words text ≡ Err fault → onto done (path_of words text) ≡ path_of words all → path_of words all ≡ Err fault
 piece_faults words text done all fault e before = sym before ∙ ap (onto done) e

@@ -7,7 +7,7 @@ use Rattle.compose_find.specs.Includes.{Include}
 use Rattle.compose_find.specs.Found.{TriedFile, Stop, looked_at, places, first_place}
 
 module _ (files : List TriedFile) (missing : Stop) (place : List ℕ) (places : List (List ℕ)) where
-  -- a place that is to be looked at first
+  -- a place that has to be looked for first
   pub place_stops : (stop : Stop) → looked_at files place ≡ Err stop → first_place files missing (place ∷ places) ≡ Err stop
   unfolding first_place
   place_stops stop e = rw e refl
@@ -18,14 +18,14 @@ module _ (files : List TriedFile) (missing : Stop) (place : List ℕ) (places : 
   place_taken (Some includes) e some = rw e refl
   place_taken None e some = cc
 
-  -- a place at which there is none is passed
+  -- a place at which there is no file is passed over
   pub place_passed : (found : Option (Bor (List Include))) → looked_at files place ≡ Ok (option_copied found) → is_some found ≡ false
       → first_place files missing (place ∷ places) ≡ first_place files missing places
   unfolding first_place
   place_passed None e none = rw e refl
   place_passed (Some includes) e none = cc
 
--- where none of the places is left, the file is missing
+-- if none of the places is left, the file is missing
 pub no_place : (files : List TriedFile) (missing : Stop) → first_place files missing [] ≡ Err missing
 unfolding first_place
 no_place files missing = refl

@@ -21,14 +21,14 @@ pub search_goes : (files : List TriedFile) (words : Words) (left index : ℕ) (s
 unfolding found_on
 search_goes files words left index sources from more at is = rw (at, is) refl
 
--- a search stops where the includes of its next source do
+-- a search stops if the includes of its next source can't be resolved
 pub search_stops : (files : List TriedFile) (words : Words) (left index : ℕ) (sources : List FoundSource) (from : FoundSource) (stop : Stop) → slice_get sources index ≡ Some from
     → with_includes_of files words from sources ≡ Err stop
     → found_on files words (suc left) index sources ≡ Err stop
 unfolding found_on
 search_stops files words left index sources from stop at is = rw (at, is) refl
 
--- a fault of a part is the fault of the whole, also where `?` gives it on
+-- a fault of a part is the fault of the whole, also if `?` passes it on
 moved : {X Y Z W : Type 0} (view : X → Z) (other : Y → W) (fault : FindFault) (said : Result Z Stop) (whole : Result W Stop) → ((stop : Stop) → said ≡ Err stop → whole ≡ Err stop)
     → FindGives view (Err fault) said → FindGives other (Err fault) whole
 moved view other NoMemory said whole f h = tt
@@ -43,7 +43,7 @@ pub passed : {X Y Z W : Type 0} (view : X → Z) (other : Y → W) (fault : Find
     → FindGives view (Err fault) said → FindGives other result whole
 passed view other fault result said whole is f h = subst (λ r. FindGives other r whole) (sym is) (moved view other fault said whole f h)
 
--- the fault that is made of why the search ends
+-- the fault that is made of the reason why the search ends
 pub stopped : {X Y : Type 0} (view : X → Y) (fault : FindFault) (stop : Stop) (said : Result Y Stop) → IsStop stop fault → said ≡ Err stop → FindGives view (Err fault) said
 stopped view NoMemory stop said is e = tt
 stopped view (Wanted path) stop said is e = e ∙ ap Err is

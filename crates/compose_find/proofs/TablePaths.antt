@@ -6,12 +6,12 @@ use Rattle.std.proofs.lemmas.List.{append_cancel_right, get_or-append-add, get_o
 use Rattle.std.proofs.lemmas.Grind.{get_or_default_zero}
 use Rattle.compose_find.specs.Trees.{IsTableOf}
 
--- what stands before `/Compose` is the tree, a slash and the locale
+-- the part before `/Compose` is the tree, a slash and the locale
 folder_parts : (path folder tree : List ℕ) → path ≡ folder ++ codes "/Compose" → (table : IsTableOf tree path) → folder ≡ tree ++ 47 ∷ table.0
 folder_parts path folder tree is table =
     append_cancel_right folder (tree ++ 47 ∷ table.0) (codes "/Compose") (sym is ∙ table.2)
 
--- where no slash stands there, there is no tree
+-- if there is no slash in it, there is no tree
 pub no_slash_no_tree : (path folder : List ℕ) → path ≡ folder ++ codes "/Compose" → ((i : ℕ) → i < length folder → get_or folder i 0 == 47 ≡ true → ⊥) → (tree : List ℕ) → IsTableOf tree path → ⊥
 no_slash_no_tree path folder is none tree table =
     let parts = folder_parts path folder tree is table in
@@ -20,7 +20,7 @@ no_slash_no_tree path folder is none tree table =
     let slash : get_or folder (length tree + 0) 0 ≡ 47 = ap (λ xs. get_or xs (length tree + 0) 0) parts ∙ get_or-append-add tree (47 ∷ table.0) 0 0 in
     none (length tree + 0) (omega arith) (eq-eqb (get_or folder (length tree + 0) 0) 47 slash)
 
--- where the slash ends it, there is no locale
+-- if it ends with the slash, there is no locale
 pub no_locale_no_tree : (path folder : List ℕ) (at : ℕ) → path ≡ folder ++ codes "/Compose" → at + 1 ≡ length folder → get_or folder at 0 == 47 ≡ true → (tree : List ℕ) → IsTableOf tree path → ⊥
 no_locale_no_tree path folder at is last slash tree table =
     let parts = folder_parts path folder tree is table in
@@ -32,7 +32,7 @@ no_locale_no_tree path folder at is last slash tree table =
     ap₂ (λ xs i. get_or xs i 0) parts end ∙ get_or-append-add tree (47 ∷ table.0) (suc (length table.0 - 1)) 0 in
     table.1.1 (length table.0 - 1) 0 (omega arith) (sym read ∙ eqb-true (get_or folder at 0) 47 slash)
 
--- the tree stands before the last slash, and the locale behind it
+-- the tree comes before the last slash, and the locale after it
 pub tree_there : (path folder : List ℕ) (at : ℕ) → path ≡ folder ++ codes "/Compose" → at < length folder → at + 1 < length folder → get_or folder at 0 == 47 ≡ true
     → ((i : ℕ) → at + 1 ≤ i → i < length folder → get_or folder i 0 == 47 ≡ true → ⊥) → IsTableOf (take at folder) path
 tree_there path folder at is within more slash after = (drop (at + 1) folder, (omega (arith, length-drop (at + 1) folder), free), whole)

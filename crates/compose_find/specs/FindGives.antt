@@ -1,4 +1,4 @@
--- What the calls give, unless memory runs out.
+-- What the calls return, unless memory runs out.
 use Rattle.std.specs.Prelude.{◌≡◌, ◌<◌, ℕ, List, ◌++◌, length, Result, Ok, Err, option_copied, string_bytes}
 use Rattle.std.proofs.Common.{Bor}
 use Rattle.compose_find.specs.Expand.{Words, path_of}
@@ -12,24 +12,24 @@ use Rattle.compose_find.specs.declared.fault.IncludeFault.TheVariants.{NoMemory}
 abbrev pub words : Meanings → Words
 words m = record { system = m.system.now; locale = option_copied m.locale; home = option_copied m.home; root = option_copied m.root }
 
--- the value that is said, or its fault
+-- the specified value, or the specified fault
 abbrev pub Gives : {X Y : Type 0} → (X → Y) → Result X IncludeFault → Result Y IncludeFault → Type 0
 Gives view (Ok x) said = said ≡ Ok (view x)
 Gives view (Err NoMemory) said = Unit {0}
 Gives view (Err e) said = said ≡ Err e
 
--- bytes put before a path
+-- a path with bytes before it
 abbrev pub onto : List ℕ → Result (List ℕ) IncludeFault → Result (List ℕ) IncludeFault
 onto prefix (Ok path) = Ok (prefix ++ path)
 onto prefix (Err e) = Err e
 
--- the text stands for the piece and what the rest stands for, which is shorter; or for the fault
+-- the text expands to the piece, followed by what the rest expands to, and the rest is shorter; or it has this fault
 abbrev pub IsPiece : Words → List ℕ → Result (Bor (List ℕ) × Bor (List ℕ)) IncludeFault → Type 0
 IsPiece words text (Ok x) = (path_of words text ≡ onto x.0.now (path_of words x.1.now)) × (length x.1.now < length text)
 IsPiece words text (Err NoMemory) = Unit {0}
 IsPiece words text (Err e) = path_of words text ≡ Err e
 
--- the fault says why the search ends, unless memory ran out
+-- the fault is the reason why the search ends, unless memory ran out
 abbrev pub IsStop : Stop → FindFault → Type 0
 IsStop stop FindNoMemory = Unit {0}
 IsStop stop (Wanted path) = stop ≡ wanted (string_bytes path)
@@ -37,7 +37,7 @@ IsStop stop (MissingRoot path) = stop ≡ missing_root (string_bytes path)
 IsStop stop (MissingFile from line path) = stop ≡ missing_file (string_bytes from) line (string_bytes path)
 IsStop stop (Include from line fault) = stop ≡ refused (string_bytes from) line fault
 
--- the value that is said, or why there is none
+-- the specified value, or the reason why there is none
 abbrev pub FindGives : {X Y : Type 0} → (X → Y) → Result X FindFault → Result Y Stop → Type 0
 FindGives view (Ok x) said = said ≡ Ok (view x)
 FindGives view (Err FindNoMemory) said = Unit {0}

@@ -1,4 +1,4 @@
--- The search for the files of a table: every file to which an include leads, by the raw text that names it.
+-- The search for the files of a table: every file that an include names, by the raw text of the include.
 use Rattle.std.specs.Prelude.{ℕ, ◌+◌, nat_le, zero, suc, if◌then◌else◌, List, [], ◌∷◌, ◌++◌, length, Option, Some, None, is_some, Result, Ok, Err, unwrap_or, bytes_eq, slice_get}
 use Rattle.std.specs.List.{find, cons_option}
 use Rattle.std.specs.Option.{option_and_then, option_map, option_map_or}
@@ -10,19 +10,19 @@ use Rattle.compose_find.specs.Includes.{Include, includes_of}
 use Rattle.compose_find.specs.declared.fault.IncludeFault.{IncludeFault}
 use Rattle.compose_find.specs.declared.fault.IncludeFault.TheVariants.{TwoFiles, TooManySources, IncludeDepth}
 
--- a path that was looked for: what the file holds, or none where it isn't there
+-- a path that was looked for: the bytes of its file, or none if there is no file
 pub record TriedFile : Type 0 where
   pub path : List ℕ
   pub bytes : Option (List ℕ)
 
--- a source: the raw text that names it, its path, and how many includes lead to it at least
+-- a source: the raw text that names it, its path, and the smallest number of includes that lead from the root to it
 pub record FoundSource : Type 0 where
   pub name : List ℕ
   pub path : List ℕ
   pub depth : ℕ
 
--- why the search ends: a path is to be looked for first, the root isn't there, or of an include on this line of the file at this path
--- the file isn't there, or it leads nowhere
+-- why the search ends: a path has to be looked for first; there is no root; or the include on this line (counted from
+-- 1) of the file at this path has no file, or can't be resolved
 pub data Stop : Type 0 where
   wanted : List ℕ → Stop
   missing_root : List ℕ → Stop
@@ -35,7 +35,7 @@ abbrev pub looked_or : List ℕ → Option TriedFile → Result (Option (List In
 looked_or path None = Err (wanted path)
 looked_or path (Some file) = Ok (option_map includes_of file.bytes)
 
--- the includes of what was found at a path, which is wanted where it was not looked for
+-- the includes of the file at a path, none if there is no file; the path is wanted if it was not looked for
 abbrev pub looked_at : List TriedFile → List ℕ → Result (Option (List Include)) Stop
 looked_at files path = looked_or path (find (λ f. bytes_eq path f.path) files)
 
@@ -53,7 +53,7 @@ includes_at files path = do
 abbrev pub held_at : List TriedFile → List ℕ → Option (List ℕ)
 held_at files path = option_and_then (λ f. f.bytes) (find (λ f. bytes_eq path f.path) files)
 
--- ---- an include, which stands in the file `from`
+-- ---- an include in the file `from`
 
 abbrev pub refusal : FoundSource → Include → IncludeFault → Stop
 refusal from include fault = refused from.path include.line fault
@@ -62,8 +62,8 @@ abbrev pub at_include : {A : Type 0} → FoundSource → Include → Result A In
 at_include from include (Ok x) = Ok x
 at_include from include (Err fault) = Err (refusal from include fault)
 
--- where the file of an include is looked for, in this order: an absolute path below the root, if a root is given; the path as the program opens it; and
--- beside the including file
+-- the places where the file of an include is looked for, in this order: an absolute path below the root, if a root is
+-- given; the path itself; and beside the including file
 abbrev pub places : Option (List ℕ) → List ℕ → List ℕ → List (List ℕ)
 places root from path = cons_option (below_root root path) (path ∷ beside from path ∷ [])
 
@@ -74,11 +74,11 @@ first_place files missing (place ∷ places) = do
   there ← looked_at files place
   if is_some there then Ok place else first_place files missing places
 
--- where the file of an include with this path lies
+-- the path at which the file of an include with this path is found
 abbrev pub located : List TriedFile → Words → FoundSource → Include → List ℕ → Result (List ℕ) Stop
 located files words from include path = first_place files (missing_file from.path include.line path) (places words.root from.path path)
 
--- the path of the file to which an include leads
+-- the path of the file of an include
 abbrev pub leads_to : List TriedFile → Words → FoundSource → Include → Result (List ℕ) Stop
 leads_to files words from include =
     if nat_le max_depth from.depth then Err (refusal from include IncludeDepth) else (do
@@ -87,7 +87,7 @@ leads_to files words from include =
 
 -- ---- the sources
 
--- the sources with the one that an include names, which may be among them already, by the same path
+-- the sources with the one that an include names; it may be among them already, with the same path
 abbrev pub with_source : FoundSource → Include → List ℕ → Option FoundSource → List FoundSource → Result (List FoundSource) Stop
 with_source from include path (Some known) sources = if bytes_eq known.path path then Ok sources else Err (refusal from include TwoFiles)
 with_source from include path None sources =
@@ -112,17 +112,18 @@ with_includes_of files words from sources = do
   includes ← includes_at files from.path
   with_includes files words from includes sources
 
--- the sources with those that the sources from this index on include, one source after another, for so many more sources
+-- the sources with those that the sources from this index on include, one source after another; the number bounds how
+-- many sources are read
 unfoldable pub found_on : List TriedFile → Words → ℕ → ℕ → List FoundSource → Result (List FoundSource) Stop
 found_on files words zero index sources = Ok sources
 found_on files words (suc left) index sources = option_map_or (λ from. do
   more ← with_includes_of files words from sources
   found_on files words left (1 + index) more) (slice_get sources index) (Ok sources)
 
--- every source, the root first, which its path names; a source comes where it is met first
+-- every source, the root first, whose name is its path; the others in the order in which they are first included
 abbrev pub found : List TriedFile → Words → List ℕ → Result (List FoundSource) Stop
 found files words root = found_on files words max_sources 0 (record { name = root; path = root; depth = 0 } ∷ [])
 
--- a source with what its file holds
+-- a source with the bytes of its file
 abbrev pub held : List TriedFile → FoundSource → Source
 held files source = record { name = source.name; bytes = unwrap_or (held_at files source.path) [] }

@@ -1,4 +1,4 @@
--- The files `compose.dir` and `locale.alias` of a system's folder of locales. Each line puts a word beside another one.
+-- The files `compose.dir` and `locale.alias` in the folder of a system's locales. Each line has two words.
 use Rattle.std.specs.Prelude.{ℕ, Bool, not, ◌&&◌, ◌||◌, ◌==◌, if◌then◌else◌, List, [], ◌∷◌, length, Option, Some, None, unwrap_or, bytes_eq}
 use Rattle.std.specs.List.{filter_map, find}
 use Rattle.std.specs.Option.{option_map, option_map_or}
@@ -11,7 +11,7 @@ use Rattle.compose_find.specs.Expand.{in_folder}
 abbrev pub is_word_byte : ℕ → Bool
 is_word_byte b = not (is_blank b)
 
--- nor a colon (code 58), which ends the left word
+-- any byte but a blank or a colon (code 58), which ends the left word
 abbrev pub is_left_byte : ℕ → Bool
 is_left_byte b = is_word_byte b && not (b == 58)
 
@@ -25,11 +25,12 @@ past_colon (b ∷ bytes) = if b == 58 then bytes else b ∷ bytes
 abbrev pub left_word : List ℕ → List ℕ
 left_word line = leading is_left_byte (skip_blanks line)
 
--- behind the left word come perhaps a colon, and perhaps blanks
+-- after the left word there may be a colon, and then blanks
 abbrev pub right_word : List ℕ → List ℕ
 right_word line = leading is_word_byte (skip_blanks (past_colon (behind is_left_byte (skip_blanks line))))
 
--- the two words of a line, `LEFT: RIGHT` or `LEFT RIGHT`; what follows them counts for nothing. A comment (code 35) has none
+-- the two words of a line, `LEFT: RIGHT` or `LEFT RIGHT`; the rest of the line is ignored. A comment (it begins with
+-- code 35) has none
 abbrev pub pair_of : List ℕ → Option (List ℕ × List ℕ)
 pair_of line =
     if length (left_word line) == 0 || length (right_word line) == 0 || begins (λ b. b == 35) (left_word line) then None else Some (left_word line, right_word line)
@@ -45,11 +46,11 @@ compose_dir_entry bytes locale = option_map (λ pair. pair.0) (find (λ pair. by
 abbrev pub locale_alias : List ℕ → List ℕ → Option (List ℕ)
 locale_alias bytes alias = option_map (λ pair. pair.1) (find (λ pair. bytes_eq pair.0 alias) (pairs bytes))
 
--- the locale for which another one stands, if it is an alias
+-- the locale of which this one is an alias, or else the locale itself
 abbrev pub aliased : List ℕ → List ℕ → List ℕ
 aliased aliases locale = unwrap_or (locale_alias aliases locale) locale
 
--- the path of an entry, in the folder of these files; one that is not UTF-8 is none
+-- the path of an entry, in the folder of these files, if the entry is UTF-8
 abbrev pub entry_path : List ℕ → List ℕ → Option (List ℕ)
 entry_path folder entry = if is_utf8 entry then Some (in_folder folder entry) else None
 

@@ -1,4 +1,4 @@
-//! Why an include leads to no file.
+//! Why an include can't be resolved to a path.
 ghost use Rattle.std.specs.Prelude.{◌≡◌};
 ghost use Rattle.compose_find.specs.declared.fault.IncludeFault.TheVariants.{NoMemory};
 
@@ -6,31 +6,31 @@ use compose_lex::LexFault;
 use std::alloc::{AllocError, AllocFailed};
 use thiserror::Error;
 
-/// Why an include leads to no file.
+/// Why an include can't be resolved to a file.
 #[derive(Debug, PartialEq, Eq, Drop, Error)]
 pub enum IncludeFault {
-    /// The string of the include is no text.
+    /// The string of the include is not a valid text, for the reason in `fault`.
     #[error("1 Text: {fault}")]
     Text { fault: LexFault },
-    /// A percent sign with none of `%`, `S`, `L` and `H` behind it.
+    /// A percent sign that is not followed by `%`, `S`, `L` or `H`.
     #[error("2 UnknownPercent")]
     UnknownPercent,
-    /// `%L`, where no table of a locale is known.
+    /// `%L`, but no table of a locale is known.
     #[error("3 NoLocale")]
     NoLocale,
-    /// `%H`, where no home folder is known.
+    /// `%H`, but no home folder is known.
     #[error("4 NoHome")]
     NoHome,
-    /// The same raw text led to another file before.
+    /// The same raw text was resolved to another file before.
     #[error("5 TwoFiles")]
     TwoFiles,
-    /// A 65th source.
+    /// The include would add a 65th source.
     #[error("6 TooManySources")]
     TooManySources,
-    /// An include in a file to which eight includes lead at least.
+    /// The include is in a file that is eight includes below the root already.
     #[error("7 IncludeDepth")]
     IncludeDepth,
-    /// Memory was refused in this call.
+    /// A memory allocation failed.
     #[error("8 NoMemory")]
     NoMemory,
 }

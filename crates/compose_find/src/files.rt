@@ -1,4 +1,4 @@
-//! Files that were looked for, what they hold and what they include.
+//! Files that were looked for: their bytes and their includes.
 ghost use Rattle.std.specs.Prelude.{◌≡◌, ◌++◌, ◌∷◌, [], OnOk, OnErr, IfOk, option_copied, bytes_eq, string_bytes};
 ghost use Rattle.std.specs.List.{find};
 ghost use Rattle.std.specs.Option.{option_map};
@@ -11,7 +11,7 @@ use crate::includes::{Include, includes_of};
 use std::alloc::{AllocError, Global};
 use std::marker::Model;
 
-/// A file that was read: its bytes, and the includes in them, which are looked for once.
+/// A file that was read: its bytes, and the includes in them, which are searched for once.
 #[derive(Drop)]
 struct ReadFile {
     bytes: Vec<u8>,
@@ -29,7 +29,7 @@ impl Model for ReadFile {
     ghost invariant = { λ f. f.includes.items ≡ includes_of f.bytes.items };
 }
 
-/// A path that was looked for: the file, if it is there.
+/// A path that was looked for, and its file, if there is one.
 #[derive(Drop)]
 struct TriedFile {
     path: String,
@@ -45,7 +45,7 @@ impl Model for TriedFile {
     ghost view = { λ f. record { path = string_bytes f.path; bytes = f.file } };
 }
 
-/// The files that were looked for, and what each holds.
+/// The files that were looked for, each with its bytes.
 #[derive(Drop)]
 pub struct Files {
     files: Vec<TriedFile>,
@@ -61,7 +61,7 @@ impl Model for Files {
 }
 
 impl Files {
-    /// No files. It takes no memory.
+    /// Returns an empty list of files. It allocates nothing.
     pub fn new(alloc: Global) -> Files
         ensures { result ≡ [] }
     {
@@ -70,8 +70,11 @@ impl Files {
         }
     }
 
-    /// Adds what was found at a path: the bytes of the file, which are kept, or none where it isn't there. A refusal changes nothing, and lets the
-    /// bytes go. O(bytes).
+    /// Adds what was found at a path: the bytes of the file, which are kept, or `None` if there is
+    /// no file. O(bytes).
+    ///
+    /// Errors: `AllocError` if memory runs out; the list is unchanged then, and the bytes are
+    /// freed.
     pub fn add(
         &mut self,
         alloc: Global,
@@ -96,14 +99,15 @@ impl Files {
         Ok(())
     }
 
-    /// What the file at this path holds, if it was found there. O(f) in the files.
+    /// Returns the bytes of the file at this path, if one was found there. O(f) in the files.
     pub(crate) fn held_at(&self, path: &str) -> Option<&[u8]>
         ensures { option_copied result ≡ found.held_at self.now path.now }
     {
         self.looked(path)?.bytes()
     }
 
-    /// The includes of what was found at this path, if a file is there.
+    /// Returns the includes of the file at this path, or `None` if there is no file. Errors:
+    /// `Wanted` if the path was not looked for yet, or `NoMemory`.
     pub(crate) fn looked_at(
         &self,
         alloc: Global,
@@ -117,7 +121,8 @@ impl Files {
         }
     }
 
-    /// The includes of the file at this path.
+    /// Returns the includes of the file at this path. Errors: `Wanted` if the path was not looked
+    /// for yet, `MissingRoot` if there is no file, or `NoMemory`.
     pub(crate) fn includes_at(&self, alloc: Global, path: &str) -> Result<&[Include], FindFault>
         ensures { FindGives (λ i. i.now) result (found.includes_at self.now path.now) }
     {
@@ -127,7 +132,7 @@ impl Files {
         }
     }
 
-    /// The file that was looked for at this path.
+    /// Returns the entry of this path, if it was looked for.
     fn looked(&self, path: &str) -> Option<&TriedFile>
         ensures { option_copied result ≡ find (λ f. bytes_eq path.now f.path) self.now }
     {
@@ -136,7 +141,7 @@ impl Files {
 }
 
 impl ReadFile {
-    /// A file with these bytes.
+    /// Makes a file of these bytes.
     fn new(alloc: Global, bytes: Vec<u8>) -> Result<ReadFile, AllocError>
         ensures { IfOk result (λ file. file ≡ bytes.items) }
     {
@@ -144,14 +149,14 @@ impl ReadFile {
         Ok(ReadFile { bytes, includes })
     }
 
-    /// Its bytes.
+    /// Returns its bytes.
     fn bytes(&self) -> &[u8]
         ensures { result.now ≡ self.now }
     {
         &self.bytes
     }
 
-    /// Its includes.
+    /// Returns its includes.
     fn includes(&self) -> &[Include]
         ensures { result.now ≡ includes_of self.now }
     {
@@ -160,14 +165,14 @@ impl ReadFile {
 }
 
 impl TriedFile {
-    /// The bytes of the file, if it is there.
+    /// Returns the bytes of the file, if there is one.
     fn bytes(&self) -> Option<&[u8]>
         ensures { option_copied result ≡ self.now.bytes }
     {
         Some(self.file.as_ref()?.bytes())
     }
 
-    /// The includes of the file, if it is there.
+    /// Returns the includes of the file, if there is one.
     fn includes(&self) -> Option<&[Include]>
         ensures { option_copied result ≡ option_map includes_of self.now.bytes }
     {
@@ -175,7 +180,7 @@ impl TriedFile {
     }
 }
 
-/// Whether this is the file's path.
+/// Returns whether this is the path of the file.
 fn has_path(file: &TriedFile, path: &str) -> bool
     ensures { result ≡ bytes_eq path.now file.now.path }
 {

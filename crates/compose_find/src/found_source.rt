@@ -1,4 +1,4 @@
-//! The sources that the search found, and why it ends.
+//! The sources that the search found, and why a search fails.
 ghost use Rattle.std.specs.Prelude.{◌≡◌, IfOk, option_copied, bytes_eq, string_bytes};
 ghost use Rattle.std.specs.List.{find};
 ghost use Rattle.compose_find.specs.Found as found;
@@ -11,14 +11,14 @@ use std::alloc::{AllocError, AllocFailed, Global};
 use std::marker::Model;
 use thiserror::Error;
 
-/// A source of a table.
+/// A source of a table: a file of it, under the name by which it is included.
 #[derive(Debug, Drop)]
 pub struct FoundSource {
-    /// The raw text by which includes name it; of the root its path.
+    /// The raw text by which includes name it; for the root, its path.
     pub name: String,
     /// The path of its file.
     pub path: String,
-    /// How many includes lead to it at least.
+    /// The smallest number of includes that lead from the root to it, 0 for the root.
     pub depth: usize,
 }
 
@@ -37,7 +37,7 @@ impl Model for FoundSource {
 }
 
 impl FoundSource {
-    /// A copy.
+    /// Returns a copy.
     pub(crate) fn copy(&self, alloc: Global) -> Result<FoundSource, AllocError>
         ensures { IfOk result (λ m. m ≡ self.now) }
     {
@@ -49,35 +49,37 @@ impl FoundSource {
     }
 }
 
-/// Why the search ends without all sources.
+/// Why the search didn't find all sources.
 #[derive(Debug, Drop, Error)]
 pub enum FindFault {
-    /// This path is to be looked for first.
+    /// The path `path` has to be looked for first.
     #[error("1 Wanted path={path}")]
     Wanted {
         path: String,
     },
-    /// The root isn't there.
+    /// There is no file at the path `path` of the root.
     #[error("2 MissingRoot path={path}")]
     MissingRoot {
         path: String,
     },
-    /// No file is there to which an include leads: not at its path, nor, by an absolute path, below the root that is given, nor, by a relative
-    /// path, beside the including file. The include stands on this line, from 1, of the file at the path `from`.
+    /// There is no file for an include on line `line`, counted from 1, of the file at the path
+    /// `from`: neither at its path `path`, nor below the given root if the path is absolute, nor
+    /// beside the including file if it is relative.
     #[error("3 MissingFile from={from} line={line} path={path}")]
     MissingFile {
         from: String,
         line: usize,
         path: String,
     },
-    /// The include on this line of the file at the path `from` leads nowhere.
+    /// The include on line `line`, counted from 1, of the file at the path `from` can't be
+    /// resolved, for the reason in `fault`.
     #[error("4 Include from={from} line={line}: {fault}")]
     Include {
         from: String,
         line: usize,
         fault: IncludeFault,
     },
-    /// Memory was refused in this call.
+    /// A memory allocation failed.
     #[error("5 NoMemory")]
     NoMemory,
 }
@@ -98,7 +100,7 @@ impl<T: Drop> From<AllocFailed<T>> for FindFault {
     }
 }
 
-/// That a path is to be looked for first.
+/// Makes the fault that a path has to be looked for first.
 pub(crate) fn wanted(alloc: Global, path: &str) -> FindFault
     ensures { IsStop (found.wanted path.now) result }
 {
@@ -108,7 +110,7 @@ pub(crate) fn wanted(alloc: Global, path: &str) -> FindFault
     }
 }
 
-/// That there is no file at the root's path.
+/// Makes the fault that there is no file at the root's path.
 pub(crate) fn missing_root(alloc: Global, path: &str) -> FindFault
     ensures { IsStop (found.missing_root path.now) result }
 {
@@ -118,7 +120,7 @@ pub(crate) fn missing_root(alloc: Global, path: &str) -> FindFault
     }
 }
 
-/// That the file isn't there to which an include of this source leads.
+/// Makes the fault that there is no file for an include of this source.
 pub(crate) fn missing_file(
     alloc: Global,
     from: &FoundSource,
@@ -138,7 +140,7 @@ pub(crate) fn missing_file(
     }
 }
 
-/// That an include of this source leads nowhere.
+/// Makes the fault that an include of this source can't be resolved.
 pub(crate) fn refused(
     alloc: Global,
     from: &FoundSource,
@@ -157,14 +159,14 @@ pub(crate) fn refused(
     }
 }
 
-/// The source with this name, if it was met.
+/// Returns the source with this name, if there is one.
 pub(crate) fn known<'m>(sources: &'m [FoundSource], name: &str) -> Option<&'m FoundSource>
     ensures { option_copied result ≡ find (λ m. bytes_eq name.now m.name) sources.now }
 {
     sources.iter().find(|source| has_name(source, name))
 }
 
-/// Whether this is the source's name.
+/// Returns whether this is the name of the source.
 fn has_name(source: &FoundSource, name: &str) -> bool
     ensures { result ≡ bytes_eq name.now source.now.name }
 {

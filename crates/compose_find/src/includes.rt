@@ -15,9 +15,9 @@ use std::marker::Model;
 /// An include of a source.
 #[derive(Debug, Drop)]
 pub struct Include {
-    /// The number of its line, from 1.
+    /// The number of its line, counted from 1.
     pub line: usize,
-    /// What stands between the quotes of its string, escapes and all.
+    /// The text between the quotes of its string, with its escapes.
     pub raw: String,
 }
 
@@ -30,8 +30,11 @@ impl Model for Include {
     ghost view = { λ i. record { line = i.line; raw = string_bytes i.raw } };
 }
 
-/// The includes of a source in order, as reading finds them: a line that is not UTF-8 or has a fault is none. Takes memory for the includes
-/// alone. O(bytes): a line that begins with another word costs only the search for its end and its blanks.
+/// Returns the includes of a source in order, as reading a table finds them; a line that is not
+/// UTF-8 or is faulty is no include. Takes memory for the includes alone. O(bytes): for a line that
+/// begins with another word only its end and its blanks are searched for.
+///
+/// Errors: `AllocError` if memory runs out.
 pub fn includes_of(alloc: Global, source: &[u8]) -> Result<Vec<Include>, AllocError>
     ensures { IfOk result (λ found. found.items ≡ includes.includes_of source.now) }
 {
@@ -51,14 +54,15 @@ pub fn includes_of(alloc: Global, source: &[u8]) -> Result<Vec<Include>, AllocEr
     Ok(found)
 }
 
-/// The bytes without a UTF-8 byte order mark at their beginning.
+/// Returns the bytes without a UTF-8 byte order mark at their beginning.
 fn without_mark(bytes: &[u8]) -> &[u8]
     ensures { result.now ≡ without_mark bytes.now }
 {
     bytes.strip_prefix(&[0xef, 0xbb, 0xbf]).unwrap_or(bytes)
 }
 
-/// The raw text of the line's include, if it is one. O(bytes), and O(blanks) of a line that begins with another word.
+/// Returns the raw text of the line's include, if it is one. O(bytes), or O(blanks) for a line that
+/// begins with another word.
 fn raw_include(line: &[u8]) -> Option<&str>
     ensures { option_copied result ≡ raw_include line.now }
 {
@@ -75,7 +79,7 @@ fn raw_include(line: &[u8]) -> Option<&str>
     }
 }
 
-/// Whether the line begins with the word `include`, after blanks.
+/// Returns whether the line begins with the word `include`, after blanks.
 fn begins_include(line: &[u8]) -> bool
     ensures { result ≡ starts_with nat_eq (skip_blanks line.now) (codes "include") }
 {

@@ -1,13 +1,15 @@
-//! What the search finds.
+//! Laws of the search for sources.
 ghost use Rattle.compose_find.specs.Sources.{FindsSources, FindsBytes};
 
-/// Where the search succeeds, the root is the first source, each include of each source leads to a source, which lies at the first of its places
-/// at which there is a file, each source but the root is included by one before it, no two sources have one name, and there are at most 64.
+/// If the search succeeds, then the root is the first source; each include of each source leads to
+/// a source, at the first of its places that has a file; each source but the root is included by
+/// one before it; no two sources have the same name; and there are at most 64.
 pub fn law_found()
     ensures { FindsSources }
 {}
 
-/// Where the search succeeds, there are bytes at the path of each source, so that none is given bytes of no file.
+/// If the search succeeds, then a file was read at the path of each source: no source gets its
+/// bytes from nowhere.
 pub fn law_held()
     ensures { FindsBytes }
 {}

@@ -1,9 +1,12 @@
-//! Where the files of a Compose file lie on a system.
+//! Finds the files of a Compose file on a system.
 //!
-//! [`find_sources`] follows includes over the files that were looked for: it gives every source by the raw text that names it, with its path, or
-//! the path that is to be looked for next. What was found there is added to [`Files`], which keeps the bytes; once no path is wanted, [`find_table`]
-//! gives the sources with the very bytes in which the includes were found, so that no file is read twice. An include's text leads to a path by
-//! [`expand`], where `%S`, `%L` and `%H` stand for [`Meanings`], `%L` for what [`locale_file`] gives.
+//! [`find_sources`] follows includes over the files that were looked for. It returns every source,
+//! named by the raw text of its include, with its path; or it reports the path that has to be
+//! looked for next. Add what is found there to [`Files`], which keeps the bytes, and search again.
+//! Once no path is wanted, [`find_table`] returns the sources with the very bytes in which the
+//! includes were found, so that no file is read twice. [`expand`] turns the text of an include into
+//! a path: `%S`, `%L` and `%H` are replaced by [`Meanings`], and [`locale_file`] returns the path
+//! for `%L`.
 //!
 //! ```text
 //! root:  include "%L"      # %L  /usr/share/X11/locale/en_US.UTF-8/Compose

@@ -1,4 +1,4 @@
-//! The files `compose.dir` and `locale.alias`, whose lines put a file or a locale beside another locale.
+//! The files `compose.dir` and `locale.alias`: each line maps a file or an alias to a locale.
 ghost use Rattle.std.specs.Prelude.{◌≡◌, Some, None, option_copied, string_bytes, MatchOption, IfOk};
 ghost use Rattle.std.specs.Option.{option_map};
 ghost use Rattle.compose_text.specs.Bytes.{leading, behind};
@@ -50,8 +50,11 @@ impl ByteClass for LeftByte {
     }
 }
 
-/// The path of the table of a locale, for `%L`: the file that `compose.dir` lists for it, in this folder. A locale that `locale.alias`
-/// lists as an alias stands for another one. O(bytes).
+/// Returns the path of the table of a locale, for `%L`: the file that `compose.dir` lists for it,
+/// in this folder. If `locale.alias` lists the locale as an alias, its target is looked up instead.
+/// `None` if no file is listed, or its name is not UTF-8. O(bytes).
+///
+/// Errors: `AllocError` if memory runs out.
 pub fn locale_file(
     alloc: Global,
     folder: &str,
@@ -70,14 +73,14 @@ pub fn locale_file(
     entry_path(alloc, folder, entry)
 }
 
-/// The locale for which another one stands, if it is an alias.
+/// Returns the locale of which this one is an alias, or else the locale itself.
 fn aliased<'a>(aliases: &'a [u8], locale: &'a [u8]) -> &'a [u8]
     ensures { result.now ≡ locales.aliased aliases.now locale.now }
 {
     locale_alias(aliases, locale).unwrap_or(locale)
 }
 
-/// The path of an entry of `compose.dir`, if it is UTF-8.
+/// Returns the path of an entry of `compose.dir`, if it is UTF-8.
 fn entry_path(alloc: Global, folder: &str, entry: &[u8]) -> Result<Option<String>, AllocError>
     ensures { IfOk result
         (λ path. option_map string_bytes path ≡ locales.entry_path folder.now entry.now) }
@@ -88,8 +91,9 @@ fn entry_path(alloc: Global, folder: &str, entry: &[u8]) -> Result<Option<String
     }
 }
 
-/// The file that `compose.dir` lists for the locale: the left word of the first line whose right word is the locale. A line is
-/// `FILE: LOCALE` or `FILE LOCALE`; comments and lines without two words list nothing. O(bytes).
+/// Returns the file that `compose.dir` lists for the locale: the left word of the first line whose
+/// right word is the locale. A line is `FILE: LOCALE` or `FILE LOCALE`; comments and lines without
+/// two words list nothing. O(bytes).
 fn compose_dir_entry<'a>(compose_dir: &'a [u8], locale: &[u8]) -> Option<&'a [u8]>
     ensures { option_copied result ≡ locales.compose_dir_entry compose_dir.now locale.now }
 {
@@ -105,8 +109,9 @@ fn compose_dir_entry<'a>(compose_dir: &'a [u8], locale: &[u8]) -> Option<&'a [u8
     None
 }
 
-/// The locale that `locale.alias` puts in the place of the alias: the right word of the first line whose left word is the alias. A
-/// line is `ALIAS: LOCALE` or `ALIAS LOCALE`; comments and lines without two words list nothing. O(bytes).
+/// Returns the locale for an alias in `locale.alias`: the right word of the first line whose left
+/// word is the alias. A line is `ALIAS: LOCALE` or `ALIAS LOCALE`; comments and lines without two
+/// words list nothing. O(bytes).
 fn locale_alias<'a>(locale_alias: &'a [u8], alias: &[u8]) -> Option<&'a [u8]>
     ensures { option_copied result ≡ locales.locale_alias locale_alias.now alias.now }
 {
@@ -122,7 +127,7 @@ fn locale_alias<'a>(locale_alias: &'a [u8], alias: &[u8]) -> Option<&'a [u8]>
     None
 }
 
-/// The two words of a line, if it has two and is no comment.
+/// Returns the two words of a line, if it has two and is no comment.
 fn pair_of(line: &[u8]) -> Option<(&[u8], &[u8])>
     ensures { MatchOption result (locales.pair_of line.now ≡ None)
         (λ pair. locales.pair_of line.now ≡ Some (pair.0.now, pair.1.now)) }
@@ -135,14 +140,14 @@ fn pair_of(line: &[u8]) -> Option<(&[u8], &[u8])>
     Some((left, right))
 }
 
-/// What follows the blanks at the beginning.
+/// Skips the blanks at the beginning.
 fn skip_blanks(bytes: &[u8]) -> &[u8]
     ensures { result.now ≡ locales.skip_blanks bytes.now }
 {
     &bytes[blank_len(bytes)..]
 }
 
-/// The bytes of the class that come first, and what follows them.
+/// Splits off the longest prefix whose bytes are all of the class.
 fn split_prefix<C: ByteClass>(bytes: &[u8]) -> (&[u8], &[u8])
     ensures leading { result.0.now ≡ leading C.has bytes.now }
     ensures rest { result.1.now ≡ behind C.has bytes.now }
@@ -151,7 +156,7 @@ fn split_prefix<C: ByteClass>(bytes: &[u8]) -> (&[u8], &[u8])
     (&bytes[..len], &bytes[len..])
 }
 
-/// What follows the colon at the beginning, if one stands there.
+/// Skips one colon at the beginning, if there is one.
 fn past_colon(bytes: &[u8]) -> &[u8]
     ensures { result.now ≡ locales.past_colon bytes.now }
 {

@@ -1,4 +1,4 @@
-//! The paths to which an include may lead.
+//! The paths that an include may name.
 ghost use Rattle.std.specs.Prelude.{◌≡◌, IfOk, option_copied, string_bytes};
 ghost use Rattle.std.specs.Option.{option_map};
 ghost use Rattle.compose_find.specs.Expand as paths;
@@ -9,7 +9,7 @@ use crate::percent::{Meanings, expand};
 use compose_lex::{LexFault, unescape};
 use std::alloc::{AllocError, Global};
 
-/// The path that the raw text of an include stands for.
+/// Returns the path for the raw text of an include.
 pub(crate) fn include_path(
     alloc: Global,
     meanings: Meanings<'_>,
@@ -24,7 +24,10 @@ pub(crate) fn include_path(
     }
 }
 
-/// The path, taken from the folder of the file `from` where it is a relative one; an absolute one as it is. O(bytes).
+/// Returns a relative path as seen from the folder of the file `from`, and an absolute one as it
+/// is. O(bytes).
+///
+/// Errors: `AllocError` if memory runs out.
 pub fn beside(alloc: Global, from: &str, path: &str) -> Result<String, AllocError>
     ensures { IfOk result (λ beside. string_bytes beside ≡ paths.beside from.now path.now) }
 {
@@ -36,7 +39,7 @@ pub fn beside(alloc: Global, from: &str, path: &str) -> Result<String, AllocErro
     Ok(beside)
 }
 
-/// The path, taken from this folder where it is a relative one.
+/// Returns a relative path as seen from this folder, and an absolute one as it is.
 pub(crate) fn in_folder(alloc: Global, folder: &str, path: &str) -> Result<String, AllocError>
     ensures { IfOk result (λ whole. string_bytes whole ≡ paths.in_folder folder.now path.now) }
 {
@@ -49,7 +52,7 @@ pub(crate) fn in_folder(alloc: Global, folder: &str, path: &str) -> Result<Strin
     Ok(whole)
 }
 
-/// An absolute path, taken below the root, if a root is given.
+/// Returns an absolute path below the root, if a root is given.
 pub(crate) fn below_root(
     alloc: Global,
     root: Option<&str>,
@@ -70,7 +73,7 @@ pub(crate) fn below_root(
     Ok(Some(place))
 }
 
-/// What stands up to the last slash of a path, and with it.
+/// Returns the path up to its last slash, with the slash.
 fn folder_of(path: &str) -> &str
     ensures { result.now ≡ paths.folder_of path.now }
 {

@@ -1,4 +1,4 @@
-//! The path that the text of an include stands for.
+//! The path to which the text of an include expands.
 ghost use Rattle.std.specs.Prelude.{◌≡◌, ◌<◌, length, string_bytes, option_copied};
 ghost use Rattle.std.specs.List.{prefix_len};
 ghost use Rattle.compose_text.specs.Bytes.{leading, behind};
@@ -10,16 +10,16 @@ use compose_text::{ByteClass, leading_len};
 use std::alloc::Global;
 use std::simd::prelude::*;
 
-/// What `%S`, `%L` and `%H` stand for, and where absolute paths are looked for.
+/// The values of `%S`, `%L` and `%H`, and the folder below which absolute paths are looked for.
 #[derive(Clone, Copy, Debug, Drop)]
 pub struct Meanings<'a> {
-    /// The folder of the system's tables, for `%S`.
+    /// `%S`: the folder of the system's tables.
     pub system: &'a str,
-    /// The table of the locale, for `%L`.
+    /// `%L`: the path of the table of the locale, if known.
     pub locale: Option<&'a str>,
-    /// The user's home folder, for `%H`.
+    /// `%H`: the user's home folder, if known.
     pub home: Option<&'a str>,
-    /// The folder below which an absolute path is looked for first.
+    /// The folder below which an absolute path is looked for first, if there is one.
     pub root: Option<&'a str>,
 }
 
@@ -40,8 +40,11 @@ impl ByteClass for Plain {
     }
 }
 
-/// The path that the text of an include stands for: `%S`, `%L` and `%H` are replaced by what they mean, and `%%` by a percent sign; the leftmost
-/// bad percent sign is the fault. O(bytes of the text and of the path).
+/// Returns the path to which the text of an include expands: `%S`, `%L` and `%H` are replaced by
+/// their values, and `%%` by a percent sign. O(bytes of the text and of the path).
+///
+/// Errors: that of the leftmost bad percent sign (`UnknownPercent`, `NoLocale` or `NoHome`), or
+/// `NoMemory`.
 pub fn expand(alloc: Global, meanings: Meanings<'_>, text: &str) -> Result<String, IncludeFault>
     ensures { Gives string_bytes result (path_of (words meanings.entry) text.now) }
 {
@@ -55,7 +58,8 @@ pub fn expand(alloc: Global, meanings: Meanings<'_>, text: &str) -> Result<Strin
     Ok(path)
 }
 
-/// What the beginning of the text stands for, up to its first percent sign or by the percent sign there; and what follows.
+/// Splits off the first piece of the text, with its value: the bytes before the first percent sign,
+/// or else the percent sign and the byte after it. Returns the value and the rest.
 fn piece_at<'a>(meanings: Meanings<'a>, text: &'a str) -> Result<(&'a str, &'a str), IncludeFault>
     requires { 0 < length text.now }
     ensures { IsPiece (words meanings.entry) text.now result }
@@ -66,7 +70,7 @@ fn piece_at<'a>(meanings: Meanings<'a>, text: &'a str) -> Result<(&'a str, &'a s
     }
 }
 
-/// What stands before the first percent sign, and what follows from there.
+/// Splits the text before its first percent sign.
 fn split_plain(text: &str) -> (&str, &str)
     ensures plain { result.0.now ≡ leading is_plain text.now }
     ensures rest { result.1.now ≡ behind is_plain text.now }
@@ -75,7 +79,7 @@ fn split_plain(text: &str) -> (&str, &str)
     (&text[..len], &text[len..])
 }
 
-/// What a percent sign and the byte behind it stand for; and what follows.
+/// Returns the value of a percent sign and the byte after it, and the rest of the text.
 fn meaning_at<'a>(
     meanings: Meanings<'a>,
     behind: &'a str,

@@ -1,4 +1,4 @@
-//! The search for the files of a table, includes followed.
+//! The search for the files of a table, following includes.
 ghost use Rattle.std.specs.Prelude.{◌≡◌, ◌≤◌, ◌<◌, length, string_bytes, bytes_eq, slice_get, OnOk, Ok, Some, [], ◌∷◌};
 ghost use Rattle.std.specs.List.{find};
 ghost use Rattle.compose_find.specs.Found as found;
@@ -13,14 +13,21 @@ use crate::{IncludeFault, Meanings};
 use compose_read::Sources;
 use std::alloc::Global;
 
-/// The most includes that lead to a source.
+/// The largest depth of a source: the number of includes from the root to it.
 const MAX_DEPTH: usize = 8;
 
-/// Every source of the table whose root stands at this path, the root first: each raw text of an include that is met, once, with the path to
-/// which it leads. The file of an include is looked for, by an absolute path, below the root of these meanings, if there is one; then at its path;
-/// then beside the including file. A path that was not looked for yet is the fault `Wanted`: add what is found there, and search again. Beyond that
-/// the first include that leads nowhere is the fault, in the order of the search: one source after another, line by line. O(s + i * s) in the
-/// sources and includes, beside the copies of their texts and the look-ups of paths, O(f) in the files.
+/// Finds every source of the table whose root is at this path, the root first: one for each
+/// different raw text of an include, with its path.
+///
+/// The file of an include is looked for in three places: an absolute path first below the root
+/// folder of these meanings, if there is one; then the path itself; then beside the including file.
+/// O(s + i * s) in the sources and includes; in addition the copies of their texts, and the
+/// look-ups of paths, O(f) in the files.
+///
+/// Errors: `Wanted` if a path was not looked for yet: add what is found there, and search again.
+/// Otherwise the error is that of the first include that can't be resolved, in the order of the
+/// search (one source after another, line by line): `Include`, or `MissingFile` if its file is not
+/// found. `MissingRoot` if there is no file at the root's path, and `NoMemory` if memory runs out.
 pub fn find_sources(
     alloc: Global,
     files: &Files,
@@ -40,7 +47,7 @@ pub fn find_sources(
     Ok(sources)
 }
 
-/// The root, which its path names.
+/// Returns the root; its name is its path.
 fn root_source(alloc: Global, root: &str) -> Result<FoundSource, FindFault>
     ensures { FindGives (λ m. m) result
         (Ok (record { name = root.now; path = root.now; depth = 0 })) }
@@ -93,7 +100,7 @@ fn add_includes(
     Ok(())
 }
 
-/// Adds the source to which an include leads, if it wasn't met.
+/// Adds the source that an include names, unless it is known already.
 fn add_include(
     alloc: Global,
     files: &Files,
@@ -112,7 +119,7 @@ fn add_include(
     add_source(alloc, from, include, path, sources)
 }
 
-/// Adds the source at this path, if it wasn't met.
+/// Adds the source at this path, unless it is known already.
 fn add_source(
     alloc: Global,
     from: &FoundSource,
@@ -144,7 +151,7 @@ fn add_source(
     Ok(())
 }
 
-/// The path of the file to which an include leads.
+/// Returns the path of the file of an include.
 fn lead(
     alloc: Global,
     files: &Files,
@@ -166,7 +173,8 @@ fn lead(
     }
 }
 
-/// Where the file of an include with this path lies: by an absolute path below the root, if a root is given and a file is there.
+/// Returns the first place at which an include with this path has a file: for an absolute path this
+/// may be below the root, if a root is given.
 fn located(
     alloc: Global,
     files: &Files,
@@ -187,7 +195,7 @@ fn located(
     located_here(alloc, files, from, include, path)
 }
 
-/// The path as the program opens it, else beside the including file.
+/// Returns the path itself if a file is there, or else the one beside the including file.
 fn located_here(
     alloc: Global,
     files: &Files,

@@ -1,4 +1,4 @@
-//! The sources of a table, with what their files hold.
+//! The sources of a table, with the bytes of their files.
 ghost use Rattle.std.specs.Prelude.{◌≡◌, ◌++◌, ◌∷◌, [], OnOk, IfOk, map, Some, None};
 ghost use Rattle.compose_read.specs.Sources.{add_fault};
 ghost use Rattle.compose_find.specs.Found as found;
@@ -11,17 +11,21 @@ use crate::search::find_sources;
 use compose_read::{SourceFault, Sources};
 use std::alloc::{AllocError, Global};
 
-/// The sources of a table: where each was found, and what it holds.
+/// The sources of a table: where each was found, and its bytes.
 #[derive(Drop)]
 pub struct FoundTable {
     /// Each source with its path, the root first.
     pub files: Vec<FoundSource>,
-    /// The same sources in the same order, each with the bytes that were kept of its file: those in which its includes were found.
+    /// The same sources in the same order, each with the kept bytes of its file: those in which its
+    /// includes were found.
     pub sources: Sources,
 }
 
-/// The table whose root stands at this path: the sources that [`find_sources`] finds, and of each a copy of the bytes that [`Files`] kept at its
-/// path. The faults are those of [`find_sources`]. O(bytes) beside that search, and for each source a look-up of its path, O(f) in the files.
+/// Finds the table whose root is at this path: the sources that [`find_sources`] finds, and for
+/// each a copy of the bytes that [`Files`] keeps for its path. O(bytes) in addition to that search,
+/// and for each source a look-up of its path, O(f) in the files.
+///
+/// Errors: those of [`find_sources`], with `NoMemory` also if the copy fails.
 pub fn find_table(
     alloc: Global,
     files: &Files,
@@ -44,7 +48,7 @@ pub fn find_table(
     })
 }
 
-/// Adds a source with what its file holds.
+/// Adds a source with the bytes of its file.
 fn add_held(
     alloc: Global,
     files: &Files,

@@ -1,9 +1,10 @@
-//! Trees of locales, and what lies below a folder.
+//! Trees of locales, and paths below a folder.
 ghost use Rattle.std.specs.Prelude.{◌≡◌, List, ℕ, MatchOption};
 ghost use Rattle.compose_find.specs.Trees as trees;
 
-/// The tree of locales in which this path is the table of a locale: of `TREE/LOCALE/Compose` it is `TREE`, and of another path there is none.
-/// `LOCALE` has a byte at least and no slash. O(bytes).
+/// Returns the tree of locales in which this path is the table of a locale: `TREE` for the path
+/// `TREE/LOCALE/Compose`, and `None` for any other path. `LOCALE` has at least one byte and no
+/// slash. O(bytes).
 pub fn locale_tree(path: &str) -> Option<&str>
     ensures { MatchOption result ((tree : List ℕ) → ¬ (trees.IsTableOf tree path.now))
         (λ tree. trees.IsTableOf tree.now path.now) }
@@ -16,7 +17,7 @@ pub fn locale_tree(path: &str) -> Option<&str>
     Some(&folder[..slash])
 }
 
-/// Whether the path begins with the folder and a slash. O(bytes of the folder).
+/// Returns whether the path begins with the folder and a slash. O(bytes of the folder).
 pub fn lies_below(folder: &str, path: &str) -> bool
     ensures { result ≡ trees.lies_below folder.now path.now }
 {

@@ -1,4 +1,4 @@
--- What was found at paths that were read.
+-- The content of the paths that were read.
 use Rattle.std.proofs.Common.{◌≡◌, ◌∙◌, sym, ap, refl, append-nil, ℕ, Bool, true, false, cond, ◌||◌, List, [], ◌∷◌, ◌++◌, map, Vec, Global}
 use Rattle.std.specs.Prelude.{Option, Some, None, is_some, bytes_eq, Result, Ok, Err}
 use Rattle.std.specs.List.{find, list_any}
@@ -27,7 +27,7 @@ same_head x y xs ys h = ap (head_or x) h
 same_tail : (x y : Content) (xs ys : List Content) → x ∷ xs ≡ y ∷ ys → xs ≡ ys
 same_tail x y xs ys h = ap tail_of h
 
--- an entry that is found has what the folder has
+-- an entry that is found has the content of the path in the folder
 held_at : (holds : List ℕ → Content) (path : List ℕ) (entries : List Entry) (e : Entry) → contents_of entries ≡ map holds (paths_of entries) → Some e ≡ find (λ e. bytes_eq path e.path) entries → holds path ≡ e.content
 held_at holds path [] e h f = absurd (cc f)
 held_at holds path (x ∷ xs) e h f = by (bytes_eq path x.path) refl f (λ k. held_at holds path xs e (same_tail _ _ _ _ h) k)
@@ -42,7 +42,7 @@ found_reads (Some folder) path entries e (Ok bytes) h f g = held_at (held folder
 found_reads (Some folder) path entries e (Err (Refused kind)) h f g = held_at (held folder) path entries e h f ∙ g
 found_reads (Some folder) path entries e (Err NoMemory) h f g = tt
 
--- a path is seen where an entry is found
+-- a path was read exactly if there is an entry for it
 seen_found : (path : List ℕ) (entries : List Entry) → list_any (bytes_eq path) (paths_of entries) ≡ is_some (find (λ e. bytes_eq path e.path) entries)
 seen_found path [] = refl
 seen_found path (x ∷ xs) = by (bytes_eq path x.path) (seen_found path xs)
@@ -58,13 +58,13 @@ then_nothing : (asked : Option (List (List ℕ))) → then_asked asked [] ≡ as
 then_nothing None = refl
 then_nothing (Some xs) = ap Some (append-nil xs)
 
--- where the path was seen, nothing is asked for
+-- if the path was read before, the folder is asked for nothing
 pub asks_nothing : (asked : Option (List (List ℕ))) (ps : List (List ℕ)) (r : Result (Vec ℕ Global) Unread) → ps ≡ [] → Asks asked asked ps r
 asks_nothing asked ps (Ok bytes) e = sym (then_nothing asked) ∙ ap (then_asked asked) (sym e)
 asks_nothing asked ps (Err (Refused kind)) e = sym (then_nothing asked) ∙ ap (then_asked asked) (sym e)
 asks_nothing asked ps (Err NoMemory) e = tt
 
--- where it was not, that path is
+-- if not, it is asked for that path
 pub asks_new : (asked asked' : Option (List (List ℕ))) (path : List ℕ) (ps : List (List ℕ)) (r : Result (Vec ℕ Global) Unread) → ps ≡ path ∷ [] → Asks asked asked' (path ∷ []) r → Asks asked asked' ps r
 asks_new asked asked' path ps (Ok bytes) e a = a ∙ ap (then_asked asked) (sym e)
 asks_new asked asked' path ps (Err (Refused kind)) e a = a ∙ ap (then_asked asked) (sym e)

@@ -14,7 +14,7 @@ pub struct Disk<'r, R> {
 }
 
 impl<'r, R> Disk<'r, R> {
-    /// The files that this runtime reads. It takes no memory, and opens none.
+    /// Returns the files that this runtime can read. It takes no memory and opens no file.
     pub fn new(rt: &'r R) -> Disk<'r, R> {
         Disk { rt }
     }
@@ -39,7 +39,7 @@ impl<R: Files + Input + AllocGlobal> Folder for Disk<'_, R> {
     }
 }
 
-/// The bytes of standard input, to its end.
+/// Reads standard input to its end.
 fn standard_input(rt: &impl Input, alloc: Global) -> io::Result<Vec<u8>> {
     let mut bytes = Vec::new(alloc);
     rt.reader().read_to_end(&mut bytes)?;

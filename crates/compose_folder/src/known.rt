@@ -28,7 +28,7 @@ impl Model for KnownFile {
     } };
 }
 
-/// A folder of known files, which keeps the paths that it was asked for.
+/// A folder of known files, which keeps the list of paths that it was asked for.
 #[derive(Drop)]
 pub struct Memory {
     files: Vec<KnownFile>,
@@ -36,7 +36,7 @@ pub struct Memory {
 }
 
 impl Memory {
-    /// A folder without files. It takes no memory.
+    /// Returns a folder without files. It takes no memory.
     pub fn new(alloc: Global) -> Memory
         ensures holds { ⟦<Memory as Folder>⟧.holds result ≡ Some [] }
         ensures asked { ⟦<Memory as Folder>⟧.asked result ≡ Some [] }
@@ -47,7 +47,10 @@ impl Memory {
         }
     }
 
-    /// Adds a file behind the others; of several with one path the first counts. A refusal changes nothing.
+    /// Adds a file after the others; if several have the same path, the first one counts. An error
+    /// leaves the files as they were.
+    ///
+    /// Errors: `AllocError` if memory runs out.
     pub fn add(&mut self, alloc: Global, path: &str, bytes: &[u8]) -> Result<(), AllocError>
         ensures ok { OnOk result
             (⟦<Memory as Folder>⟧.holds self.new
@@ -63,7 +66,7 @@ impl Memory {
         Ok(())
     }
 
-    /// The paths that it was asked for, the newest last. O(1).
+    /// Returns the paths that the folder was asked for, the newest last. O(1).
     pub fn asked(&self) -> &[String]
         ensures { Some (map string_bytes result.now) ≡ ⟦<Memory as Folder>⟧.asked self.now }
     {
@@ -85,14 +88,14 @@ impl Folder for Memory {
     }
 }
 
-/// The first file with this path.
+/// Returns the first file with this path.
 fn find<'f>(files: &'f [KnownFile], path: &str) -> Option<&'f KnownFile>
     ensures { option_copied result ≡ list.find (λ e. bytes_eq path.now e.path) files.now }
 {
     files.iter().find(|file| has_path(file, path))
 }
 
-/// Whether this is its path.
+/// Returns whether the file has this path.
 fn has_path(file: &KnownFile, path: &str) -> bool
     ensures { result ≡ bytes_eq path.now file.now.path }
 {

@@ -1,8 +1,10 @@
-//! The files that a run reads, each once.
+//! The files that a run reads, each of them once.
 //!
-//! A [`Folder`] gives the bytes under a path, or says why there are none. [`ReadOnce`] asks it for each path once, whatever is read how
-//! often: what came is kept, a refusal too. So a pipe can be given for any file, and whoever reads a path again sees what was read
-//! first. [`Disk`] is the folder of the program; [`Memory`] is one of known files, which keeps the paths that it was asked for.
+//! A [`Folder`] returns the bytes of the file under a path, or the reason why it cannot be read.
+//! [`ReadOnce`] asks a folder for each path at most once, however often the path is read, and keeps
+//! the result, also if it is an error. So any file may be a pipe, and reading a path again returns
+//! what was read the first time. [`Disk`] is the folder that the program uses; [`Memory`] is a
+//! folder of known files, which keeps the list of paths that it was asked for.
 //!
 //! ```text
 //! let mut files = ReadOnce::new(alloc, Disk::new(rt));

@@ -1,4 +1,4 @@
-//! A folder of which each path is read once.
+//! A folder that is asked for each path at most once.
 ghost use Rattle.std.specs.Prelude.{◌≡◌, [], ◌∷◌, ◌++◌, option_copied, bytes_eq, OnOk, OnErr};
 ghost use Rattle.std.specs.List.{find};
 ghost use Rattle.compose_folder.specs.Content.{content_of, paths_of, unless_seen, AreHeld, IsHeld};
@@ -10,7 +10,7 @@ use std::alloc::{AllocError, Global};
 use std::io::ErrorKind;
 use std::marker::Model;
 
-/// What was found at a path.
+/// The content that was found at a path.
 #[derive(Drop)]
 struct SeenPath {
     path: String,
@@ -30,7 +30,8 @@ impl Model for SeenPath {
     } };
 }
 
-/// A folder of which each path is read once: what was found there is kept, also why there is nothing.
+/// A folder that is asked for each path at most once: the result is kept, also if the file could
+/// not be read.
 #[derive(Drop)]
 pub struct ReadOnce<F: Folder> {
     folder: F,
@@ -55,7 +56,7 @@ impl<F: Folder> Model for ReadOnce<F> {
 }
 
 impl<F: Folder> ReadOnce<F> {
-    /// The folder, of which nothing was read. It takes no memory.
+    /// Returns the folder with nothing read yet. It takes no memory.
     pub fn new(alloc: Global, folder: F) -> ReadOnce<F>
         ensures { result
             ≡ record { holds = F.holds folder; asked = F.asked folder; entries = [] } }
@@ -66,8 +67,12 @@ impl<F: Folder> ReadOnce<F> {
         }
     }
 
-    /// The bytes of the file under the path: what was found there before, or else what the folder has. The folder is asked for a path once;
-    /// after a refusal of memory it may be asked again. O(bytes), and O(p) in the paths that were read.
+    /// Returns the bytes of the file under the path: those that were read before, or else those in
+    /// the folder. The folder is asked for a path only once, except that it may be asked again
+    /// after memory ran out. O(bytes), and O(p) in the number of paths that were read.
+    ///
+    /// Errors: `Refused` if the file cannot be read, with the reason from when it was first read;
+    /// `NoMemory` if memory runs out.
     pub fn read(&mut self, alloc: Global, path: &str) -> Result<Vec<u8>, Unread>
         ensures kept { self.new.holds ≡ self.old.holds }
         ensures reads { Reads self.old.holds path.now result }
@@ -81,7 +86,7 @@ impl<F: Folder> ReadOnce<F> {
         }
     }
 
-    /// What was found at this path before.
+    /// Returns what was found at this path before.
     fn find(&self, path: &str) -> Option<&SeenPath>
         ensures first { option_copied result
             ≡ find (λ e. bytes_eq path.now e.path) self.now.entries }
@@ -90,7 +95,7 @@ impl<F: Folder> ReadOnce<F> {
         self.seen.iter().find(|found| has_path(found, path))
     }
 
-    /// The bytes of the file under a path that was not read before.
+    /// Reads the file under a path that was not read before.
     fn read_new(&mut self, alloc: Global, path: &str) -> Result<Vec<u8>, Unread>
         ensures kept { self.new.holds ≡ self.old.holds }
         ensures reads { Reads self.old.holds path.now result }
@@ -111,7 +116,7 @@ impl<F: Folder> ReadOnce<F> {
         }
     }
 
-    /// Keeps what was found at a path. A refusal changes nothing.
+    /// Keeps what was found at a path. An error changes nothing.
     fn keep(
         &mut self,
         alloc: Global,
@@ -134,14 +139,14 @@ impl<F: Folder> ReadOnce<F> {
     }
 }
 
-/// Whether this is its path.
+/// Returns whether it was found at this path.
 fn has_path(found: &SeenPath, path: &str) -> bool
     ensures { result ≡ bytes_eq path.now found.now.path }
 {
     path == found.path.as_str()
 }
 
-/// A copy of what was found.
+/// Returns a copy of what was found.
 fn copied(alloc: Global, found: &SeenPath) -> Result<Vec<u8>, Unread>
     ensures { Gives found.now.content result }
 {

@@ -1,4 +1,4 @@
-//! What files are read from.
+//! The source of files.
 ghost use Rattle.std.specs.Prelude.{◌≡◌, ℕ, List, [], ◌∷◌, Option};
 ghost use Rattle.compose_folder.specs.Content.{Entry};
 ghost use Rattle.compose_folder.specs.Reading.{Reads, Asks};
@@ -7,12 +7,12 @@ ghost use Rattle.compose_folder.specs.declared.reading.Unread.TheVariants.{NoMem
 use std::alloc::{AllocError, AllocFailed, Global};
 use std::io::ErrorKind;
 
-/// Why a file is not read.
+/// The reason why a file was not read.
 #[derive(Clone, Copy, Debug, PartialEq, Eq, Drop)]
 pub enum Unread {
-    /// The folder has no bytes there.
+    /// The file cannot be opened or read, for this reason.
     Refused(ErrorKind),
-    /// Memory was refused in this call.
+    /// Memory ran out.
     NoMemory,
 }
 
@@ -32,15 +32,19 @@ impl<T: Drop> From<AllocFailed<T>> for Unread {
     }
 }
 
-/// What files are read from.
+/// A source of files.
 pub trait Folder: Sized + Drop {
-    /// What is under each path, where that is known.
+    /// The content of each path, if it is known.
     ghost holds: { Self → Option (List Entry) };
 
-    /// The paths that were asked for, the newest last, where they are known.
+    /// The paths that were asked for, the newest last, if they are known.
     ghost asked: { Self → Option (List (List ℕ)) };
 
-    /// The bytes of the file under the path. It asks for the path once, and what the folder holds stays the same.
+    /// Returns the bytes of the file under the path. The path is asked for once, and the folder
+    /// holds the same afterwards.
+    ///
+    /// Errors: `Refused` if there is no such file or it cannot be read; `NoMemory` if memory runs
+    /// out.
     fn read(&mut self, alloc: Global, path: &str) -> Result<Vec<u8>, Unread>
         ensures kept { holds self.new ≡ holds self.old }
         ensures reads { Reads (holds self.old) path.now result }

@@ -1,4 +1,4 @@
--- Indexes in lists of keysyms: the first one that passes a test, and those in rising lists.
+-- Indexes in lists of keysyms: the first one that passes a test, and indexes in increasing lists.
 use Rattle.std.proofs.Common.{◌≡◌, ℕ, zero, suc, ◌+◌, ◌<◌, ◌≤◌, min, List, [], ◌∷◌, ◌++◌, Bool, true, false, cond, not, ◌||◌, length, get_or, take, refl, sym, ◌∙◌, ap, arith, inl, inr, ltb-true, eq-eqb}
 use Rattle.std.specs.Prelude.{◌==◌, nat_lt, is_ok, slice_get, Some, Result, Ok, Err}
 use Rattle.std.specs.List.{list_any, position_or_len}
@@ -16,7 +16,7 @@ use Rattle.compose_model.specs.Certificate.{keys_rise}
 
 -- ---- tests that are joined
 
--- where nothing passes
+-- if nothing passes
 pub position-none : {X : Type 0} (xs : List X) → position_or_len (λ x. false) xs ≡ length xs
 position-none [] = refl
 position-none (x ∷ xs) = let e : position_or_len (λ x. false) xs ≡ length xs = position-none xs in omega arith
@@ -37,7 +37,7 @@ position-or p q (x ∷ xs) = go (p x) (q x) (position-or p q xs)
     go false true e = omega arith
     go false false e = omega arith
 
--- ---- one element more
+-- ---- one more element
 
 any_last : {X : Type 0} (q : X → Bool) (xs : List X) (x : X) → list_any q (xs ++ x ∷ []) ≡ list_any q xs || q x
 any_last q xs x = list_any-append q xs (x ∷ []) ∙ ap (λ b. list_any q xs || b) (or_false (q x))
@@ -46,17 +46,17 @@ any_last q xs x = list_any-append q xs (x ∷ []) ∙ ap (λ b. list_any q xs ||
     or_false true = refl
     or_false false = refl
 
--- one of the first elements up to this index passes exactly where an earlier one passes or this one does
+-- one of the first elements up to this index passes exactly if an earlier one passes or this one does
 pub any_more : {X : Type 0} (q : X → Bool) (xs : List X) (i : ℕ) (d : X) → i < length xs → list_any q (take (i + 1) xs) ≡ list_any q (take i xs) || q (get_or xs i d)
 any_more q xs i d h = ap (list_any q) (take_more xs i d h) ∙ any_last q (take i xs) (get_or xs i d)
 
--- a keysym stands among those up to this index exactly where it stands among the earlier ones or is this one
+-- a keysym is among those up to this index exactly if it is among the earlier ones or is this one
 pub key_more : (es : List ℕ) (i j k : ℕ) → slice_get es i ≡ Some j → has_key (take (i + 1) es) k ≡ has_key (take i es) k || k == j
 key_more es i j k e = any_more (λ x. k == x) es i 0 (slice_get_within es i j e) ∙ ap (λ x. has_key (take i es) k || k == x) (get_or_from_slice_get es i j 0 e)
 
--- ---- rising lists
+-- ---- increasing lists
 
--- the first keysym of a rising list is less than each later one
+-- the first keysym of an increasing list is less than each later one
 pub rises_head : (x : ℕ) (xs : List ℕ) → keys_rise (x ∷ xs) ≡ true → (j : ℕ) → j < length xs → x < get_or xs j 0
 rises_head x [] r j h = absurd (omega arith)
 rises_head x (y ∷ xs) r zero h = ltb-true x y (and_parts (nat_lt x y) (keys_rise (y ∷ xs)) r).0
@@ -65,12 +65,12 @@ rises_head x (y ∷ xs) r (suc j) h =
     let a : x < y = ltb-true x y parts.0 in
     let b : y < get_or xs j 0 = rises_head y xs parts.1 j (omega arith) in omega arith
 
--- a rising list rises without its first keysym
+-- an increasing list without its first keysym is increasing
 pub rises_tail : (x : ℕ) (xs : List ℕ) → keys_rise (x ∷ xs) ≡ true → keys_rise xs ≡ true
 rises_tail x [] r = refl
 rises_tail x (y ∷ xs) r = (and_parts (nat_lt x y) (keys_rise (y ∷ xs)) r).1
 
--- what stands later in a rising list is greater
+-- a later keysym of an increasing list is greater
 pub rises : (xs : List ℕ) → keys_rise xs ≡ true → (i j : ℕ) → i < j → j < length xs → get_or xs i 0 < get_or xs j 0
 rises [] r i j a b = absurd (omega arith)
 rises (x ∷ xs) r i zero a b = absurd (omega arith)
@@ -91,7 +91,7 @@ searched_index xs k i r h =
     (λ j b. ne_eqb (get_or xs j 0) k (λ e. absurd (let less : get_or xs j 0 < get_or xs i 0 = rises xs r j i b found.0 in omega (arith, found.1))))
     (λ b. eq-eqb (get_or xs i 0) k found.1))
 
--- and it finds none where there is none
+-- if there is none, it finds none
 pub searched_none : (xs : List ℕ) (k i : ℕ) → keys_rise xs ≡ true → IsBinarySearchResult (λ y. nat_cmp y k) xs (Err i) → length xs ≡ position_or_len (λ y. y == k) xs
 searched_none xs k i r h =
     let none = searched xs k (Err i) h (rises_weakly xs r) in
@@ -102,7 +102,7 @@ searched_none xs k i r h =
     ])))
     (λ b. absurd (omega arith)))
 
--- ---- a binary search tells whether a keysym is among those
+-- ---- whether a keysym is in a list, by binary search
 
 key_there : (xs : List ℕ) (i k : ℕ) → i < length xs → get_or xs i 0 ≡ k → has_key xs k ≡ true
 key_there [] i k h e = absurd (omega arith)
@@ -113,7 +113,7 @@ key_absent : (xs : List ℕ) (k : ℕ) → ((i : ℕ) → i < length xs → get_
 key_absent [] k n = refl
 key_absent (x ∷ xs) k n = or_from (k == x) (has_key xs k) (ne_eqb k x (λ e. n zero (omega arith) (sym e))) (key_absent xs k (λ i h e. n (suc i) (omega arith) e))
 
--- a binary search in a rising list finds a keysym exactly where the list has it
+-- a binary search in an increasing list finds a keysym exactly if the list has it
 pub among : (xs : List ℕ) (k : ℕ) (r : Result ℕ ℕ) → keys_rise xs ≡ true → IsBinarySearchResult (λ y. nat_cmp y k) xs r → is_ok r ≡ has_key xs k
 among xs k r rise found = go r (searched xs k r found (rises_weakly xs rise))
   where

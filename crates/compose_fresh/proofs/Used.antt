@@ -8,13 +8,13 @@ use Rattle.compose_model.specs.Nodes.{nodes, edges, keysyms}
 use Rattle.compose_model.proofs.Tests.{list_any-weaker}
 use Rattle.compose_model.proofs.NodeLemmas.{same_is, extended_is_node, keysyms_are, edge_extends, edge_key, edge_listed, listed_edge}
 
--- tests that pass where the other one does
+-- two tests are the same if each passes whenever the other does
 pub same_test : (a b : Bool) → (a ≡ true → b ≡ true) → (b ≡ true → a ≡ true) → a ≡ b
 same_test true b f g = sym (f refl)
 same_test false true f g = g refl
 same_test false false f g = refl
 
--- what begins s up to k
+-- the part of s before k
 pub record Before (k : ℕ) (s : List ℕ) : Type 0 where
   pub prefix : List ℕ
   pub is_prefix : is_proper_prefix prefix s ≡ true
@@ -41,7 +41,7 @@ before_key k (x ∷ s) h = elim (or_cases (k == x) (list_any (λ j. k == j) s) h
       | inr f ↦ or_right (x == x && is_proper_prefix (p ++ k ∷ []) s) (x == x && same (p ++ k ∷ []) s) (and_from (x == x) (same (p ++ k ∷ []) s) (eq-eqb x x refl) f)
     ]
 
--- a node, and that it goes on with k
+-- a node that goes on with k
 record Edge (table : List Definition) (k : ℕ) : Type 0 where
   pub node : List ℕ
   pub extended : is_extended table node ≡ true
@@ -76,12 +76,12 @@ edge_of (d ∷ table) k h = elim (or_cases (list_any (λ j. k == j) d.sequence) 
     either : (q : List ℕ) → (is_proper_prefix q d.sequence || same q d.sequence) || (is_extended table q || is_sequence table q) ≡ true → is_extended (d ∷ table) q || is_sequence (d ∷ table) q ≡ true
     either q h = swap (is_proper_prefix q d.sequence) (same q d.sequence) (is_extended table q) (is_sequence table q) h
 
--- some element passes, so what each that passes gives holds
+-- if some element passes, what follows from each one that passes holds
 some_gives : {X : Type 0} (q : X → Bool) (b : Bool) → ((x : X) → q x ≡ true → b ≡ true) → (xs : List X) → list_any q xs ≡ true → b ≡ true
 some_gives q b f [] h = cc
 some_gives q b f (x ∷ xs) h = elim (or_cases (q x) (list_any q xs) h) [ inl e ↦ f x e | inr e ↦ some_gives q b f xs e ]
 
--- a keysym stands in a sequence exactly where it is an edge of some node
+-- a keysym is in a sequence exactly if it is an edge of some node
 pub keysyms_are_edges : (table : List Definition) (k : ℕ) → list_any (λ p. has_key (edges table p) k) (nodes table) ≡ has_key (keysyms table) k
 keysyms_are_edges table k = same_test (list_any (λ p. has_key (edges table p) k) (nodes table)) (has_key (keysyms table) k)
     (some_gives (λ p. has_key (edges table p) k) (has_key (keysyms table) k) (λ p e. edge_key table p k (listed_edge table p k e)) (nodes table))

@@ -1,10 +1,11 @@
--- Conditions on a certificate, each with the fault that is named where it is not met; the first that is not met gives the fault.
+-- Conditions on a certificate, each with the fault that is reported if it is not met; the first one that is not met
+-- decides.
 use Rattle.std.specs.Prelude.{Bool, not, List, Option}
 use Rattle.std.specs.List.{find}
 use Rattle.std.specs.Option.{option_map}
 use Rattle.compose_fresh.specs.declared.fault.CheckFault.{CheckFault}
 
--- whether it is met, and the fault where it is not
+-- whether it is met, and the fault if it is not
 pub record Condition : Type 0 where
   pub met : Bool
   pub fault : CheckFault

@@ -1,4 +1,4 @@
--- The fresh keysyms rise, and none is ignored or stands in a sequence of the old table.
+-- The fresh keysyms are increasing, and none is ignored or in a sequence of the old table.
 use Rattle.std.specs.Prelude.{ℕ, not, List, [], ◌∷◌, flat_map}
 use Rattle.keysym_core.specs.Keysym.{is_ignored}
 use Rattle.compose_model.specs.Table.{Definition, has_key}
@@ -7,7 +7,7 @@ use Rattle.compose_model.specs.Certificate.{keys_rise}
 use Rattle.compose_fresh.specs.declared.fault.CheckFault.TheVariants.{FreshNotRising, FreshIgnored, FreshUsed}
 use Rattle.compose_fresh.specs.Conditions.{Condition, condition}
 
--- the most fresh keysyms that a certificate may have (this project's profile)
+-- the largest number of fresh keysyms that a certificate may have (a limit of this project)
 abbrev pub max_fresh : ℕ
 max_fresh = 1048576
 

@@ -1,4 +1,5 @@
-//! The conditions on fresh keysyms: those for which nothing is promised, since the old table does not know them.
+//! The conditions on fresh keysyms: keysyms that the old table does not have, and for which nothing
+//! is promised.
 ghost use Rattle.std.specs.Prelude.{◌≡◌, ◌==◌, ◌<◌, ℕ, List, None, length, flat_map, IsTrue};
 ghost use Rattle.std.specs.List.{position_or_len};
 ghost use Rattle.compose_model.specs.Table.{Definition, has_key};
@@ -11,11 +12,12 @@ use crate::fault::CheckFault;
 use compose_tree::{ComposeTable, NodeId};
 use keysym_core::Keysym;
 
-/// The most fresh keysyms that a certificate can have.
+/// The largest number of fresh keysyms that a certificate can have.
 pub const MAX_FRESH: usize = 1_048_576;
 
-/// The first condition on fresh keysyms that these do not meet: they strictly rise, none is ignored, and none stands in a sequence
-/// of the old table. O(edges of the table × log n + n) in the number n of the keysyms, or O(n) where there are none; no memory.
+/// Returns the fault of the first condition on fresh keysyms that these do not meet: they are
+/// strictly increasing, none is ignored, and none is in a sequence of the old table. O(edges of the
+/// table × log n + n) in the number n of the keysyms, or O(n) if there are none; allocates nothing.
 pub fn check_fresh<T: ComposeTable>(old: &T, fresh: &[Keysym]) -> Option<CheckFault>
     ensures exact { result ≡ first_unmet (fresh_conditions (T.definitions old.now) fresh.now) }
     ensures clear { result ≡ None → AreFresh fresh.now (T.definitions old.now) }
@@ -27,7 +29,7 @@ pub fn check_fresh<T: ComposeTable>(old: &T, fresh: &[Keysym]) -> Option<CheckFa
     first_stale(fresh, first_used(old, fresh))
 }
 
-/// Whether the keysym is one of these, which rise. O(log n).
+/// Returns whether the keysym is one of these, which are increasing. O(log n).
 pub fn is_among(keysyms: &[Keysym], keysym: Keysym) -> bool
     requires { IsTrue (keys_rise keysyms.now) }
     ensures { result ≡ has_key keysyms.now keysym }
@@ -35,7 +37,7 @@ pub fn is_among(keysyms: &[Keysym], keysym: Keysym) -> bool
     keysyms.binary_search(&keysym).is_ok()
 }
 
-/// Whether the keysyms strictly rise.
+/// Returns whether the keysyms are strictly increasing.
 fn are_rising(keysyms: &[Keysym]) -> bool
     ensures { result ≡ keys_rise keysyms.now }
 {
@@ -52,7 +54,8 @@ fn are_rising(keysyms: &[Keysym]) -> bool
     true
 }
 
-/// The first fresh keysym that is ignored or used, where the first one that is used has the index `used`, if there is one.
+/// Returns the fault of the first fresh keysym that is ignored or used. The first one that is used
+/// has the index `used`, if there is one.
 fn first_stale(fresh: &[Keysym], used: usize) -> Option<CheckFault>
     ensures { (old : List Definition) → used ≡ position_or_len (has_key (keysyms old)) fresh.now
         → result ≡ first_unmet (flat_map (one_fresh_conditions old) fresh.now) }
@@ -69,7 +72,8 @@ fn first_stale(fresh: &[Keysym], used: usize) -> Option<CheckFault>
     None
 }
 
-/// The index of the first fresh keysym that stands in a sequence of the table; their number where none does.
+/// Returns the index of the first fresh keysym that is in a sequence of the table, or their number
+/// if none is.
 fn first_used<T: ComposeTable>(old: &T, fresh: &[Keysym]) -> usize
     requires { IsTrue (keys_rise fresh.now) }
     ensures { result ≡ position_or_len (has_key (keysyms (T.definitions old.now))) fresh.now }
@@ -84,7 +88,8 @@ fn first_used<T: ComposeTable>(old: &T, fresh: &[Keysym]) -> usize
     least
 }
 
-/// The index of the first fresh keysym that is an edge of the node; their number where none is.
+/// Returns the index of the first fresh keysym that is an edge of the node, or their number if none
+/// is.
 fn first_used_at<T: ComposeTable>(old: &T, node: NodeId, fresh: &[Keysym]) -> usize
     requires rise { IsTrue (keys_rise fresh.now) }
     requires in_range { node.0 < length (nodes (T.definitions old.now)) }
@@ -102,7 +107,8 @@ fn first_used_at<T: ComposeTable>(old: &T, node: NodeId, fresh: &[Keysym]) -> us
     least
 }
 
-/// The index of the keysym among these, which rise; their number where it is none of them. O(log n).
+/// Returns the index of the keysym among these, which are increasing, or their number if it is none
+/// of them. O(log n).
 fn index_of(keysyms: &[Keysym], keysym: Keysym) -> usize
     requires { IsTrue (keys_rise keysyms.now) }
     ensures { result ≡ position_or_len (λ k. k == keysym) keysyms.now }

@@ -1,11 +1,13 @@
-//! Which keysyms are fresh for a table, and what can be wrong with a certificate.
+//! Fresh keysyms of a migration, and the faults of certificates.
 //!
-//! Fresh keysyms are those for which a move from an old table to a new one promises nothing, since the old table does not know
-//! them. [`check_fresh`] says which condition on them fails first. The faults of a certificate stand here, since both the checker
-//! and those who look for differences and make certificates tell that fault.
+//! A certificate may list fresh keysyms: keysyms that the old table does not have, and for which
+//! the move to a new table promises nothing. [`check_fresh`] returns the first condition on them
+//! that fails. The faults of a certificate are defined here, since both the checker and the crates
+//! that look for differences and make certificates report them.
 //!
 //! ```text
-//! check_fresh(&old, &[a])    // Some(CheckFault::FreshUsed { keysym: a }) where a sequence of the old table has the keysym a
+//! // a sequence of the old table has the keysym a
+//! check_fresh(&old, &[a])    // Some(CheckFault::FreshUsed { keysym: a })
 //! ```
 #![tactic(auto)]
 

@@ -11,14 +11,14 @@ use Rattle.compose_input.specs.declared.fault.Unopened.{Unopened}
 use Rattle.compose_input.proofs.NamesRead.{now_of}
 
 module _ (folder : Option (List Entry)) (fault : Fault) where
-  -- a file that can't be read, behind files that were read
+  -- a file that can't be read, after files that were read
   pub behind : (texts : List NamedText) (name : List ℕ) (names : List (List ℕ)) → All (IsNamedText folder) texts → FailsName folder name fault
       → FailNames folder (map (λ n. n.name) texts ++ name ∷ names) fault
   behind [] name names held fails = inl fails
   behind (n ∷ texts) name names held fails =
       inr (n.text, All-head (IsNamedText folder) n texts held, behind texts name names (All-tail (IsNamedText folder) n texts held) fails)
 
-  -- the same where the names were given as references
+  -- the same if the names were given as references
   pub fails_at : (names : List (Bor (List ℕ))) (i : ℕ) (d : Bor (List ℕ)) (texts : List NamedText) → i < length names → map (λ n. n.name) texts ≡ map now_of (take i names)
       → All (IsNamedText folder) texts → FailsName folder (get_or names i d).now fault → FailNames folder (map now_of names) fault
   fails_at names i d texts within named held fails =

@@ -1,4 +1,5 @@
--- Why what a command was given can't be read, by what the folder has (this project's profile). Memory may run out at any time: nothing more is known then.
+-- Why an input of a command can't be read, by what the folder has (this project's profile). Memory may run out at any
+-- time; nothing more is known then.
 use Rattle.std.specs.Prelude.{◌≡◌, ◌⊎◌, ℕ, if◌then◌else◌, List, [], ◌∷◌, ◌++◌, Option, Some, None, Result, Ok, Err, MatchBool, bytes_eq, string_bytes, codes}
 use Rattle.std.specs.List.{cons_option}
 use Rattle.std.specs.declared.io.ErrorKind.{ErrorKind}
@@ -25,7 +26,7 @@ use Rattle.compose_input.specs.declared.places.Places.{Places}
 
 -- ---- files of names
 
--- the names that are built in are there; another file can't be read
+-- the built-in names are always there; another file can't be read
 abbrev pub FailsName : Option (List FolderEntry) → List ℕ → Fault → Type 0
 FailsName folder name fault = MatchBool (bytes_eq name (codes "builtin")) (fault ≡ NoMemory) (IsRead folder name (Err fault))
 
@@ -36,26 +37,26 @@ FailNames folder (name ∷ names) fault = FailsName folder name fault ⊎ ((text
 
 -- ---- manifests
 
--- what the file at this path holds is no manifest
+-- the file at this path is not a manifest
 abbrev pub IsNoManifest : Option (List FolderEntry) → List ℕ → Fault → Type 0
 IsNoManifest folder at (Manifest path bytes why) = (string_bytes path ≡ at) × IsHeld folder at (File bytes.items) × (listing_of bytes.items ≡ Err why)
 IsNoManifest folder at fault = ⊥
 
--- it can't be read, or is no manifest
+-- it can't be read, or is not a manifest
 abbrev pub FailsManifest : Option (List FolderEntry) → List ℕ → Fault → Type 0
 FailsManifest folder at fault = IsRead folder at (Err fault) ⊎ IsNoManifest folder at fault
 
--- a file can't be among the sources of the table that is this part
+-- a file can't be among the sources of this part's table
 abbrev pub IsRefusedSource : List ℕ → List ℕ → Option SourceFault → Fault → Type 0
 IsRefusedSource part at why (SourceRefused p path fault) = (p.now ≡ part) × (string_bytes path ≡ at) × (why ≡ Some fault)
 IsRefusedSource part at why fault = ⊥
 
--- the file of an entry can't be read, or can't be a source beside these
+-- the file of an entry can't be read, or can't be a source in addition to these
 abbrev pub FailsEntry : Option (List FolderEntry) → List ℕ → Listing → List ℕ → Entry → List Source → Fault → Type 0
 FailsEntry folder part listing at entry sources fault =
     IsRead folder (named (file_path listing at entry.path)) (Err fault) ⊎ IsRefusedSource part at (add_fault sources entry.name) fault
 
--- the first of these entries whose file is refused: those of the entries before it are the sources
+-- the first of these entries whose file is refused; the sources are those of the entries before it
 pub record FailEntries (folder : Option (List FolderEntry)) (part : List ℕ) (listing : Listing) (at : List ℕ) (entries : List Entry) (fault : Fault) : Type 0 where
   pub before : List Entry
   pub entry : Entry
@@ -72,17 +73,17 @@ FailsListed folder part at fault = FailsManifest folder at fault ⊎ ((listing :
 
 -- ---- Compose files as they lie on a system
 
--- why nothing is read of this; that it isn't there, where it can be read by now
+-- the reason why nothing is read of this: `NotFound` if it can be read by now
 abbrev pub kind_of : Content → ErrorKind
 kind_of (File bytes) = NotFound
 kind_of (Unreadable kind) = kind
 
--- why nothing is read at the path, where it is known what the folder has
+-- the reason why nothing is read at the path, if it is known what the folder has
 abbrev pub IsKind : Option (List FolderEntry) → List ℕ → ErrorKind → Type 0
 IsKind None path kind = kind ≡ kind
 IsKind (Some entries) path kind = kind ≡ kind_of (held entries path)
 
--- the path, and why nothing is read there in the search for the files of this root
+-- the path, and the reason why nothing is read there in the search for the files of this root
 abbrev pub IsUnopened : Option (List FolderEntry) → List ℕ → List ℕ → Unopened → Type 0
 IsUnopened folder root path unopened = (string_bytes unopened.path ≡ path) × IsKind folder (opened root path) unopened.kind
 
@@ -91,11 +92,11 @@ AreUnopened folder root [] [] = Unit {0}
 AreUnopened folder root (path ∷ paths) (unopened ∷ more) = IsUnopened folder root path unopened × AreUnopened folder root paths more
 AreUnopened folder root paths unopened = ⊥
 
--- where the file of an include is looked for that stands in the file `from`, each place once
+-- the places at which the file of an include in the file `from` is searched for, each once
 abbrev pub tried_places : Option (List ℕ) → List ℕ → List ℕ → List (List ℕ)
 tried_places root from path = cons_option (below_root root path) (path ∷ (if bytes_eq (beside from path) path then [] else beside from path ∷ []))
 
--- the places where the file of an include was looked for; none where the search ended otherwise
+-- the places at which the file of an include was searched for; none if the search ended for another reason
 abbrev pub places_of : Option (List ℕ) → FindFault → List (List ℕ)
 places_of root (finding.MissingFile from line path) = tried_places root (string_bytes from) (string_bytes path)
 places_of root fault = []
@@ -103,12 +104,12 @@ places_of root fault = []
 abbrev pub AreTried : Option (List FolderEntry) → Words → List ℕ → FindFault → List Unopened → Type 0
 AreTried folder words root fault tried = AreUnopened folder root (places_of words.root fault) tried
 
--- the root can't be read, and why. A word for a private function
+-- the root can't be read, and the reason; a definition for a private function
 abbrev pub IsMissingRoot : Option (List FolderEntry) → List ℕ → List ℕ → Fault → Type 0
 IsMissingRoot folder root path (Unread unopened) = IsUnopened folder root path unopened
 IsMissingRoot folder root path fault = ⊥
 
--- the search ended by this fault of an include. A word for a private function
+-- the search ended with this fault of an include; a definition for a private function
 abbrev pub IsTriedFault : Option (List FolderEntry) → Words → List ℕ → FindFault → Fault → Type 0
 IsTriedFault folder words root why (Find fault tried) = (fault ≡ why) × AreTried folder words root why tried.items
 IsTriedFault folder words root why fault = ⊥
@@ -119,7 +120,7 @@ IsIncludeFault ended (finding.MissingFile from line path) = ended ≡ Err (missi
 IsIncludeFault ended (finding.Include from line fault) = ended ≡ Err (refused (string_bytes from) line fault)
 IsIncludeFault ended fault = ⊥
 
--- the search ended so: the root can't be read, or an include has no file
+-- the search ended this way: the root can't be read, or an include has no file
 abbrev pub EndsSearch : Option (List FolderEntry) → Words → List ℕ → Result (List FoundSource) Stop → Fault → Type 0
 EndsSearch folder words root ended (Unread unopened) = (ended ≡ Err (missing_root (string_bytes unopened.path))) × IsKind folder (opened root (string_bytes unopened.path)) unopened.kind
 EndsSearch folder words root ended (Find fault tried) = IsIncludeFault ended fault × AreTried folder words root fault tried.items
@@ -132,6 +133,6 @@ pub record FailsSearch (folder : Option (List FolderEntry)) (words : Words) (roo
   pub looked : AreLooked folder root files
   pub ends : EndsSearch folder words root (found files words root) fault
 
--- the same of the file at this path, as it lies on the system
+-- the same for the file at this path, as it lies on the system
 abbrev pub FailsFound : Option (List FolderEntry) → Places → List ℕ → Fault → Type 0
 FailsFound folder places path fault = (fault ≡ NoMemory) ⊎ ((locale : Option (List ℕ)) × IsLocaleTable folder places locale × FailsSearch folder (words_with places locale) path fault)

@@ -7,6 +7,6 @@ use Rattle.compose_text.specs.Lines.{lines_of}
 abbrev pub ended : List ℕ → List ℕ
 ended lines = if ends_with nat_eq lines (10 ∷ []) then lines else lines ++ 10 ∷ []
 
--- how many lines a file of names adds: one of an empty file too
+-- the number of lines that a file of names adds: one for an empty file too
 abbrev pub line_count : List ℕ → ℕ
 line_count bytes = max 1 (length (lines_of bytes))

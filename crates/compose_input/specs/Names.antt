@@ -1,4 +1,4 @@
--- Files of names, read of a folder (this project's profile).
+-- Files of names, read from a folder (this project's profile).
 use Rattle.std.specs.Prelude.{◌≡◌, ℕ, List, [], ◌∷◌, ◌++◌, map, flat_map, Option, All, MatchBool, bytes_eq, codes}
 use Rattle.builtin_names.specs.declared.lines.TheConstants.{LINES}
 use Rattle.compose_folder.specs.Content.{Entry, File, IsHeld}
@@ -10,11 +10,11 @@ pub record NamedText : Type 0 where
   pub name : List ℕ
   pub text : List ℕ
 
--- `builtin` has the names that are built in, and any other name is the path of a file
+-- `builtin` has the built-in names, and any other name is the path of a file
 abbrev pub IsNamedText : Option (List Entry) → NamedText → Type 0
 IsNamedText folder n = MatchBool (bytes_eq n.name (codes "builtin")) (n.text ≡ LINES.now) (IsHeld folder n.name (File n.text))
 
--- a file of names, and how many lines it adds
+-- a file of names, and the number of lines that it adds
 abbrev pub header_of : NamedText → List ℕ × ℕ
 header_of n = (n.name, line_count n.text)
 

@@ -1,4 +1,5 @@
--- Where the tables of a system lie (Compose(5): `%S`, `%L` and `%H`), and the table of its locale (XLocale's `compose.dir` and `locale.alias`).
+-- The folders of a system's tables (Compose(5): `%S`, `%L` and `%H`), and the table of its locale (XLocale's
+-- `compose.dir` and `locale.alias`).
 use Rattle.std.specs.Prelude.{◌≡◌, ◌⊎◌, ℕ, List, [], ◌∷◌, ◌++◌, Option, Some, None, option_copied, codes}
 use Rattle.std.specs.List.{cons_option}
 use Rattle.std.specs.Option.{option_map}
@@ -8,24 +9,24 @@ use Rattle.compose_find.specs.Locales.{locale_file}
 use Rattle.compose_input.specs.Texts.{IsFound}
 use Rattle.compose_input.specs.declared.places.Places.{Places}
 
--- what the words of an include stand for, where this is the locale's table
+-- what `%S`, `%L` and `%H` stand for, if this is the locale's table
 abbrev pub words_with : Places → Option (List ℕ) → Words
 words_with places locale = record { system = places.system.now; locale = locale; home = option_copied places.home; root = option_copied places.root }
 
--- the bytes of the file at the first of these paths at which there is one; nothing where there is none
+-- the bytes of the file at the first of these paths at which there is one; empty if there is none
 abbrev pub IsFirstFound : Option (List Entry) → List (List ℕ) → List ℕ → Type 0
 IsFirstFound folder [] bytes = bytes ≡ []
 IsFirstFound folder (path ∷ paths) bytes = IsFound folder path (Some bytes) ⊎ (IsFound folder path None × IsFirstFound folder paths bytes)
 
--- where a file of the system's folder lies: below the root first, if one is given
+-- the paths of a file of the system's folder: first below the root, if one is given
 abbrev pub listing_paths : Places → List ℕ → List (List ℕ)
 listing_paths places path = cons_option (option_map (λ root. root ++ path) (option_copied places.root)) (path ∷ [])
 
--- what the file of the system's folder with this name holds
+-- the bytes of the file of the system's folder with this name
 abbrev pub IsListing : Option (List Entry) → Places → List ℕ → List ℕ → Type 0
 IsListing folder places name bytes = IsFirstFound folder (listing_paths places (places.system.now ++ name)) bytes
 
--- the path of the locale's table, by what the files that list the tables hold
+-- the path of the locale's table, by the contents of the files that list the tables
 abbrev pub IsLocaleTableOf : Option (List Entry) → Places → Option (List ℕ) → Option (List ℕ) → Type 0
 IsLocaleTableOf folder places None table = table ≡ None
 IsLocaleTableOf folder places (Some locale) table =

@@ -1,4 +1,4 @@
--- The files of a table, as a manifest lists them, read of a folder (this project's profile).
+-- The files of a table, as a manifest lists them, read from a folder (this project's profile).
 use Rattle.std.specs.Prelude.{◌≡◌, ℕ, List, [], ◌∷◌, ◌++◌, map, Option, Some, None, Ok, option_copied, unwrap_or, string_bytes}
 use Rattle.std.specs.Option.{option_map}
 use Rattle.compose_model.specs.declared.Rule.{Rule}
@@ -36,7 +36,7 @@ abbrev pub IsEntryRead : Option (List FolderEntry) → Listing → List ℕ → 
 IsEntryRead folder listing at entry paths paths' sources sources' =
     (source : Source) × (paths' ≡ paths ++ file_path listing at entry.path ∷ []) × (sources' ≡ sources ++ source ∷ []) × IsSourceOf folder entry (file_path listing at entry.path) source
 
--- the sources, and what is done with their overlaps
+-- the sources, and the rule for their overlaps
 abbrev pub sources_of : TableFiles → TableSources
 sources_of table = record { sources = table.sources; rule = table.rule }
 
@@ -54,12 +54,12 @@ pub record IsListed (folder : Option (List FolderEntry)) (path : List ℕ) (tabl
 abbrev pub locale_parts : LocaleTable → List ℕ × List ℕ
 locale_parts locale = (string_bytes locale.name, string_bytes locale.path)
 
--- both, where both are known
+-- both, if both are known
 abbrev pub named_table : Option (List ℕ) → Option (List ℕ) → Option (List ℕ × List ℕ)
 named_table (Some name) (Some path) = Some (name, path)
 named_table name path = None
 
--- the locale is the one of these places, with its table, where both are known
+-- the locale is that of these places, with its table, if both are known
 abbrev pub IsLocale : Option (List FolderEntry) → Places → Option LocaleTable → Type 0
 IsLocale folder places locale =
     (path : Option (List ℕ)) × IsLocaleTable folder places path × (option_map locale_parts locale ≡ named_table (option_copied places.locale) path)

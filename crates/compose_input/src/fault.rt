@@ -1,4 +1,4 @@
-//! Why what a command was given can't be read.
+//! Why an input of a command can't be read.
 ghost use Rattle.std.specs.Prelude.{◌≡◌};
 ghost use Rattle.compose_input.specs.declared.fault.Fault.TheVariants.{NoMemory};
 
@@ -8,14 +8,16 @@ use compose_read::SourceFault;
 use std::alloc::{AllocError, AllocFailed};
 use std::io::ErrorKind;
 
-/// A path at which nothing can be read, or no socket used, and why.
+/// A path at which nothing can be read, or no socket can be used, and the reason.
 #[derive(Debug, Drop)]
 pub struct Unopened {
+    /// The path.
     pub path: String,
+    /// The reason.
     pub kind: ErrorKind,
 }
 
-/// Why what a command was given can't be read.
+/// Why an input of a command can't be read.
 #[derive(Debug, Drop)]
 pub enum Fault {
     /// A file can't be read.
@@ -24,43 +26,47 @@ pub enum Fault {
     Manifest {
         /// The path of the manifest.
         path: String,
-        /// What it holds.
+        /// The bytes of the file at this path.
         bytes: Vec<u8>,
+        /// What is wrong with these bytes.
         fault: ManifestFault,
     },
     /// A file can't be among the sources of a table.
     Source {
-        /// Which table it is: `old`, `new` or `table`.
+        /// The table: `old`, `new` or `table`.
         part: &'static str,
-        /// The path that was given for the table, or that of the file.
+        /// The path that was given for the table, or the path of the file.
         path: String,
+        /// Why the file can't be a source.
         fault: SourceFault,
     },
-    /// Not all files of a Compose file are found.
+    /// Not all files of a Compose file were found.
     Find {
+        /// The include that leads to no file, and the reason.
         fault: FindFault,
-        /// The paths at which the file of an include was looked for, where none is there.
+        /// The paths at which the file of an include was searched for; at none of them is a file.
         tried: Vec<Unopened>,
     },
     /// A socket can't be bound, accepted from or connected to.
     Socket(Unopened),
-    /// Another part of what a command was given is refused.
+    /// Another part of the input of a command is refused.
     Refused {
-        /// Which part it is: `load`, `state` or `connection`.
+        /// The part: `load`, `state` or `connection`.
         part: &'static str,
-        /// What is refused, or why.
+        /// What is refused, or the reason.
         text: String,
     },
-    /// A word of the environment is not UTF-8.
+    /// A command-line argument or an environment variable is not UTF-8.
     Word,
-    /// Memory was refused.
+    /// Memory ran out.
     NoMemory,
 }
 
 impl Fault {
     ghost use Rattle.compose_input.specs.Texts.{IsRefused, IsSocket};
 
-    /// That this part of what a command was given is refused, and why; or that memory was, for saying so. O(1).
+    /// Returns `Refused` with this part of the input and the text, or `NoMemory` if there was no
+    /// memory for the text. O(1).
     pub fn refused(part: &'static str, text: Result<String, AllocError>) -> Fault
         ensures { IsRefused part.now text result }
     {
@@ -70,7 +76,8 @@ impl Fault {
         }
     }
 
-    /// That the socket at this path can't be used, and why; or that memory was refused, for saying so. O(1).
+    /// Returns `Socket` with the path of a socket that can't be used and the reason, or `NoMemory`
+    /// if there was no memory for the path. O(1).
     pub fn socket(path: Result<String, AllocError>, kind: ErrorKind) -> Fault
         ensures { IsSocket path kind result }
     {

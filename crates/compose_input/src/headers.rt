@@ -7,8 +7,11 @@ ghost use Rattle.compose_input.specs.Headers.{ended};
 use compose_text::first_line;
 use std::alloc::AllocError;
 
-/// Adds the lines of a file of names to those of the files before it. A newline ends each file, so that no line runs on.
-/// Where memory is refused, the names are of no use: a part of the file's lines may be among them. O(bytes of the lines).
+/// Adds the lines of a file of names to those of the files before it. Each file ends with a
+/// newline, so that no line continues in the next file. O(bytes of the lines).
+///
+/// Errors: `AllocError` if memory runs out. The names are then unusable: only a part of the file's
+/// lines may have been added.
 pub fn add_names(header: &mut Vec<u8>, lines: &[u8]) -> Result<(), AllocError>
     ensures { OnOk result (header.new.items ≡ header.old.items ++ ended lines.now) }
 {
@@ -19,14 +22,15 @@ pub fn add_names(header: &mut Vec<u8>, lines: &[u8]) -> Result<(), AllocError>
     Ok(())
 }
 
-/// How many lines a file of names adds to those before it: at least one. O(bytes).
+/// Returns the number of lines that a file of names adds to those before it: at least one.
+/// O(bytes).
 pub fn line_count(bytes: &[u8]) -> usize
     ensures { result ≡ words.line_count bytes.now }
 {
     lines_in(bytes).max(1)
 }
 
-/// How many lines there are.
+/// Returns the number of lines.
 fn lines_in(bytes: &[u8]) -> usize
     ensures { result ≡ length (lines_of bytes.now) }
 {

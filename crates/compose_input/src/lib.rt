@@ -1,12 +1,15 @@
-//! What a command is given, read once: names, tables, and other texts.
+//! The input of a command, read once: names, tables, and other texts.
 //!
-//! Everything is read through a [`ReadOnce`](compose_folder::ReadOnce), so that each path is opened once in a run, and comes back as a value: the bytes
-//! that were read, or the [`Fault`] that says why there are none. Nothing is printed here.
+//! Everything is read through a [`ReadOnce`](compose_folder::ReadOnce), so that each path is opened
+//! once in a run. It is returned as a value: the bytes that were read, or the [`Fault`] with the
+//! reason why there are none. Nothing is printed here.
 //!
 //! ```text
 //! let names = NameFiles::read(&mut files, alloc, &["builtin"])?;
-//! let table = TableFiles::listed(&mut files, alloc, "table", "table.manifest")?;    // by a manifest
-//! let table = TableFiles::found(&mut files, alloc, places, "old", "en_US", rule)?;  // a Compose file, includes followed
+//! // By a manifest.
+//! let table = TableFiles::listed(&mut files, alloc, "table", "table.manifest")?;
+//! // A Compose file, includes followed.
+//! let table = TableFiles::found(&mut files, alloc, places, "old", "en_US", rule)?;
 //! ```
 #![tactic(auto)]
 

@@ -1,4 +1,4 @@
-//! The files of names.
+//! The files of keysym names.
 ghost use Rattle.std.specs.Prelude.{◌≡◌, map, IfOk, IfErr, OnOk};
 ghost use Rattle.compose_input.specs.Faults.{FailsName, FailNames};
 ghost use Rattle.compose_input.specs.Names.{AreNames, AddsNames, IsNamedText};
@@ -10,27 +10,29 @@ use builtin_names::builtin_names;
 use compose_folder::{Folder, ReadOnce};
 use std::alloc::{AllocError, Global};
 
-/// A file of names.
+/// A file of keysym names.
 #[derive(Clone, Copy, Debug)]
 pub struct Header<'a> {
-    /// Its path, or `builtin`.
+    /// The path of the file, or `builtin`.
     pub path: &'a str,
-    /// How many lines of all names it gives.
+    /// The number of lines that it adds to those of all names.
     pub lines: usize,
 }
 
-/// The files of names.
+/// The files of keysym names.
 #[derive(Drop)]
 pub struct NameFiles<'n> {
-    /// The lines of all files.
+    /// The lines of all files, one file after another.
     pub lines: Vec<u8>,
     /// The files, in their order.
     pub files: Vec<Header<'n>>,
 }
 
 impl<'n> NameFiles<'n> {
-    /// Reads the lines of the files of names, in their order; `builtin` stands for the names that are built in. A fault is that of the first
-    /// file that can't be read. O(bytes).
+    /// Reads the lines of the files of names, in their order; `builtin` stands for the built-in
+    /// names. O(bytes).
+    ///
+    /// Errors: that of the first file that can't be read, or `NoMemory` if memory runs out.
     pub fn read<F: Folder>(
         files: &mut ReadOnce<F>,
         alloc: Global,
@@ -66,7 +68,7 @@ impl<'n> NameFiles<'n> {
     }
 }
 
-/// What is read for a name that was given.
+/// Reads the lines for a given name.
 fn name_text<F: Folder>(
     files: &mut ReadOnce<F>,
     alloc: Global,

@@ -1,4 +1,4 @@
-//! Where the tables of a system lie.
+//! The folders of a system's tables.
 ghost use Rattle.std.specs.Prelude.{◌≡◌, ◌++◌, option_copied, option_map, IfOk, IfErr, string_bytes};
 ghost use Rattle.compose_find.specs.FindGives.{words};
 ghost use Rattle.compose_input.specs.Texts.{IsFound};
@@ -9,25 +9,27 @@ use compose_find::{Meanings, locale_file};
 use compose_folder::{Folder, ReadOnce, Unread};
 use std::alloc::{AllocError, Global};
 
-/// Where the tables of a system lie, and what is known of its user.
+/// The folders of a system's tables, and what is known of its user.
 #[derive(Clone, Copy, Debug, Drop)]
 pub struct Places<'a> {
     /// The folder of the system's tables, for `%S`.
     pub system: &'a str,
-    /// The folder in which the files of a table are looked for, where it was given; else the table's own path tells it.
+    /// The folder of the tree to which the files of a table belong, if it is given; otherwise the
+    /// table's own path shows it.
     pub tree: Option<&'a str>,
-    /// The name of the locale, whose table is `%L`.
+    /// The name of the locale, whose table is `%L`, if it is known.
     pub locale: Option<&'a str>,
-    /// The user's home folder, for `%H`.
+    /// The user's home folder, for `%H`, if it is known.
     pub home: Option<&'a str>,
-    /// The folder below which an absolute path is looked for first, as that of an unpacked package.
+    /// The folder below which a file with an absolute path is searched for first, for example that
+    /// of an unpacked package.
     pub root: Option<&'a str>,
 }
 
 impl<'a> Places<'a> {
     ghost use Rattle.compose_input.specs.Places.{words_with, IsListing, IsLocaleTable};
 
-    /// What `%S`, `%L` and `%H` stand for, where this is the locale's table.
+    /// Returns what `%S`, `%L` and `%H` stand for, if this is the table of the locale.
     pub(crate) fn meanings(&self, locale: Option<&'a str>) -> Meanings<'a>
         ensures { words result ≡ words_with self.now (option_copied locale.entry) }
     {
@@ -39,8 +41,11 @@ impl<'a> Places<'a> {
         }
     }
 
-    /// The path of the table of the locale, if there is one: by the files `compose.dir` and `locale.alias` of the system's folder, of which one
-    /// that can't be read is as an empty one. Memory alone may be refused. O(bytes).
+    /// Returns the path of the table of the locale, if there is one. It is found by the files
+    /// `compose.dir` and `locale.alias` of the system's folder; a file that can't be read counts as
+    /// empty. O(bytes).
+    ///
+    /// Errors: only `NoMemory`, if memory runs out.
     pub fn locale_table<F: Folder>(
         &self,
         files: &mut ReadOnce<F>,
@@ -59,7 +64,8 @@ impl<'a> Places<'a> {
         Ok(locale_file(alloc, self.system, &compose_dir, &aliases, locale)?)
     }
 
-    /// The bytes of the file with this name, which begins with a slash, in the system's folder, below the root where it is there; none where it isn't.
+    /// Returns the bytes of the file with this name, which begins with a slash, in the system's
+    /// folder: below the root if it is there, and empty if there is none.
     fn listing<F: Folder>(
         &self,
         files: &mut ReadOnce<F>,
@@ -85,7 +91,7 @@ impl<'a> Places<'a> {
     }
 }
 
-/// The bytes of the file at this path, if it can be read.
+/// Returns the bytes of the file at this path, if it can be read.
 pub(crate) fn found<F: Folder>(
     files: &mut ReadOnce<F>,
     alloc: Global,
@@ -103,7 +109,7 @@ pub(crate) fn found<F: Folder>(
     }
 }
 
-/// A text, and another behind it.
+/// Returns a text followed by another one.
 pub(crate) fn joined(alloc: Global, first: &str, second: &str) -> Result<String, AllocError>
     ensures { IfOk result (λ text. string_bytes text ≡ first.now ++ second.now) }
 {

@@ -12,8 +12,12 @@ use compose_folder::{Folder, ReadOnce, Unread};
 use std::alloc::{AllocError, Global};
 use std::io::ErrorKind;
 
-/// The files of the Compose file at this path, includes followed, and what they hold; `-` is standard input. O(bytes), and O(s * i) in the sources and
-/// their includes for each file that is looked for. A fault says why the search ended.
+/// Finds and reads the files of the Compose file at this path, includes followed; `-` is standard
+/// input. O(bytes), and O(s * i) in the sources and their includes for each file that is searched
+/// for.
+///
+/// Errors: `Unread` if the file itself can't be read, `Find` if an include has no file or leads
+/// nowhere, or `NoMemory` if memory runs out.
 pub fn find_files<F: Folder>(
     files: &mut ReadOnce<F>,
     alloc: Global,
@@ -30,7 +34,8 @@ pub fn find_files<F: Folder>(
     search(files, alloc, places.meanings(locale.as_deref()), file)
 }
 
-/// The files of the table whose root is at this path. Each search asks for one more path, until it has all.
+/// Returns the files of the table whose root is at this path. Each search asks for one more path,
+/// until all are there.
 fn search<F: Folder>(
     files: &mut ReadOnce<F>,
     alloc: Global,
@@ -61,7 +66,8 @@ fn search<F: Folder>(
     Err(Fault::NoMemory)
 }
 
-/// What is opened for a path: `-` is standard input where it was given as the root, and else a file's name as any other.
+/// Returns what is opened for a path: `-` is standard input if it was given as the root, and
+/// otherwise an ordinary file name.
 fn opened<'p>(path: &'p str, root: &str) -> &'p str
     ensures { result.now ≡ opened root.now path.now }
 {
@@ -71,7 +77,7 @@ fn opened<'p>(path: &'p str, root: &str) -> &'p str
     path
 }
 
-/// That the root can't be read, and why.
+/// Returns the fault that the root can't be read, with the reason.
 fn missing_root<F: Folder>(
     files: &mut ReadOnce<F>,
     alloc: Global,
@@ -85,7 +91,8 @@ fn missing_root<F: Folder>(
     Ok(Fault::Unread(unopened(files, alloc, root, path)?))
 }
 
-/// That an include has no file or leads nowhere, and the paths at which its file was looked for.
+/// Returns the fault that an include has no file or leads nowhere, with the paths at which its file
+/// was searched for.
 fn include_fault<F: Folder>(
     files: &mut ReadOnce<F>,
     alloc: Global,
@@ -102,7 +109,7 @@ fn include_fault<F: Folder>(
     Ok(Fault::Find { fault, tried })
 }
 
-/// Why nothing is read at each of these paths.
+/// Returns the reason why nothing is read at each of these paths.
 fn all_unopened<F: Folder>(
     files: &mut ReadOnce<F>,
     alloc: Global,
@@ -120,7 +127,8 @@ fn all_unopened<F: Folder>(
     Ok(tried)
 }
 
-/// The paths at which the file of an include was looked for, in that order; none where the search ended otherwise.
+/// Returns the paths at which the file of an include was searched for, in that order; none if the
+/// search ended for another reason.
 fn tried_places(
     alloc: Global,
     root: Option<&str>,
@@ -145,7 +153,7 @@ fn tried_places(
     Ok(places)
 }
 
-/// Why nothing is read at this path; that it isn't there, where it can be read by now.
+/// Returns the reason why nothing is read at this path: `NotFound` if it can be read by now.
 fn unopened<F: Folder>(
     files: &mut ReadOnce<F>,
     alloc: Global,
@@ -161,7 +169,8 @@ fn unopened<F: Folder>(
     Ok(Unopened { path, kind })
 }
 
-/// Why nothing is read of what is opened at this path; that it isn't there, where it can be read by now.
+/// Returns the reason why nothing is read from what is opened at this path: `NotFound` if it can be
+/// read by now.
 fn kind_at<F: Folder>(
     files: &mut ReadOnce<F>,
     alloc: Global,

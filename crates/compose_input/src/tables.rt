@@ -17,18 +17,20 @@ use compose_model::Rule;
 use compose_read::{SourceFault, Sources};
 use std::alloc::{AllocError, Global};
 
-/// The sources of a table, the paths of their files, and what is done with its overlaps.
+/// The sources of a table, the paths of their files, and the rule for its overlaps.
 #[derive(Drop)]
 pub struct TableFiles {
     /// The path that was given: that of its manifest, or of its Compose file.
     pub path: String,
-    /// The path of each source's file, in their order.
+    /// The path of each source's file, in the order of the sources.
     pub paths: Vec<String>,
+    /// The sources.
     pub sources: Sources,
+    /// The rule for overlaps.
     pub rule: Rule,
-    /// What there is to note of where its files lie, in lines.
+    /// Notes on the places of its files, as lines.
     pub note: String,
-    /// The table of the locale, where one is known.
+    /// The table of the locale, if it is known.
     pub locale: Option<LocaleTable>,
 }
 
@@ -46,8 +48,10 @@ impl TableFiles {
     ghost use Rattle.compose_input.specs.Tables.{IsListed, IsFoundOnSystem, sources_of};
     ghost use Rattle.compose_migration.specs.MigrationGives.{table_given};
 
-    /// Reads a manifest, and the files that it lists. A fault is that of the manifest, or of the first entry whose file is refused; the fault of a
-    /// source names this part. O(bytes).
+    /// Reads a manifest and the files that it lists. A fault of a source names this part. O(bytes).
+    ///
+    /// Errors: the fault of the manifest, or of the first entry whose file is refused, or
+    /// `NoMemory` if memory runs out.
     pub fn listed<F: Folder>(
         files: &mut ReadOnce<F>,
         alloc: Global,
@@ -71,7 +75,9 @@ impl TableFiles {
         })
     }
 
-    /// Finds the files of a Compose file as it lies on a system, and reads them. A fault says why they are not found. O(bytes).
+    /// Finds the files of a Compose file as it lies on a system, and reads them. O(bytes).
+    ///
+    /// Errors: the reason why they are not all found, or `NoMemory` if memory runs out.
     pub fn found<F: Folder>(
         files: &mut ReadOnce<F>,
         alloc: Global,
@@ -98,7 +104,7 @@ impl TableFiles {
         })
     }
 
-    /// The sources, and what is done with their overlaps.
+    /// Returns the sources, and the rule for their overlaps.
     pub fn into_parts(self) -> (Sources, Rule)
         ensures sources { result.0 ≡ self.sources }
         ensures rule { result.1 ≡ self.rule }
@@ -107,7 +113,9 @@ impl TableFiles {
         (sources, rule)
     }
 
-    /// The path of each source. O(sources).
+    /// Returns the path of each source. O(sources).
+    ///
+    /// Errors: `AllocError` if memory runs out.
     pub fn path_texts(&self, alloc: Global) -> Result<Vec<&str>, AllocError>
         ensures { IfOk result
             (λ texts. map (λ text. text.now) texts.items ≡ map string_bytes self.now.paths.items) }
@@ -119,7 +127,7 @@ impl TableFiles {
         Ok(paths)
     }
 
-    /// The table that they are to give.
+    /// Returns the table that they define.
     pub fn input(&self) -> TableInput<'_>
         ensures { table_given result ≡ sources_of self.now }
     {
@@ -130,8 +138,12 @@ impl TableFiles {
     }
 }
 
-/// Notes which of these files lie outside of the tree of tables of the first one, a line for each: the folder that was given as the tree, or else
-/// the one in which the first file's path shows a locale's table. O(bytes of the paths).
+/// Returns a line for each of these files that lies outside of the tree of tables, also outside of
+/// the root if one is given; the first file, which is the table's root, is not examined. The tree
+/// is the folder that was given, or else the one in which `path` is that of a locale's table;
+/// without a tree there are no lines. O(bytes of the paths).
+///
+/// Errors: `AllocError` if memory runs out.
 pub fn files_note(
     alloc: Global,
     places: Places<'_>,
@@ -147,7 +159,7 @@ pub fn files_note(
     }
 }
 
-/// The locale and its table, where both are known.
+/// Returns the locale and its table, if both are known.
 fn known_locale<F: Folder>(
     files: &mut ReadOnce<F>,
     alloc: Global,
@@ -161,7 +173,7 @@ fn known_locale<F: Folder>(
     Ok(named_table(alloc, places.locale, path)?)
 }
 
-/// The locale with this name and the table at this path, where both are known.
+/// Returns the locale with this name and the table at this path, if both are known.
 fn named_table(
     alloc: Global,
     name: Option<&str>,
@@ -181,7 +193,7 @@ fn named_table(
     Ok(Some(LocaleTable { name, path }))
 }
 
-/// The paths of files that were found.
+/// Returns the paths of files that were found.
 fn paths_of(alloc: Global, found: Vec<FoundSource>) -> Result<Vec<String>, AllocError>
     ensures { IfOk result
         (λ paths. map string_bytes paths.items ≡ map (λ source. source.path) found.items) }
@@ -215,14 +227,14 @@ fn read_listing<F: Folder>(
     }
 }
 
-/// The paths and the sources that were read of a manifest.
+/// The paths and the sources that were read for a manifest.
 #[derive(Drop)]
 struct ReadEntries {
     paths: Vec<String>,
     sources: Sources,
 }
 
-/// Reads the files of a manifest, which is at the path `at`.
+/// Reads the files of a manifest; `at` is the path of the manifest.
 fn read_entries<F: Folder>(
     files: &mut ReadOnce<F>,
     alloc: Global,
@@ -248,7 +260,7 @@ fn read_entries<F: Folder>(
     Ok(read)
 }
 
-/// Reads the file of an entry of a manifest, which is at the path `at`.
+/// Reads the file of an entry of a manifest; `at` is the path of the manifest.
 fn add_entry<F: Folder>(
     files: &mut ReadOnce<F>,
     alloc: Global,

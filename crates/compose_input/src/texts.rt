@@ -7,7 +7,9 @@ use compose_folder::{Folder, ReadOnce, Unread};
 use std::alloc::Global;
 use std::io::ErrorKind;
 
-/// The bytes of the file at this path; `-` is standard input. O(bytes).
+/// Returns the bytes of the file at this path; `-` is standard input. O(bytes).
+///
+/// Errors: `Unread` if it can't be read, or `NoMemory` if memory runs out.
 pub fn read_text<F: Folder>(
     files: &mut ReadOnce<F>,
     alloc: Global,
@@ -23,7 +25,8 @@ pub fn read_text<F: Folder>(
     }
 }
 
-/// The bytes of the file at a path that stands in a file, where `-` is a file's name as any other. O(bytes).
+/// Returns the bytes of the file at a path that is written in a file, where `-` is an ordinary file
+/// name. O(bytes).
 pub(crate) fn read_named<F: Folder>(
     files: &mut ReadOnce<F>,
     alloc: Global,
@@ -38,7 +41,7 @@ pub(crate) fn read_named<F: Folder>(
     read_text(files, alloc, path)
 }
 
-/// That the file at this path can't be read.
+/// Returns the fault that the file at this path can't be read.
 pub(crate) fn unread(alloc: Global, path: &str, kind: ErrorKind) -> Fault
     ensures { IsUnread path.now kind result }
 {

@@ -1,4 +1,4 @@
--- Lists of keys as the lines of standard input write them (this project's profile).
+-- Lists of keys as written on the lines of standard input (this project's profile).
 use Rattle.std.specs.Prelude.{ℕ, Bool, true, false, ◌+◌, ◌-◌, ◌==◌, nat_lt, if◌then◌else◌, List, [], ◌∷◌, ◌++◌, filter, flat_map, Result, Ok, Err, codes}
 use Rattle.std.specs.List.{slice_split}
 use Rattle.std.specs.Fmt.{decimal}
@@ -10,7 +10,7 @@ abbrev pub is_word : List ℕ → Bool
 is_word [] = false
 is_word (b ∷ word) = true
 
--- what stands between tabs (code 9)
+-- the words between tabs (code 9)
 abbrev pub words_between : List ℕ → List (List ℕ)
 words_between part = filter is_word (slice_split (λ b. b == 9) part)
 
@@ -26,7 +26,7 @@ line_from line (count ∷ counts) index = if nat_lt index count then line else l
 abbrev pub line_of : List ℕ → ℕ → ℕ
 line_of counts index = line_from 1 counts index
 
--- what is said of the line of a key that has no keysym (code 10 ends it)
+-- the message about the line of a key that has no keysym (code 10 ends it)
 abbrev pub refused_line : List ℕ → Result Answer Refusal → List ℕ
 refused_line counts (Err (Key index)) = codes "composecheck: the key is in line " ++ (decimal (line_of counts index) ++ codes " of standard input\n")
 refused_line counts answered = []

@@ -1,10 +1,4 @@
-//! Lists of keys as lines write them: a list for each line, the keys of a list between blanks.
-//!
-//! ```text
-//! Multi_key e '      ->   Multi_key e ' x y    3 0 2
-//!
-//! x y
-//! ```
+//! Lists of keys as written on lines: a list for each line, its keys separated by blanks.
 #![tactic(auto)]
 
 mod lists;

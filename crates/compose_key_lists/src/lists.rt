@@ -7,14 +7,17 @@ ghost use Rattle.compose_key_lists.specs.Lists.{is_word, words_in};
 
 use std::alloc::{AllocError, Global};
 
-/// The words of some lines, and how many of them each line has.
+/// The words of some lines, and the number of words on each line.
 #[derive(Drop)]
 pub struct KeyLists<'a> {
+    /// The words of all lines, in order.
     pub words: Vec<&'a str>,
+    /// For each line, the number of its words; 0 for an empty line.
     pub counts: Vec<usize>,
 }
 
-/// The words of the lines of a text, which are divided by spaces and tabs. O(bytes).
+/// Splits the lines of a text into words, which are separated by spaces and tabs. `Err(AllocError)`
+/// if memory runs out. O(bytes).
 pub fn key_lists<'a>(alloc: Global, text: &'a str) -> Result<KeyLists<'a>, AllocError>
     ensures words { IfOk result
         (λ lists. map (λ word. word.now) lists.words.items ≡ flat_map words_in (lines text.now)) }
@@ -25,14 +28,14 @@ pub fn key_lists<'a>(alloc: Global, text: &'a str) -> Result<KeyLists<'a>, Alloc
     lists_of(alloc, &lines)
 }
 
-/// The lines of a text.
+/// Returns the lines of a text.
 fn lines_of<'a>(alloc: Global, text: &'a str) -> Result<Vec<&'a str>, AllocError>
     ensures { IfOk result (λ own. map (λ line. line.now) own.items ≡ lines text.now) }
 {
     text.lines().collect(alloc)
 }
 
-/// The words of these lines.
+/// Splits these lines into words.
 fn lists_of<'a>(alloc: Global, lines: &[&'a str]) -> Result<KeyLists<'a>, AllocError>
     ensures words { IfOk result
         (λ lists. map (λ word. word.now) lists.words.items
@@ -51,7 +54,7 @@ fn lists_of<'a>(alloc: Global, lines: &[&'a str]) -> Result<KeyLists<'a>, AllocE
     Ok(KeyLists { words, counts })
 }
 
-/// Adds these words.
+/// Appends these words.
 fn push_all<'a>(words: &mut Vec<&'a str>, own: &[&'a str]) -> Result<(), AllocError>
     ensures { OnOk result (words.new.items ≡ words.old.items ++ own.now) }
 {
@@ -59,7 +62,7 @@ fn push_all<'a>(words: &mut Vec<&'a str>, own: &[&'a str]) -> Result<(), AllocEr
     Ok(())
 }
 
-/// The words of a line.
+/// Returns the words of a line.
 fn line_words<'a>(alloc: Global, line: &'a str) -> Result<Vec<&'a str>, AllocError>
     ensures { IfOk result (λ words. map (λ word. word.now) words.items ≡ words_in line.now) }
 {
@@ -67,7 +70,7 @@ fn line_words<'a>(alloc: Global, line: &'a str) -> Result<Vec<&'a str>, AllocErr
     words_of(alloc, &parts)
 }
 
-/// The parts of a line between spaces.
+/// Returns the parts of a line between spaces.
 fn between_spaces<'a>(alloc: Global, line: &'a str) -> Result<Vec<&'a str>, AllocError>
     ensures { IfOk result
         (λ parts. map (λ part. part.now) parts.items ≡ slice_split (λ b. b == 32) line.now) }
@@ -75,7 +78,7 @@ fn between_spaces<'a>(alloc: Global, line: &'a str) -> Result<Vec<&'a str>, Allo
     line.split(' ').collect(alloc)
 }
 
-/// The words of these parts, which have no space.
+/// Returns the words of these parts, which have no spaces.
 fn words_of<'a>(alloc: Global, parts: &[&'a str]) -> Result<Vec<&'a str>, AllocError>
     ensures { IfOk result
         (λ words. map (λ word. word.now) words.items
@@ -88,7 +91,7 @@ fn words_of<'a>(alloc: Global, parts: &[&'a str]) -> Result<Vec<&'a str>, AllocE
     Ok(words)
 }
 
-/// Adds the words of a part of a line that has no space.
+/// Appends the words of a part of a line that has no space.
 fn push_words<'a>(alloc: Global, words: &mut Vec<&'a str>, part: &'a str) -> Result<(), AllocError>
     ensures { OnOk result
         (map (λ word. word.now) words.new.items
@@ -98,7 +101,7 @@ fn push_words<'a>(alloc: Global, words: &mut Vec<&'a str>, part: &'a str) -> Res
     push_pieces(words, &pieces)
 }
 
-/// The parts of a text between tabs.
+/// Returns the parts of a text between tabs.
 fn between_tabs<'a>(alloc: Global, text: &'a str) -> Result<Vec<&'a str>, AllocError>
     ensures { IfOk result
         (λ pieces. map (λ piece. piece.now) pieces.items ≡ slice_split (λ b. b == 9) text.now) }
@@ -106,7 +109,7 @@ fn between_tabs<'a>(alloc: Global, text: &'a str) -> Result<Vec<&'a str>, AllocE
     text.split('\t').collect(alloc)
 }
 
-/// Adds those of the pieces that are words.
+/// Appends those of the pieces that are words.
 fn push_pieces<'a>(words: &mut Vec<&'a str>, pieces: &[&'a str]) -> Result<(), AllocError>
     ensures { OnOk result
         (map (λ word. word.now) words.new.items
@@ -119,7 +122,7 @@ fn push_pieces<'a>(words: &mut Vec<&'a str>, pieces: &[&'a str]) -> Result<(), A
     Ok(())
 }
 
-/// Adds a piece that is a word.
+/// Appends a piece if it is a word.
 fn push_word<'a>(words: &mut Vec<&'a str>, piece: &'a str) -> Result<(), AllocError>
     ensures { OnOk result
         (map (λ word. word.now) words.new.items

@@ -1,11 +1,12 @@
-//! In which line a key is refused.
+//! The line in which a key is refused.
 ghost use Rattle.std.specs.Prelude.{◌≡◌, IfOk, string_bytes};
 ghost use Rattle.compose_key_lists.specs.Lists as wanted;
 
 use compose_answer::{Answer, Refusal};
 use std::alloc::{AllocError, Global};
 
-/// What is said of the line of standard input in which a key is refused, if one is. O(lines).
+/// Returns the message that names the line of standard input in which a key is refused, or nothing
+/// if none is. `Err(AllocError)` if memory runs out. O(lines).
 pub fn refused_line(
     alloc: Global,
     counts: &[usize],
@@ -23,7 +24,8 @@ pub fn refused_line(
     }
 }
 
-/// The number of the line that has the key with this index, from 1; one more than all lines, if none has it.
+/// Returns the number of the line that has the key with this index, counted from 1; one more than
+/// the number of lines, if none has it.
 fn line_of(counts: &[usize], index: usize) -> usize
     ensures { result ≡ wanted.line_of counts.now index }
 {

@@ -1,4 +1,4 @@
--- The digits of a code, read from the beginning on.
+-- The digits of a code, read from the first one on.
 use Rattle.std.proofs.Common.{◌≡◌, ℕ, ◌+◌, ◌*◌, ◌^◌, ◌<◌, ◌≤◌, List, ◌∷◌, ◌++◌, length, take, drop, get_or, nat_lt, refl, sym, ◌∙◌, ap, arith, true, lt-ltb}
 use Rattle.std.specs.Char.{digit_value}
 use Rattle.std.specs.Str.Parse.{digits_value, AllDigits}
@@ -23,7 +23,7 @@ short_code radix digits low few all =
     let long : 16 ^ length digits ≤ 16 ^ 3 = pow-le-pow_right sixteen few in
     omega (arith, below, base, long)
 
--- one digit more is written in the value, which stays below 4,096
+-- one more digit goes into the value, which is still below 4,096
 pub code_more : (radix value digit : ℕ) (bytes : List ℕ) (len : ℕ) → radix ≤ 16 → len < length bytes → digit_value (get_or bytes len 0) < radix → digit ≡ digit_value (get_or bytes len 0)
     → Code radix value bytes len
     → (value * radix + digit < 4096) × Code radix (value * radix + digit) bytes (len + 1)

@@ -1,4 +1,4 @@
--- A loop that decodes piece by piece: the bytes so far stand before those of the rest.
+-- A loop that decodes piece by piece: the bytes so far come before those of the rest.
 use Rattle.std.proofs.Common.{◌≡◌, ℕ, suc, zero, ◌+◌, ◌-◌, ◌≤◌, List, [], ◌∷◌, ◌++◌, length, take, drop, Bool, true, false, cond, refl, sym, ◌∙◌, ap, arith}
 use Rattle.std.specs.Prelude.{◌==◌, Some, Result, Ok, Err}
 use Rattle.std.proofs.Math.Numerals.{one-add}
@@ -8,7 +8,7 @@ use Rattle.compose_lex.specs.Steps.{with_bytes, piece_byte, IsDecoded}
 use Rattle.compose_lex.specs.declared.LexFault.{LexFault}
 use Rattle.compose_lex.proofs.EscapeRead.{escape_fits}
 
--- the bytes so far, of which the first 255 are kept, stand before those of the rest
+-- the bytes so far, of which the first 255 are kept, come before those of the rest
 pub record Decodes (raw : List ℕ) (at : ℕ) (kept : List ℕ) (len : ℕ) : Type 0 where
   pub within : at ≤ length raw
   pub few : len ≤ at
@@ -16,13 +16,13 @@ pub record Decodes (raw : List ℕ) (at : ℕ) (kept : List ℕ) (len : ℕ) : T
   pub decoded : IsDecoded kept len done
   pub read : bytes_from 0 0 raw ≡ with_bytes done (bytes_from at 0 (drop at raw))
 
--- what still belongs to the piece before is passed over
+-- bytes that still belong to the piece before are skipped
 pub skipped_to : (at left : ℕ) (rest : List ℕ) → bytes_from at left rest ≡ bytes_from (at + left) 0 (drop left rest)
 skipped_to at zero rest = let e : at ≡ at + 0 = omega arith in ap (λ x. bytes_from x 0 rest) e
 skipped_to at (suc left) [] = refl
 skipped_to at (suc left) (b ∷ rest) = let e : 1 + at + left ≡ at + suc left = omega arith in skipped_to (1 + at) left rest ∙ ap (λ x. bytes_from x 0 (drop left rest)) e
 
--- one byte, and its piece has `len` bytes behind the first
+-- one byte, whose piece has `len` bytes after the first
 read_one : (at b byte len : ℕ) (rest : List ℕ) → (first_len : ℕ) → first_len ≡ len → piece (b ∷ take len rest) (drop len rest) ≡ Some byte
     → with_byte (piece (b ∷ take first_len rest) (drop first_len rest)) (escape_fault at rest) (bytes_from (1 + at) first_len rest)
     ≡ with_bytes (byte ∷ []) (bytes_from (at + (1 + len)) 0 (drop len rest))
@@ -39,13 +39,13 @@ put_twice : (done : List ℕ) (byte : ℕ) (r : Result (List ℕ) LexFault) → 
 put_twice done byte (Ok bytes) = ap (λ x. let r : Result (List ℕ) LexFault = Ok x in r) (sym (append_assoc done (byte ∷ []) bytes))
 put_twice done byte (Err e) = refl
 
--- what is kept does not depend on what was left out before
+-- what is kept does not depend on what was dropped before
 kept_again : (n : ℕ) (done : List ℕ) (byte : ℕ) → take n (take n done ++ byte ∷ []) ≡ take n (done ++ byte ∷ [])
 kept_again zero done byte = refl
 kept_again (suc n) [] byte = refl
 kept_again (suc n) (d ∷ done) byte = ap (λ t. d ∷ t) (kept_again n done byte)
 
--- a piece takes no more than there is
+-- a piece has no more bytes than there are
 pub piece_fits : (b : ℕ) (rest : List ℕ) → first_len (b ∷ rest) ≤ length rest
 piece_fits b rest = go (b == 92)
   where
@@ -53,7 +53,7 @@ piece_fits b rest = go (b == 92)
     go true = escape_fits rest
     go false = omega arith
 
--- one piece more is decoded to its byte, and of the bytes the first 255 are kept
+-- one more piece is decoded to its byte, and the first 255 bytes are kept
 pub decodes_more : (raw : List ℕ) (at len b byte taken : ℕ) (kept more behind : List ℕ) → drop at raw ≡ b ∷ behind → piece_byte b behind ≡ Some byte → taken ≡ first_len (b ∷ behind)
     → more ≡ take 255 (kept ++ byte ∷ [])
     → Decodes raw at kept len → Decodes raw (at + (1 + taken)) more (len + 1)

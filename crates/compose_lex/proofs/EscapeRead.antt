@@ -14,7 +14,7 @@ use Rattle.compose_text.specs.Numbers.{is_hexadecimal_digit}
 use Rattle.compose_lex.specs.Escape.{is_octal, is_run, byte_of, escape, escape_len, escape_fault}
 use Rattle.compose_lex.proofs.Runs.{prefix_passes}
 
--- the bytes taken are as many as may be
+-- as many bytes as possible are read
 eqb-suc : (a b : ℕ) → (suc a == suc b) ≡ (a == b)
 eqb-suc a b = grind (arith, nat_tests)
 
@@ -39,7 +39,7 @@ prefix_short p (x ∷ xs) = go (p x) (prefix_short p xs)
 run_most : (p : ℕ → Bool) (most : ℕ) (rest : List ℕ) → length (leading p (take most rest)) ≤ most
 run_most p most rest = let a = prefix_short p (take most rest) in let b = simp length-take at a in omega (arith, b)
 
--- the bytes taken are a run if there are any
+-- the bytes that are read are a run if there are any
 run_is_some : (p : ℕ → Bool) (most : ℕ) (rest : List ℕ) → 0 < length (leading p (take most rest)) → is_run p most (leading p (take most rest)) (drop (length (leading p (take most rest))) rest) ≡ true
 run_is_some p most rest h =
     let ds = leading p (take most rest) in
@@ -49,7 +49,7 @@ run_is_some p most rest h =
     (and_from (nat_lt 0 (length ds) && nat_le (length ds) most) (list_all p ds) (and_from (nat_lt 0 (length ds)) (nat_le (length ds) most) some few) (prefix_passes p (take most rest)))
     (run_ends p most rest)
 
--- so the code of a run is that of the digits taken; no digit writes 0, which stands for no byte
+-- so the code of a run is that of the digits that are read; no digits are the number 0, which does not stand for a byte
 run_code : (p : ℕ → Bool) (most radix : ℕ) (rest : List ℕ)
     → let ds = leading p (take most rest) in let after = drop (length ds) rest in cond (is_run p most ds after) (byte_of (digits_value radix ds)) None ≡ byte_of (digits_value radix ds)
 run_code p most radix rest = go (leading p (take most rest)) (drop (length (leading p (take most rest))) rest) (run_is_some p most rest)
@@ -58,7 +58,7 @@ run_code p most radix rest = go (leading p (take most rest)) (drop (length (lead
     go [] after h = refl
     go (d ∷ ds) after h = let is = h (omega arith) in rw is refl
 
--- the bytes taken are those at the beginning
+-- the bytes that are read are the leading ones
 prefix_taken : (p : ℕ → Bool) (most : ℕ) (rest : List ℕ) → take (length (leading p (take most rest))) rest ≡ leading p (take most rest)
 prefix_taken p zero rest = refl
 prefix_taken p (suc m) [] = refl
@@ -71,13 +71,14 @@ prefix_taken p (suc m) (r ∷ rest) = go (p r) (prefix_taken p m rest)
 
 -- ---- codes
 
--- what an escape behind its backslash stands for, how many bytes it takes, and its fault where it stands for nothing
+-- the byte that an escape stands for, after its backslash, the number of bytes that it takes, and its fault if it
+-- stands for none
 pub record EscapeIs (at : ℕ) (rest : List ℕ) (byte : Option ℕ) (len : ℕ) (fault : LexFault) : Type 0 where
   pub stands : escape_byte rest ≡ byte
   pub takes : escape_len rest ≡ len
   pub fails : escape_fault at rest ≡ fault
 
--- behind `x` or `X` the hexadecimal digits among the next two bytes are the code
+-- after `x` or `X` the hexadecimal digits among the next two bytes are the code
 pub hexadecimal_is : (at e : ℕ) (rest : List ℕ) → (e == 120 || e == 88) ≡ true
     → let ds = leading is_hexadecimal_digit (take 2 rest) in EscapeIs at (e ∷ rest) (byte_of (digits_value 16 ds)) (1 + length ds) (BadCode at)
 hexadecimal_is at e rest h =
@@ -97,7 +98,7 @@ octal_read : (e : ℕ) (digits after : List ℕ) → (e == 120 || e == 88) ≡ f
     → escape (e ∷ digits) after ≡ cond (is_run is_octal 3 (e ∷ digits) after) (byte_of (digits_value 8 (e ∷ digits))) None
 octal_read e digits after h o = rw (h, o) refl
 
--- where no `x` stands, the octal digits among the next three bytes are the code, if there is one
+-- if there is no `x`, the octal digits among the next three bytes are the code, if there is one
 pub octal_is : (at e : ℕ) (rest : List ℕ) → (e == 120 || e == 88) ≡ false → 0 < length (leading is_octal (take 3 (e ∷ rest)))
     → let ds = leading is_octal (take 3 (e ∷ rest)) in EscapeIs at (e ∷ rest) (byte_of (digits_value 8 ds)) (length ds) (BadCode at)
 octal_is at e rest h some = go (is_octal e) refl some
@@ -119,13 +120,13 @@ octal_is at e rest h some = go (is_octal e) refl some
           fails = rw (h, o) refl;
         }
 
--- a byte found so is the byte of the escape
+-- a byte that is found in this way is the byte of the escape
 pub escape_found : (at : ℕ) (rest : List ℕ) (byte : Option ℕ) (len : ℕ) (fault : LexFault) (r : Result (ℕ × ℕ) LexFault) → EscapeIs at rest byte len fault → IsByte byte len fault r
     → IsByte (escape_byte rest) (escape_len rest) (escape_fault at rest) r
 escape_found at rest byte len fault (Ok x) is h = (is.stands ∙ h.0, h.1 ∙ sym is.takes)
 escape_found at rest byte len fault (Err e) is h = (is.stands ∙ h.0, h.1 ∙ sym is.fails)
 
--- an escape takes no more than there is
+-- an escape has no more bytes than there are
 pub escape_fits : (rest : List ℕ) → escape_len rest ≤ length rest
 escape_fits [] = omega arith
 escape_fits (e ∷ rest) = go (e == 120 || e == 88) (is_octal e)

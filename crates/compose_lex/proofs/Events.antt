@@ -1,4 +1,4 @@
--- A loop that reads the events behind the first one: the events so far stand before those of the rest.
+-- A loop that reads the events after the first one: the events so far come before those of the rest.
 use Rattle.std.proofs.Common.{◌≡◌, ℕ, suc, zero, ◌+◌, ◌-◌, ◌<◌, ◌≤◌, List, [], ◌∷◌, ◌++◌, refl, sym, ◌∙◌, ap, arith}
 use Rattle.std.specs.Prelude.{Result, Ok, Err}
 use Rattle.std.proofs.lemmas.List.{append_assoc}
@@ -28,7 +28,7 @@ pub events_full : (n : ℕ) (rest behind : List ℕ) → ((event : Reads) → co
 unfolding events_at
 events_full n rest behind h = h (λ _. Err TooManyKeysyms)
 
--- a further event that is none
+-- a further event that is not valid
 pub events_broken : (n left : ℕ) (rest behind : List ℕ) (fault : LexFault) → ((event : Reads) → colon_or n (skip_blanks rest) event ≡ event behind) → event_at n behind ≡ Err fault
     → events_at n (suc left) rest ≡ Err fault
 unfolding events_at
@@ -49,7 +49,7 @@ events_more n left prefix rest behind name after h e =
     ap (with_prefix prefix) (h (λ rest. event_at n rest >>= λ event. events_at n left event.1 >>= λ more. Ok (event.0 ∷ more.0, more.1))
     ∙ ap (λ r. r >>= λ event. events_at n left event.1 >>= λ more. Ok (event.0 ∷ more.0, more.1)) e) ∙ put_event prefix name (events_at n left after)
 
--- the same, with the number of events that may still come
+-- the same, with the number of events that may still follow
 pub one_more : (n count : ℕ) (prefix : List (List ℕ)) (rest behind name after : List ℕ) → count < 32 → ((event : Reads) → colon_or n (skip_blanks rest) event ≡ event behind)
     → event_at n behind ≡ Ok (name, after)
     → with_prefix prefix (events_at n (32 - count) rest) ≡ with_prefix (prefix ++ name ∷ []) (events_at n (32 - (count + 1)) after)
@@ -57,14 +57,14 @@ one_more n count prefix rest behind name after few h e =
     let left : 32 - count ≡ suc (32 - (count + 1)) = omega arith in
     ap (λ x. with_prefix prefix (events_at n x rest)) left ∙ events_more n (32 - (count + 1)) prefix rest behind name after h e
 
--- where fewer than 32 events stand before a broken one, its fault is that of the events
+-- if fewer than 32 events come before a faulty one, its fault is that of the events
 pub one_broken : (n count : ℕ) (rest behind : List ℕ) (fault : LexFault) → count < 32 → ((event : Reads) → colon_or n (skip_blanks rest) event ≡ event behind) → event_at n behind ≡ Err fault
     → events_at n (32 - count) rest ≡ Err fault
 one_broken n count rest behind fault few h e =
     let left : 32 - count ≡ suc (32 - (count + 1)) = omega arith in
     ap (λ x. events_at n x rest) left ∙ events_broken n (32 - (count + 1)) rest behind fault h e
 
--- an event behind 32 others is one too many
+-- an event after 32 others is one too many
 pub one_too_many : (n count : ℕ) (rest behind : List ℕ) → 32 ≤ count → ((event : Reads) → colon_or n (skip_blanks rest) event ≡ event behind) → events_at n (32 - count) rest ≡ Err TooManyKeysyms
 one_too_many n count rest behind many h =
     let left : 32 - count ≡ 0 = omega arith in

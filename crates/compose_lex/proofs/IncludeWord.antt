@@ -1,4 +1,4 @@
--- The name at the beginning of a line is the word `include` exactly where the line begins with that word.
+-- The name at the beginning of a line is the word `include` exactly if the line begins with that word.
 use Rattle.std.proofs.Common.{◌≡◌, ◌≢◌, ℕ, List, [], ◌∷◌, ◌++◌, drop, Bool, true, false, cond, not, refl, sym, ◌∙◌, ap}
 use Rattle.std.specs.Prelude.{nat_eq, codes}
 use Rattle.std.specs.List.{starts_with}
@@ -8,7 +8,7 @@ use Rattle.compose_lex.specs.Fault.{is_include}
 use Rattle.compose_lex.proofs.Runs.{parts_of, prefix_all}
 use Rattle.compose_lex.proofs.LineSaid.{starts_is}
 
--- a run of bytes that pass ends where none passes
+-- what follows a run of bytes that pass a test does not begin with one that passes
 pub behind_stops : (p : ℕ → Bool) (xs : List ℕ) → begins p (behind p xs) ≡ false
 behind_stops p [] = refl
 behind_stops p (x ∷ xs) = go (p x) refl (behind_stops p xs)
@@ -17,13 +17,13 @@ behind_stops p (x ∷ xs) = go (p x) refl (behind_stops p xs)
     go true e h = h
     go false e h = e
 
--- a word that is `include` is found, and what follows it stands seven bytes further
+-- a word that is `include` is found, and what follows it begins seven bytes further
 pub include_here : (rest : List ℕ) → leading is_name_byte rest ≡ codes "include" → (is_include rest ≡ true) × (behind is_name_byte rest ≡ drop 7 rest)
 include_here rest e =
     let is : rest ≡ codes "include" ++ behind is_name_byte rest = parts_of is_name_byte rest ∙ ap (λ x. x ++ behind is_name_byte rest) e in
     (ap is_include is ∙ ap not (behind_stops is_name_byte rest), sym (ap (drop 7) is))
 
--- any other word at the beginning is no `include`
+-- any other word at the beginning is not `include`
 pub no_include : (rest : List ℕ) → leading is_name_byte rest ≢ codes "include" → is_include rest ≡ false
 no_include rest differs = go (is_include rest) refl
   where

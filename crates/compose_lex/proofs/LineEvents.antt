@@ -1,4 +1,4 @@
--- Where the reader finds a fault in the events of a line, no right reading goes on.
+-- If the reader finds a fault in the events of a line, no valid line goes on there.
 use Rattle.std.proofs.Common.{◌≡◌, ℕ, suc, zero, ◌+◌, ◌-◌, ◌<◌, ◌≤◌, List, [], ◌∷◌, ◌++◌, length, Bool, true, false, cond, refl, sym, ◌∙◌, ap, subst, arith, append_assoc, ◌⊎◌, inl, inr, eqb-true, lt-ltb}
 use Rattle.std.specs.Prelude.{◌==◌, Option, Some, None, is_some, Result, Ok, Err, flat_map, codes}
 use Rattle.std.specs.List.{list_all}
@@ -18,14 +18,15 @@ use Rattle.compose_lex.proofs.Productions.{RightProduction, right_from}
 use Rattle.compose_lex.proofs.Stages.{between, opened, named, colon, goes, name_steps, no_token_at}
 use Rattle.compose_lex.proofs.LineStops.{Reached, reached_more, whole_before, opened_right, named_right, whole_event, events_right, stops, unlike, no_event}
 
--- ---- what an Err came from
+-- ---- the cause of an Err
 
--- where two steps in a row fail, the first one failed, or it gave what the second one failed with
+-- if two steps one after the other fail, the first one failed, or it returned the value with which the second one
+-- failed
 pub bind_fails : {A B P : Type 0} (r : Result A LexFault) (f : A → Result B LexFault) (y : LexFault) → (r >>= f) ≡ Err y → (r ≡ Err y → P) → ((x : A) → r ≡ Ok x → f x ≡ Err y → P) → P
 bind_fails (Ok x) f y e first then = then x refl e
 bind_fails {A} (Err e) f y h first then = let q : e ≡ y = cc in first (ap (λ x. let r : Result A LexFault = Err x in r) q)
 
--- a name is missing where no byte of a name stands, and the fault has that offset
+-- a name is missing if there is no byte of a name, and the fault has that offset
 pub name_fails : (n : ℕ) (bytes : List ℕ) (f : LexFault) → name_at n bytes ≡ Err f → (begins is_name_byte bytes ≡ false) × (BadToken (n - length bytes) ≡ f)
 name_fails n bytes f e =
     elim (chosen {A = Result (List ℕ × List ℕ) LexFault} (begins is_name_byte bytes) (Ok (leading is_name_byte bytes, behind is_name_byte bytes)) (Err (BadToken (n - length bytes))) (Err f) e) [
@@ -33,7 +34,7 @@ name_fails n bytes f e =
       | inr x ↦ (x.0, (let w = x.1 in cc))
     ]
 
--- a byte is missing where another one stands, or none, and the fault has that offset
+-- a byte is missing if there is another one, or none, and the fault has that offset
 pub byte_fails : (n wanted : ℕ) (bytes : List ℕ) (f : LexFault) → byte_at n wanted bytes ≡ Err f → (begins (λ b. b == wanted) bytes ≡ false) × (BadToken (n - length bytes) ≡ f)
 byte_fails n wanted [] f e = let whole : n - 0 ≡ n = omega arith in (refl, ap BadToken whole ∙ cc)
 byte_fails n wanted (b ∷ bytes) f e = elim (chosen {A = Result (List ℕ) LexFault} (b == wanted) (Ok bytes) (Err (BadToken (n - length (b ∷ bytes)))) (Err f) e) [
@@ -41,7 +42,7 @@ byte_fails n wanted (b ∷ bytes) f e = elim (chosen {A = Result (List ℕ) LexF
   | inr x ↦ (x.0, (let w = x.1 in cc))
 ]
 
--- the end is missing where something else than a comment stands, and the fault has that offset
+-- the end is missing if there is something other than a comment, and the fault has that offset
 pub end_fails : (n : ℕ) (bytes : List ℕ) (f : LexFault) → end_at n bytes ≡ Err f → (is_comment bytes ≡ false) × (BadToken (n - length bytes) ≡ f)
 end_fails n [] f e = cc
 end_fails n (b ∷ bytes) f e = elim (chosen {A = Result (Unit {0}) LexFault} (b == 35) (Ok tt) (Err (BadToken (n - length (b ∷ bytes)))) (Err f) e) [
@@ -49,7 +50,7 @@ end_fails n (b ∷ bytes) f e = elim (chosen {A = Result (Unit {0}) LexFault} (b
   | inr x ↦ (x.0, (let w = x.1 in cc))
 ]
 
--- a value that becomes a fault is missing, and the fault is the given one
+-- if a missing value becomes a fault, it is the given one
 pub closed_fails : {A : Type 0} (fault : LexFault) (o : Option A) (f : LexFault) → closed_or fault o ≡ Err f → (o ≡ None) × (fault ≡ f)
 closed_fails fault None f e = (refl, cc)
 closed_fails fault (Some x) f e = cc
@@ -75,7 +76,7 @@ name_whole n bytes name rest e =
       | inr x ↦ (let w = x.1 in cc)
     ]
 
--- where no byte of the one kind begins the rest, none of a narrower kind does
+-- if the rest does not begin with a byte of one class, it does not begin with one of a narrower class
 pub may_not : (p q : ℕ → Bool) (rest : List ℕ) → ((b : ℕ) → p b ≡ false → q b ≡ false) → begins p rest ≡ false → begins q rest ≡ false
 may_not p q [] f h = refl
 may_not p q (b ∷ rest) f h = f b h
@@ -85,7 +86,7 @@ may_not p q (b ∷ rest) f h = f b h
 abbrev opened_tokens : List (List ℕ) → List (List ℕ)
 opened_tokens events = flat_map event_tokens events ++ (60 ∷ []) ∷ []
 
--- so many further events may follow
+-- this number of further events may follow
 pub record Events (line : List ℕ) (events : List (List ℕ)) (left : ℕ) (rest : List ℕ) : Type 0 where
   pub some : 0 < length events
   pub count : length events + left ≡ 32
@@ -128,7 +129,7 @@ close_reached line events name bytes rest left count names is r here =
           (subst AreFirst (sym (whole_event events name)) (events_right events name few names is))));
     }
 
--- an event that is read behind `<` puts one more behind those that are read
+-- an event that is read after `<` comes after those that were read before
 pub event_reached : (line : List ℕ) (events : List (List ℕ)) (rest : List ℕ) (x : List ℕ × List ℕ) (left : ℕ) → length events + suc left ≡ 32 → list_all is_name events ≡ true
     → Reached line (opened_tokens events) (skip_blanks rest) (opened (length events)) → event_at (length line) rest ≡ Ok x → Events line (events ++ x.0 ∷ []) left x.1
 event_reached line events rest x left count names r e =
@@ -140,7 +141,7 @@ event_reached line events rest x left count names r e =
     subst (λ (z : List ℕ × List ℕ). Events line (events ++ z.0 ∷ []) left z.1) q
     (close_reached line events y.0 (skip_blanks y.1) more left count names s.1 s.0 (byte_said n 62 (skip_blanks y.1) more closed))))
 
--- where an event behind `<` is broken, the line has that fault
+-- if an event after `<` is faulty, the line has that fault
 pub event_broken : (line : List ℕ) (events : List (List ℕ)) (rest : List ℕ) (f : LexFault) → length events < 32 → list_all is_name events ≡ true
     → Reached line (opened_tokens events) (skip_blanks rest) (opened (length events))
     → event_at (length line) rest ≡ Err f → IsLineFault line f
@@ -191,7 +192,7 @@ too_many line events rest behind s here =
       is = (events, refl, all, ap (begins (λ b. b == 60)) here);
     }
 
--- where events behind others are broken, the line has that fault
+-- if events after others are faulty, the line has that fault
 pub events_broken : (line : List ℕ) (left : ℕ) (events : List (List ℕ)) (rest : List ℕ) (f : LexFault) → Events line events left rest → events_at (length line) left rest ≡ Err f → IsLineFault line f
 unfolding events_at
 events_broken line zero events rest f s e = elim (colon_fails (length line) (skip_blanks rest) (λ _. Err TooManyKeysyms) f e) [
@@ -213,7 +214,7 @@ events_broken line (suc left) events rest f s e =
 
 -- ---- the colon
 
--- of a line, 1 to 32 events and the colon are read up to this rest
+-- 1 to 32 events of the line and the colon are read up to this rest
 pub record Colon (line : List ℕ) (events : List (List ℕ)) (rest : List ℕ) : Type 0 where
   pub some : 0 < length events
   pub few : length events ≤ 32
@@ -238,7 +239,7 @@ last_event : (line : List ℕ) (events : List (List ℕ)) (left : ℕ) (rest : L
 last_event line events left rest x s c =
     subst (λ (y : List (List ℕ) × List ℕ). Colon line (events ++ y.0) y.1) (sym c.2) (subst (λ es. Colon line es c.0) (sym (append-nil events)) (colon_reached line events left rest c.0 s c.1))
 
--- events that are read behind others lead behind the colon
+-- events that are read after others lead to the rest after the colon
 pub events_reached : (line : List ℕ) (left : ℕ) (events : List (List ℕ)) (rest : List ℕ) (x : List (List ℕ) × List ℕ) → Events line events left rest → events_at (length line) left rest ≡ Ok x
     → Colon line (events ++ x.0) x.1
 unfolding events_at

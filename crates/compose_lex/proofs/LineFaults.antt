@@ -1,4 +1,4 @@
--- What the reader finds wrong in a line is what the relation says, and back.
+-- The reader finds a fault in a line exactly if it is its fault by the grammar.
 use Rattle.std.proofs.Common.{◌≡◌, ℕ, ◌-◌, List, [], ◌∷◌, ◌++◌, length, drop, Bool, true, false, cond, not, refl, sym, ◌∙◌, ap, subst, arith, append_assoc, ◌⊎◌, inl, inr, eqb-true}
 use Rattle.std.specs.Prelude.{◌==◌, nat_eq, is_some, Result, Ok, Err, codes}
 use Rattle.std.specs.List.{starts_with}
@@ -19,7 +19,7 @@ use Rattle.compose_lex.proofs.LineStops.{Reached, reached_more, at_start, whole_
 use Rattle.compose_lex.proofs.LineEvents.{bind_fails, byte_fails, closed_fails, may_not, Events, event_reached, event_broken, Colon, events_broken, events_reached}
 use Rattle.compose_lex.proofs.LineResults.{End, end_broken, never, string_whole, result_broken, result_reached}
 
--- ---- what the reader finds wrong
+-- ---- the fault that the reader finds
 
 production_broken : (line rest : List ℕ) (f : LexFault) → skip_blanks line ≡ 60 ∷ rest → production_at (length line) rest ≡ Err f → IsLineFault line f
 production_broken line rest f first e =
@@ -83,7 +83,7 @@ nothing_begins b rest i l g = go g.2.0 g.2.2 g.2.3
         let mark : (b == 60) ≡ true = ap (λ x. x == 60) same in
         cc
 
--- the fault that is read of a line is one that the grammar finds in it
+-- the fault that is read from a line is one that the grammar finds in it
 pub line_fault_said : (line : List ℕ) (f : LexFault) → reading_of line ≡ Err f → IsLineFault line f
 line_fault_said line f e = go (skip_blanks line) refl e
   where
@@ -139,7 +139,7 @@ no_stop line r at done rest l s =
 
 -- ---- one fault at a place
 
--- what the rest says where the fault is not a bad token
+-- the fault other than a bad token that the first byte of the rest indicates
 special : ℕ → List ℕ → LexFault
 special n [] = NoResult
 special n (b ∷ rest) = cond (b == 34) (UnclosedString n) (cond (b == 35) NoResult (cond (b == 60) TooManyKeysyms (ModifierList n)))
@@ -204,7 +204,7 @@ one_line_fault line f g x y =
     let here : IsFaultAt y.at y.done y.rest f = subst (λ n. IsFaultAt n y.done y.rest f) place (subst (λ d. IsFaultAt x.at d y.rest f) p.0 (subst (λ r. IsFaultAt x.at x.done r f) p.1 x.is)) in
     same_kind y.at y.done y.rest f g (kind_of y.at y.done y.rest f here) (kind_of y.at y.done y.rest g y.is)
 
--- the fault that the grammar finds in a line is read of it
+-- the fault that the grammar finds in a line is read from it
 pub line_fault_read : (line : List ℕ) (f : LexFault) → IsLineFault line f → reading_of line ≡ Err f
 line_fault_read line f x = go (reading_of line) refl
   where

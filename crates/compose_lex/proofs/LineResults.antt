@@ -1,4 +1,4 @@
--- Where the reader finds a fault behind the colon of a line, no right reading goes on.
+-- If the reader finds a fault after the colon of a line, no valid line goes on there.
 use Rattle.std.proofs.Common.{◌≡◌, ℕ, ◌-◌, ◌<◌, ◌≤◌, List, [], ◌∷◌, ◌++◌, length, Bool, true, false, cond, not, ◌&&◌, refl, sym, ◌∙◌, ap, subst, append_assoc, eqb-true}
 use Rattle.std.specs.Prelude.{◌==◌, Option, Some, None, is_some, Result, Ok, Err, flat_map}
 use Rattle.std.specs.List.{list_all}
@@ -28,16 +28,16 @@ pub record End (line : List ℕ) (rest : List ℕ) : Type 0 where
   pub none : begins (λ b. is_some (goes stage b)) (skip_blanks rest) ≡ false
   pub behind : is_between stage ≡ false
 
--- where something else than a comment stands at the end of a reading, the line has that fault
+-- if something other than a comment is at the end of a reading, the line has that fault
 pub end_broken : (line rest : List ℕ) (f : LexFault) → End line rest → end_at (length line) (skip_blanks rest) ≡ Err f → IsLineFault line f
 end_broken line rest f s e = let b = end_fails (length line) (skip_blanks rest) f e in subst (IsLineFault line) b.1 (unlike line s.done (skip_blanks rest) s.stage s.reached s.none (λ _. b.0) s.behind)
 
--- behind the last token no further one may begin
+-- after the last token no further one may begin
 pub never : (rest : List ℕ) → begins (λ b. is_some (goes ended b)) rest ≡ false
 never [] = refl
 never (b ∷ rest) = refl
 
--- a string in quotes is whole before anything
+-- a string in quotes is whole, whatever follows it
 pub string_whole : (raw more : List ℕ) → is_whole (quoted raw) more ≡ true
 string_whole raw more = ap (λ x. not (x && begins is_name_byte more)) (quoted_no_name raw)
 
@@ -86,7 +86,7 @@ no_result line events rest r comment = record {
     neither [] h = refl
     neither (b ∷ rest) h = ap (λ x. is_some (goes colon x)) (eqb-true b 35 h)
 
--- where the result behind the colon is broken, the line has that fault
+-- if the result after the colon is faulty, the line has that fault
 pub result_broken : (line : List ℕ) (events : List (List ℕ)) (rest : List ℕ) (f : LexFault) → Colon line events rest → result_at (length line) (skip_blanks rest) ≡ Err f → IsLineFault line f
 result_broken line events rest f s e = go (skip_blanks rest) s.reached e
   where
@@ -114,7 +114,7 @@ result_broken line events rest f s e = go (skip_blanks rest) s.reached e
     go [] r e = let is : NoResult ≡ f = cc in subst (IsLineFault line) is (no_result line events [] r refl)
     go (b ∷ rest) r e = by b rest (b == 35) refl (b == 34) refl r e
 
--- behind a string, perhaps a name
+-- after a string, perhaps a name
 behind_string : (line : List ℕ) (events : List (List ℕ)) (rest raw more : List ℕ) → Colon line events rest → Reached line (colon_tokens events ++ quoted raw ∷ []) (skip_blanks more) text
     → is_inside raw ≡ true → End line (name_if (skip_blanks more)).1
 behind_string line events rest raw more s r is = go (begins is_name_byte (skip_blanks more)) refl
@@ -146,7 +146,7 @@ behind_string line events rest raw more s r is = go (begins is_name_byte (skip_b
           behind = refl;
         }
 
--- a result that is read behind the colon leads to the end of the reading
+-- a result that is read after the colon leads to the end of the reading
 pub result_reached : (line : List ℕ) (events : List (List ℕ)) (rest : List ℕ) (x : Option (List ℕ) × Option (List ℕ) × List ℕ) → Colon line events rest
     → result_at (length line) (skip_blanks rest) ≡ Ok x → End line x.2
 result_reached line events rest x s e = go (skip_blanks rest) s.reached e

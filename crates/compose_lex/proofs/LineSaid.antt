@@ -1,4 +1,4 @@
--- What is read of a line is what it says.
+-- What is read from a line is its meaning.
 use Rattle.std.proofs.Common.{◌≡◌, ℕ, suc, zero, ◌<◌, ◌≤◌, ◌-◌, List, [], ◌∷◌, ◌++◌, length, take, drop, Bool, true, false, cond, not, ◌||◌, refl, sym, ◌∙◌, ap, subst, arith, append_assoc, ◌⊎◌, inl, inr, eqb-true, lt-ltb, take-append-drop}
 use Rattle.std.specs.Prelude.{◌==◌, nat_eq, Option, Some, None, is_some, Result, Ok, Err, flat_map, nat_lt, codes}
 use Rattle.std.specs.Option.{option_map_or, option_map}
@@ -14,9 +14,9 @@ use Rattle.compose_lex.specs.declared.LexFault.TheVariants.{BadToken, TooManyKey
 use Rattle.compose_lex.proofs.Productions.{right_from}
 use Rattle.compose_lex.proofs.Runs.{parts_of, prefix_passes}
 
--- ---- what an Ok came from
+-- ---- the cause of an Ok
 
--- where two steps in a row succeed, the first one gave what the second one succeeded with
+-- if two steps one after the other succeed, the first one returned the value with which the second one succeeded
 pub bind_with : {A B P : Type 0} (r : Result A LexFault) (f : A → Result B LexFault) (y : B) → (r >>= f) ≡ Ok y → ((x : A) → r ≡ Ok x → f x ≡ Ok y → P) → P
 bind_with (Ok x) f y e k = k x refl e
 bind_with (Err e) f y h k = cc
@@ -32,7 +32,7 @@ ok_pair {A} {B} a c b d e = let q : ◌≡◌ {A = A × B} (a, b) (c, d) = cc in
 some_pair : {A B : Type 0} (a c : A) (b d : B) → ◌≡◌ {A = Option (A × B)} (Some (a, b)) (Some (c, d)) → (a ≡ c) × (b ≡ d)
 some_pair {A} {B} a c b d e = let q : ◌≡◌ {A = A × B} (a, b) (c, d) = cc in pair_is a c b d q
 
--- the value of a choice is its first branch where the test holds, and its second one where it fails
+-- the value of a choice is its first branch if the test passes, and its second one if it fails
 pub chosen : {A : Type 0} (b : Bool) (x y z : A) → cond b x y ≡ z → ((b ≡ true) × (x ≡ z)) ⊎ ((b ≡ false) × (y ≡ z))
 chosen true x y z e = inl (refl, e)
 chosen false x y z e = inr (refl, e)
@@ -50,7 +50,7 @@ put_token t ts bytes rest e u = (leading is_blank bytes, rest, prefix_passes is_
 put_end : (bytes comment : List ℕ) → skip_blanks bytes ≡ comment → is_comment comment ≡ true → AreTokens [] bytes
 put_end bytes comment e h = (leading is_blank bytes, comment, prefix_passes is_blank bytes, h, parts_of is_blank bytes ∙ ap (λ x. leading is_blank bytes ++ x) e)
 
--- where the end is read, a comment or nothing stands
+-- if the end is read, there is a comment or nothing
 pub comment_said : (n : ℕ) (bytes : List ℕ) (u : Unit {0}) → end_at n bytes ≡ Ok u → is_comment bytes ≡ true
 comment_said n [] u e = refl
 comment_said n (b ∷ bytes) u e = elim (chosen (b == 35) (Ok tt) (Err (BadToken (n - length (b ∷ bytes)))) (Ok u) e) [ inl x ↦ x.0 | inr x ↦ (let w = x.1 in cc) ]
@@ -58,7 +58,7 @@ comment_said n (b ∷ bytes) u e = elim (chosen (b == 35) (Ok tt) (Err (BadToken
 end_said : (n : ℕ) (bytes : List ℕ) (u : Unit {0}) → end_at n (skip_blanks bytes) ≡ Ok u → AreTokens [] bytes
 end_said n bytes u e = put_end bytes (skip_blanks bytes) refl (comment_said n (skip_blanks bytes) u e)
 
--- where a byte is read, it stands there, and the rest is what follows it
+-- if a byte is read, it is there, and the rest is what follows it
 pub byte_said : (n wanted : ℕ) (bytes rest : List ℕ) → byte_at n wanted bytes ≡ Ok rest → bytes ≡ wanted ∷ rest
 byte_said n wanted [] rest e = cc
 byte_said n wanted (b ∷ bytes) rest e = elim (chosen (b == wanted) (Ok bytes) (Err (BadToken (n - length (b ∷ bytes)))) (Ok rest) e) [
@@ -69,7 +69,7 @@ byte_said n wanted (b ∷ bytes) rest e = elim (chosen (b == wanted) (Ok bytes) 
 prefix_some : (p : ℕ → Bool) (b : ℕ) (bytes : List ℕ) → p b ≡ true → 0 < length (leading p (b ∷ bytes))
 prefix_some p b bytes h = rw h (omega arith)
 
--- bytes that are read by a test are some, all pass it, and the rest is what follows them
+-- the bytes that are read by a test are at least one, all of them pass it, and the rest is what follows them
 pub taken : (p : ℕ → Bool) (f : LexFault) (bytes name rest : List ℕ) → cond {A = Result (List ℕ × List ℕ) LexFault} (begins p bytes) (Ok (leading p bytes, behind p bytes)) (Err f) ≡ Ok (name, rest)
     → (bytes ≡ name ++ rest) × (0 < length name) × (list_all p name ≡ true)
 taken p f [] name rest e = cc
@@ -82,11 +82,11 @@ taken p f (b ∷ bytes) name rest e = elim (chosen {A = Result (List ℕ × List
   | inr x ↦ (let w = x.1 in cc)
 ]
 
--- one byte of a name or more are a name
+-- one or more bytes of a name are a name
 pub name_is : (name : List ℕ) → 0 < length name → list_all is_name_byte name ≡ true → is_name name ≡ true
 name_is name l a = and_from (nat_lt 0 (length name)) (list_all is_name_byte name) (lt-ltb 0 (length name) l) a
 
--- where a name is read, it stands there, and the rest is what follows it
+-- if a name is read, it is there, and the rest is what follows it
 pub name_said : (n : ℕ) (bytes name rest : List ℕ) → name_at n bytes ≡ Ok (name, rest) → (bytes ≡ name ++ rest) × (is_name name ≡ true)
 name_said n bytes name rest e = let t = taken is_name_byte (BadToken (n - length bytes)) bytes name rest e in (t.0, name_is name t.1 t.2)
 
@@ -112,12 +112,12 @@ inside_said false (b ∷ bytes) raw rest e = go (b == 34) refl e (inside_said (b
           ap (is_inside_from false) (sym is) ∙ and_from (not (b == 34)) (is_inside_from (b == 92) first) (ap not h) r.1,
         ))
 
--- a value that becomes no fault was there
+-- a value that does not become a fault was there
 pub closed_said : {A : Type 0} (f : LexFault) (o : Option A) (x : A) → closed_or f o ≡ Ok x → o ≡ Some x
 closed_said f None x e = cc
 closed_said f (Some y) x e = cc
 
--- where a string is read behind its opening quote, it stands there closed, and the rest is what follows it
+-- if a string is read after its opening quote, it is there and closed, and the rest is what follows it
 pub string_said : (n : ℕ) (bytes raw rest : List ℕ) → string_at n bytes ≡ Ok (raw, rest) → (34 ∷ bytes ≡ quoted raw ++ rest) × (is_inside raw ≡ true)
 string_said n bytes raw rest e =
     let r = inside_said false bytes raw rest (closed_said _ (inside_from false bytes) (raw, rest) e) in
@@ -136,7 +136,7 @@ event_said n bytes name rest ts e u =
       ap is_name (sym q.0) ∙ s.1,
     )))
 
--- where events are read on, a colon stands and ends them, or `<` stands and the next one is read behind it
+-- if the events go on, there is a colon that ends them, or `<` after which the next one is read
 pub colon_said : (n : ℕ) (bytes : List ℕ) (f : List ℕ → Result (List (List ℕ) × List ℕ) LexFault) (x : List (List ℕ) × List ℕ) → colon_or n bytes f ≡ Ok x
     → ((rest : List ℕ) × (bytes ≡ 58 ∷ rest) × (x ≡ ([], rest))) ⊎ ((rest : List ℕ) × (bytes ≡ 60 ∷ rest) × (f rest ≡ Ok x))
 colon_said n [] f x e = cc
@@ -148,7 +148,7 @@ colon_said n (b ∷ rest) f x e = go (b == 58) refl (b == 60) refl e
     go false h true i e = inr (rest, ap (λ t. t ∷ rest) (eqb-true b 60 i), e)
     go false h false i e = cc
 
--- the bytes are the tokens of so many events by name, the colon, and these tokens
+-- the bytes are the tokens of at most this number of events by name, the colon, and these tokens
 pub record Events (left : ℕ) (bytes : List ℕ) (events ts : List (List ℕ)) : Type 0 where
   pub are : AreTokens (flat_map event_tokens events ++ (58 ∷ []) ∷ ts) bytes
   pub few : length events ≤ left
@@ -189,14 +189,14 @@ events_said n (suc left) bytes events ts rest e u =
 
 -- ---- the result
 
--- the bytes are the tokens of a right result
+-- the bytes are the tokens of a valid result
 pub record Result_said (bytes : List ℕ) (raw name : Option (List ℕ)) : Type 0 where
   pub are : AreTokens (result_tokens raw name) bytes
   pub closed : option_map_or is_inside raw true ≡ true
   pub named : option_map_or is_name name true ≡ true
   pub some : is_some raw || is_some name ≡ true
 
--- what follows a run begins with no further run
+-- what follows a run does not begin with a further run
 pub behind_twice : (p : ℕ → Bool) (xs : List ℕ) → behind p (behind p xs) ≡ behind p xs
 behind_twice p [] = refl
 behind_twice p (x ∷ xs) = go (p x) refl (behind_twice p xs)
@@ -300,7 +300,7 @@ include_said line rest n r first e =
 blank_said : (line comment : List ℕ) (r : Reading) → skip_blanks line ≡ comment → is_comment comment ≡ true → ◌≡◌ {A = Result Reading LexFault} (Ok blank) (Ok r) → IsLine line r
 blank_said line comment r first h e = let q : blank ≡ r = cc in subst (IsLine line) q (record { right = refl; said = put_end line comment first h })
 
--- what is read of a line is a reading of which the line is the tokens
+-- what is read from a line is a reading whose tokens are those of the line
 pub reading_said : (line : List ℕ) (r : Reading) → reading_of line ≡ Ok r → IsLine line r
 reading_said line r e = go (length line) (skip_blanks line) refl e
   where

@@ -1,4 +1,4 @@
--- How far a line has been read: the tokens so far, which some right reading has first; and where no right reading goes on.
+-- How far a line was read: the tokens so far, with which some valid reading begins; and when no valid reading goes on.
 use Rattle.std.proofs.Common.{◌≡◌, ℕ, ◌+◌, ◌-◌, ◌<◌, ◌≤◌, List, [], ◌∷◌, ◌++◌, length, Bool, true, false, cond, not, ◌&&◌, ◌||◌, refl, sym, ◌∙◌, ap, subst, arith, append_assoc, eqb-true}
 use Rattle.std.specs.Prelude.{◌==◌, Some, None, is_some, flat_map, codes}
 use Rattle.std.specs.List.{list_all}
@@ -19,7 +19,8 @@ use Rattle.compose_lex.proofs.Stages.{Stage, start, goes, step, on, walk, walk_a
 
 -- ---- lines read so far
 
--- these tokens stand at the beginning of the line up to this rest, begin some right reading, and lead to this stage
+-- these tokens are at the beginning of the line up to this rest, some valid reading begins with them, and they lead to
+-- this stage
 pub record Reached (line : List ℕ) (done : List (List ℕ)) (rest : List ℕ) (stage : Stage) : Type 0 where
   pub begun : BeginsWith done line rest
   pub right : AreFirst done
@@ -47,11 +48,11 @@ reached_more line done rest s m t more r here w steps right = record {
   walked = walk_append start done (t ∷ []) ∙ ap (λ o. on o (λ m. walk m (t ∷ []))) r.walked ∙ ap (λ o. on o (λ m. walk m [])) steps;
 }
 
--- at the first byte that is no blank, no token is read yet
+-- at the first byte that is not a blank, no token was read yet
 pub at_start : (line : List ℕ) → Reached line [] (skip_blanks line) start
 at_start line = record { begun = (leading is_blank line, prefix_passes is_blank line, ap not (behind_stops is_blank line), parts_of is_blank line); right = (blank, [], refl, refl); walked = refl }
 
--- a token is whole before what begins with no byte of a name
+-- a token is whole if what follows it does not begin with a byte of a name
 pub whole_before : (t rest : List ℕ) → begins is_name_byte rest ≡ false → is_whole t rest ≡ true
 whole_before t rest h = rw h (go (is_name t))
   where
@@ -59,7 +60,7 @@ whole_before t rest h = rw h (go (is_name t))
     go true = refl
     go false = refl
 
--- ---- right readings with these tokens first
+-- ---- valid readings that begin with these tokens
 
 more_right : (events : List (List ℕ)) (name : List ℕ) → length events < 32 → list_all is_name events ≡ true → is_name name ≡ true → RightProduction (events ++ name ∷ []) None (Some (codes "a"))
 more_right events name few names h =
@@ -80,7 +81,7 @@ more_tokens events name rest = ap (λ x. x ++ rest) (flat_map-append event_token
 last_tokens : List (List ℕ)
 last_tokens = (58 ∷ []) ∷ codes "a" ∷ []
 
--- fewer than 32 events and `<` begin some right reading
+-- fewer than 32 events and `<` begin some valid reading
 pub opened_right : (events : List (List ℕ)) → length events < 32 → list_all is_name events ≡ true → AreFirst (flat_map event_tokens events ++ (60 ∷ []) ∷ [])
 unfolding last_tokens
 opened_right events few names =
@@ -92,7 +93,7 @@ opened_right events few names =
       more_tokens events name last_tokens ∙ sym (append_assoc es ((60 ∷ []) ∷ []) (name ∷ (62 ∷ []) ∷ last_tokens)),
     )
 
--- fewer than 32 events, `<` and a name begin some right reading
+-- fewer than 32 events, `<` and a name begin some valid reading
 pub named_right : (events : List (List ℕ)) (name : List ℕ) → length events < 32 → list_all is_name events ≡ true → is_name name ≡ true
     → AreFirst ((flat_map event_tokens events ++ (60 ∷ []) ∷ []) ++ name ∷ [])
 unfolding last_tokens
@@ -110,7 +111,7 @@ whole_event events name =
     let es = flat_map event_tokens events in
     append_assoc (es ++ (60 ∷ []) ∷ []) (name ∷ []) ((62 ∷ []) ∷ []) ∙ append_assoc es ((60 ∷ []) ∷ []) (name ∷ (62 ∷ []) ∷ []) ∙ sym (flat_map-append event_tokens events (name ∷ []))
 
--- fewer than 32 events and one more begin some right reading
+-- fewer than 32 events and one more begin some valid reading
 pub events_right : (events : List (List ℕ)) (name : List ℕ) → length events < 32 → list_all is_name events ≡ true → is_name name ≡ true → AreFirst (flat_map event_tokens (events ++ name ∷ []))
 unfolding last_tokens
 events_right events name few names
@@ -118,7 +119,7 @@ events_right events name few names
 
 -- ---- lines that go no further
 
--- a line stops where no token may follow, and where no comment stands if the reading may end there
+-- a line stops if no token may follow, and, in case the reading may end there, there is no comment
 pub stops : (line : List ℕ) (done : List (List ℕ)) (rest : List ℕ) (s : Stage) → Reached line done rest s → (GoesOn done rest → ⊥) → (is_end s ≡ true → is_comment rest ≡ false)
     → StopsAt line (length line - length rest) done rest
 stops line done rest s r no_token comment =
@@ -133,14 +134,14 @@ mark_first p (b ∷ rest) h none = go (b == 34) refl
     go false e = refl
     go true e = let same : p b ≡ p 34 = ap p (eqb-true b 34 e) in cc
 
--- the place has no other fault's form
+-- nothing there has the form of another fault
 pub record IsPlain (done : List (List ℕ)) (rest : List ℕ) (s : Stage) : Type 0 where
   pub no_token : GoesOn done rest → ⊥
   pub comment : is_end s || is_colon s ≡ true → is_comment rest ≡ false
   pub event : is_between s ≡ true → (begins is_modifier_first rest ≡ false) × (begins (λ b. b == 60) rest ≡ false)
   pub string : is_some (goes s 34) ≡ true → begins (λ b. b == 34) rest ≡ false
 
--- a line that stops where nothing else is wrong has the fault of a bad token there
+-- a line that stops, with no other fault there, has a bad token there
 pub bad_token : (line : List ℕ) (done : List (List ℕ)) (rest : List ℕ) (s : Stage) → Reached line done rest s → IsPlain done rest s → IsLineFault line (BadToken (length line - length rest))
 bad_token line done rest s r p = record {
   at = length line - length rest;
@@ -185,7 +186,7 @@ last_token : (ts : List (List ℕ)) (t : List ℕ) (us : List (List ℕ)) → Al
 last_token [] t us a = a.0
 last_token (u ∷ ts) t us a = last_token ts t us a.1
 
--- a quote that is never closed begins no token
+-- a quote that is never closed does not begin a token
 pub no_string_at : (done : List (List ℕ)) (rest : List ℕ) → inside_from false rest ≡ None → GoesOn done (34 ∷ rest) → ⊥
 no_string_at done rest none g =
     let f = g.2 in
@@ -198,7 +199,7 @@ no_string_at done rest none g =
     empty [] e is = let some = is.first [] in cc
     empty (b ∷ t) e is = cc
 
--- a quote that is never closed where a string may stand is the line's fault, unless the reading may end there
+-- a quote that is never closed, where a string may begin, is the line's fault, unless the reading may end there
 pub unclosed : (line : List ℕ) (done : List (List ℕ)) (rest : List ℕ) (s : Stage) → Reached line done (34 ∷ rest) s → inside_from false rest ≡ None → (raw : List ℕ)
     → AreFirst (done ++ quoted raw ∷ []) → is_end s ≡ false
     → IsLineFault line (UnclosedString (length line - length (34 ∷ rest)))

@@ -1,4 +1,5 @@
--- A loop that quotes a text in stretches: what is pushed is the quoted prefix, and the bytes since then stand for themselves.
+-- A loop that quotes a text run by run: what was appended is the quoted prefix, and the bytes since then stand for
+-- themselves.
 use Rattle.std.proofs.Common.{◌≡◌, ℕ, ◌+◌, ◌-◌, ◌<◌, ◌≤◌, List, [], ◌∷◌, ◌++◌, length, take, drop, get_or, Bool, true, false, not, ◌||◌, nat_lt, refl, sym, ◌∙◌, ap, arith}
 use Rattle.std.specs.Prelude.{◌==◌}
 use Rattle.std.specs.Str.{IsUtf8, IsCharBoundary}
@@ -9,18 +10,18 @@ use Rattle.std.proofs.lemmas.Bool.Decides.{nat_tests}
 use Rattle.std.proofs.lemmas.List.Concat.{flat_map-append}
 use Rattle.compose_lex.specs.Escape.{quote_byte, quote_inside}
 
--- a byte that quoting leaves as it is: no backslash, no quote, and no control
+-- a byte that quoting leaves as it is: not a backslash, a quote or a control
 abbrev pub stands : ℕ → Bool
 stands b = not (b == 92 || b == 34 || (nat_lt b 32 || b == 127))
 
--- the text up to the index `done` is pushed quoted, and from there to the index `at` each byte stands for itself
+-- the text up to the index `done` was appended quoted, and from there to the index `at` each byte stands for itself
 pub record Quoted (text start pushed : List ℕ) (done at : ℕ) : Type 0 where
   pub order : done ≤ at
   pub cut : IsCharBoundary text done
   pub so_far : pushed ≡ start ++ quote_inside (take done text)
   pub since : quote_inside (take at text) ≡ quote_inside (take done text) ++ take (at - done) (drop done text)
 
--- before the first byte nothing is pushed
+-- before the first byte nothing was appended
 pub quoted_none : (text start : List ℕ) → IsUtf8 text → Quoted text start start 0 0
 quoted_none text start u = record { order = omega arith; cut = IsCharBoundary-start text u; so_far = sym (append-nil start); since = refl }
 
@@ -29,7 +30,7 @@ quote_plain b h =
     let special = or_parts (b == 92 || b == 34) (nat_lt b 32 || b == 127) (not-true (b == 92 || b == 34 || (nat_lt b 32 || b == 127)) h) in
     rw (special.0, special.1) refl
 
--- a byte that doesn't stand for itself in quotes is ASCII
+-- a byte that does not stand for itself in quotes is ASCII
 pub special_ascii : (b : ℕ) → stands b ≡ false → b < 128
 special_ascii b h = grind (arith, nat_tests)
 
@@ -56,7 +57,7 @@ quoted_plain text start pushed done at b l is h s =
           ∙ append_assoc (quote_inside (take done text)) (take (at - done) (drop done text)) (b ∷ []) ∙ ap (λ x. quote_inside (take done text) ++ x) (sym run);
     }
 
--- any other is pushed as its escape, behind the bytes since then
+-- any other is appended as its escape, after the bytes since then
 pub quoted_special : (text start pushed more : List ℕ) (done at b : ℕ) → IsUtf8 text → at < length text → b ≡ get_or text at 0 → b < 128
     → more ≡ pushed ++ take (at - done) (drop done text) ++ quote_byte b → Quoted text start pushed done at → Quoted text start more (at + 1) (at + 1)
 quoted_special text start pushed more done at b u l is ascii now s =

@@ -1,4 +1,4 @@
--- How many bytes of a class stand at the beginning: these bytes, what follows them, and that the text may be cut there.
+-- The number of leading bytes of a class: these bytes, what follows them, and that the text may be cut there.
 use Rattle.std.proofs.Common.{◌≡◌, ℕ, suc, ◌+◌, ◌-◌, ◌<◌, List, [], ◌∷◌, take, drop, get_or, Bool, true, false, cond, refl, sym, ◌∙◌, ap, subst, arith, inl, inr}
 use Rattle.std.specs.List.{prefix_len}
 use Rattle.std.specs.Str.{IsUtf8, IsCharBoundary}
@@ -26,7 +26,7 @@ behind_left p (b ∷ rest) = go (p b) (behind_left p rest)
     go true e = let one : 1 + prefix_len p rest ≡ suc (prefix_len p rest) = omega arith in e ∙ ap (λ n. drop n (b ∷ rest)) (sym one)
     go false e = refl
 
--- the last byte that passes is ASCII, so a character ends there
+-- the last byte that passes the test is ASCII, so a character ends there
 cut_behind : (p : ℕ → Bool) (text : List ℕ) → ((b : ℕ) → p b ≡ true → b < 128) → IsUtf8 text → IsCharBoundary text (prefix_len p text)
 cut_behind p text ascii u =
     let n = prefix_len p text in
@@ -40,10 +40,10 @@ cut_behind p text ascii u =
           subst (IsCharBoundary text) no (IsCharBoundary-start text u)
     ]
 
--- a text may be cut behind its leading blanks
+-- a text may be cut after its leading blanks
 pub cut_behind_blanks : (text : List ℕ) → IsUtf8 text → IsCharBoundary text (prefix_len is_blank text)
 cut_behind_blanks text u = cut_behind is_blank text (λ b h. grind (arith, nat_tests)) u
 
--- a text may be cut behind a name at its beginning
+-- a text may be cut after a name at its beginning
 pub cut_behind_name : (text : List ℕ) → IsUtf8 text → IsCharBoundary text (prefix_len is_name_byte text)
 cut_behind_name text u = cut_behind is_name_byte text (λ b h. grind (arith, nat_tests)) u

@@ -1,4 +1,4 @@
--- How far the tokens of a right reading have come, and which first bytes the next token may have there.
+-- How many tokens of a valid reading were read, and the first bytes that the next token may have.
 use Rattle.std.proofs.Common.{◌≡◌, ℕ, suc, zero, ◌+◌, ◌<◌, ◌≤◌, List, [], ◌∷◌, ◌++◌, length, Bool, true, false, cond, ◌&&◌, ◌||◌, refl, sym, ◌∙◌, ap, arith, lt-ltb}
 use Rattle.std.specs.Prelude.{◌==◌, Option, Some, None, is_some, flat_map, nat_lt}
 use Rattle.std.specs.Option.{option_map_or}
@@ -10,7 +10,8 @@ use Rattle.compose_lex.specs.LineFault.{AreFirst, AreAll, GoesOn}
 use Rattle.compose_lex.proofs.Runs.{name_differs}
 use Rattle.compose_lex.proofs.Productions.{right_parts}
 
--- behind: nothing; the word `include`; so many events, the first `<` of a further one, or its name; the colon; a string; the last token
+-- after: nothing; the word `include`; a number of events, the first `<` of a further one, or its name; the colon; a
+-- string; the last token
 pub data Stage : Type 0 where
   start : Stage
   word : Stage
@@ -21,7 +22,7 @@ pub data Stage : Type 0 where
   text : Stage
   ended : Stage
 
--- the stage behind the token that begins with this byte, if one may stand there
+-- the stage after the token that begins with this byte, if one may begin there
 abbrev pub goes : Stage → ℕ → Option Stage
 goes start b = cond (b == 60) (Some (opened 0)) (cond (b == 105) (Some word) None)
 goes word b = cond (b == 34) (Some ended) None
@@ -32,7 +33,7 @@ goes colon b = cond (b == 34) (Some text) (cond (is_name_byte b) (Some ended) No
 goes text b = cond (is_name_byte b) (Some ended) None
 goes ended b = None
 
--- the stage behind the token, if it may stand there
+-- the stage after the token, if it may come there
 abbrev pub step : Stage → List ℕ → Option Stage
 step s [] = None
 step s (b ∷ t) = goes s b
@@ -42,12 +43,12 @@ abbrev pub on : Option Stage → (Stage → Option Stage) → Option Stage
 on None f = None
 on (Some s) f = f s
 
--- the stage behind these tokens, if each may stand where it does
+-- the stage after these tokens, if each may come where it is
 abbrev pub walk : Stage → List (List ℕ) → Option Stage
 walk s [] = Some s
 walk s (t ∷ ts) = on (step s t) (λ m. walk m ts)
 
--- a right reading may end there
+-- a valid reading may end there
 abbrev pub is_end : Stage → Bool
 is_end start = true
 is_end text = true
@@ -80,7 +81,7 @@ is_colon word = false
 is_colon (opened k) = false
 is_colon (named k) = false
 
--- the stage behind so many events
+-- the stage after this number of events
 abbrev pub behind_events : ℕ → Stage
 behind_events zero = start
 behind_events (suc k) = between (suc k)
@@ -94,9 +95,9 @@ walk_append s (t ∷ ts) us = go (step s t) (λ m. walk_append m ts us)
     go None h = refl
     go (Some m) h = h m
 
--- ---- the walk of a right reading
+-- ---- the walk of a valid reading
 
--- behind `<` a name leads to the stage where `>` must follow
+-- after `<` a name leads to the stage at which `>` must follow
 pub name_steps : (name : List ℕ) (k : ℕ) → is_name name ≡ true → step (opened k) name ≡ Some (named k)
 name_steps [] k h = cc
 name_steps (b ∷ name) k h =
@@ -104,18 +105,18 @@ name_steps (b ∷ name) k h =
     let byte = (and_parts (is_name_byte b) (list_all is_name_byte name) all).0 in
     rw byte refl
 
--- a name is the last token wherever each byte of a name begins the last one
+-- a name is the last token if each byte of a name begins the last one
 pub name_ends : (name : List ℕ) (s : Stage) → ((b : ℕ) → is_name_byte b ≡ true → goes s b ≡ Some ended) → is_name name ≡ true → step s name ≡ Some ended
 name_ends [] s f h = cc
 name_ends (b ∷ name) s f h =
     let all = (and_parts (nat_lt 0 (length (b ∷ name))) (list_all is_name_byte (b ∷ name)) h).1 in
     f b (and_parts (is_name_byte b) (list_all is_name_byte name) all).0
 
--- behind a string a byte of a name begins the last token
+-- after a string a byte of a name begins the last token
 pub behind_text : (b : ℕ) → is_name_byte b ≡ true → goes text b ≡ Some ended
 behind_text b h = rw h refl
 
--- behind the colon a byte of a name begins the last token
+-- after the colon a byte of a name begins the last token
 pub behind_colon : (b : ℕ) → is_name_byte b ≡ true → goes colon b ≡ Some ended
 behind_colon b h = let other = name_differs b 34 refl h in rw (other, h) refl
 
@@ -123,7 +124,7 @@ event_opens : (k : ℕ) → k < 32 → goes (behind_events k) 60 ≡ Some (opene
 event_opens zero l = refl
 event_opens (suc k) l = let few = lt-ltb (suc k) 32 l in rw few refl
 
--- a walk over events goes on from the stage behind so many more
+-- a walk over events goes on from the stage after that many more
 pub events_walk : (k : ℕ) (events ts : List (List ℕ)) → k + length events ≤ 32 → list_all is_name events ≡ true
     → walk (behind_events k) (flat_map event_tokens events ++ ts) ≡ walk (behind_events (k + length events)) ts
 events_walk k [] ts l h = let same : k ≡ k + 0 = omega arith in ap (λ n. walk (behind_events n) ts) same
@@ -136,11 +137,11 @@ events_walk k (e ∷ es) ts l h =
     ∙ events_walk (suc k) es ts (omega (arith, l)) parts.1
     ∙ ap (λ n. walk (behind_events n) ts) same
 
--- the stage behind the first tokens of a production
+-- the stage after the first tokens of a production
 pub events_stage : (events ts : List (List ℕ)) → length events ≤ 32 → list_all is_name events ≡ true → walk start (flat_map event_tokens events ++ ts) ≡ walk (behind_events (length events)) ts
 events_stage events ts l h = let same : 0 + length events ≡ length events = omega arith in events_walk 0 events ts (omega (arith, l)) h ∙ ap (λ n. walk (behind_events n) ts) same
 
--- these tokens lead from the beginning to a stage where a reading may end
+-- these tokens lead from the beginning to a stage at which a reading may end
 pub record Walked (ts : List (List ℕ)) : Type 0 where
   pub last : Stage
   pub walked : walk start ts ≡ Some last
@@ -157,7 +158,7 @@ some_events : (n : ℕ) → 0 < n → goes (behind_events n) 58 ≡ Some colon
 some_events zero l = absurd (omega (arith, l))
 some_events (suc n) l = refl
 
--- the tokens of a right reading lead to a stage where it may end
+-- the tokens of a valid reading lead to a stage at which it may end
 pub right_walk : (r : Reading) → is_reading r ≡ true → Walked (tokens r)
 right_walk blank h = record { last = start; walked = refl; ends = refl }
 right_walk (include raw) h = record { last = ended; walked = refl; ends = refl }
@@ -172,7 +173,7 @@ right_walk (production events raw name) h =
 
 -- ---- what may follow
 
--- a token that follows these in some right reading may follow at their stage
+-- a token that follows these in some valid reading may follow at their stage
 pub first_steps : (done : List (List ℕ)) (t : List ℕ) (s : Stage) → walk start done ≡ Some s → AreFirst (done ++ t ∷ []) → is_some (step s t) ≡ true
 first_steps done t s at f = go (step s t) refl
   where
@@ -185,7 +186,7 @@ first_steps done t s at f = go (step s t) refl
         let some = w.walked in
         cc
 
--- at the stage behind all tokens of a right reading, a reading may end
+-- at the stage after all tokens of a valid reading, a reading may end
 pub all_ends : (done : List (List ℕ)) (s : Stage) → walk start done ≡ Some s → AreAll done → is_end s ≡ true
 all_ends done s at a =
     let w = right_walk a.0 a.1 in
@@ -197,13 +198,13 @@ step_may : (s : Stage) (t more : List ℕ) → is_some (step s t) ≡ true → b
 step_may s [] more h = cc
 step_may s (b ∷ t) more h = h
 
--- where no byte that may begin a token at the stage begins the rest, no right reading goes on
+-- if the rest does not begin with a byte that may begin a token at the stage, no valid reading goes on
 pub no_token_at : (done : List (List ℕ)) (rest : List ℕ) (s : Stage) → walk start done ≡ Some s → begins (λ b. is_some (goes s b)) rest ≡ false → GoesOn done rest → ⊥
 no_token_at done rest s at none g =
     let may : begins (λ b. is_some (goes s b)) rest ≡ true = ap (begins (λ b. is_some (goes s b))) g.4 ∙ step_may s g.0 g.1 (first_steps done g.0 s at g.2) in
     cc
 
--- ---- where the tokens are whole events, or end in a colon
+-- ---- the tokens are whole events, or end in a colon
 
 through : (k : ℕ) (e : List ℕ) (ts : List (List ℕ)) (s : Stage) → walk (opened k) (e ∷ (62 ∷ []) ∷ ts) ≡ Some s → walk (between (suc k)) ts ≡ Some s
 through k [] ts s h = cc
@@ -229,7 +230,7 @@ between_events colon (e ∷ es) s b h = cc
 between_events text (e ∷ es) s b h = cc
 between_events ended (e ∷ es) s b h = cc
 
--- behind whole events, or none, an event may begin
+-- after whole events, or none, an event may begin
 pub events_between : (done events : List (List ℕ)) (s : Stage) → walk start done ≡ Some s → done ≡ flat_map event_tokens events → is_between s ≡ true
 events_between done events s at is = between_events start events s refl (sym (ap (walk start) is) ∙ at)
 
@@ -244,6 +245,6 @@ colon_goes (Some colon) s h = cc
 colon_goes (Some text) s h = cc
 colon_goes (Some ended) s h = cc
 
--- the stage behind a colon is that of the colon
+-- the stage after a colon is that of the colon
 pub behind_a_colon : (done before : List (List ℕ)) (s : Stage) → walk start done ≡ Some s → done ≡ before ++ (58 ∷ []) ∷ [] → is_colon s ≡ true
 behind_a_colon done before s at is = colon_goes (walk start before) s (sym (walk_append start before ((58 ∷ []) ∷ [])) ∙ sym (ap (walk start) is) ∙ at)

@@ -1,4 +1,4 @@
--- A loop that reads a string up to its closing quote: what it has read stands before the raw text of the rest.
+-- A loop that reads a string up to its closing quote: what was read comes before the raw text of the rest.
 use Rattle.std.proofs.Common.{◌≡◌, ℕ, suc, ◌+◌, ◌<◌, ◌≤◌, List, [], ◌∷◌, ◌++◌, length, take, drop, get_or, Bool, true, false, not, cond, ◌||◌, refl, sym, ◌∙◌, ap, subst, arith, ◌≢◌, ne_eqb}
 use Rattle.std.specs.Prelude.{◌==◌, Option, Some, None}
 use Rattle.std.specs.Option.{option_map}
@@ -19,7 +19,7 @@ put_nothing : (o : Option (List ℕ × List ℕ)) → o ≡ option_map (put_befo
 put_nothing None = refl
 put_nothing (Some x) = refl
 
--- before the first byte nothing is read
+-- before the first byte nothing was read
 pub inside_none : (text : List ℕ) → Inside text false 0
 inside_none text = record { kept = put_nothing (inside_from false text) }
 
@@ -48,7 +48,7 @@ put_twice : (read : List ℕ) (b : ℕ) (o : Option (List ℕ × List ℕ))
 put_twice read b None = refl
 put_twice read b (Some x) = ap (λ t. let o : Option (List ℕ × List ℕ) = Some (t, x.1) in o) (sym (append_assoc read (b ∷ []) x.0))
 
--- a byte that is no closing quote
+-- a byte that is not the closing quote
 inside_step : (text : List ℕ) (taken next : Bool) (i b : ℕ) → i < length text → b ≡ get_or text i 0
     → inside_from taken (b ∷ drop (i + 1) text) ≡ option_map (λ x. let y : List ℕ × List ℕ = (b ∷ x.0, x.1) in y) (inside_from next (drop (i + 1) text)) → Inside text taken i
     → Inside text next (i + 1)

@@ -1,4 +1,4 @@
--- What the reader finds wrong in a raw text is what the relation says, and back.
+-- The reader finds a fault in a raw text exactly if it is its fault by the definition.
 use Rattle.std.proofs.Common.{◌≡◌, ℕ, suc, zero, ◌+◌, ◌<◌, ◌≤◌, List, [], ◌∷◌, ◌++◌, length, take, drop, Bool, true, false, cond, not, refl, sym, ◌∙◌, ap, subst, arith, eqb-true, take-append-drop, length-take, append_assoc, lt-ltb, ne_eqb}
 use Rattle.std.specs.Prelude.{◌==◌, Option, Some, None, Result, Ok, Err, nat_lt}
 use Rattle.std.specs.Str.{IsUtf8, is_utf8}
@@ -15,7 +15,7 @@ use Rattle.compose_lex.specs.declared.LexFault.TheVariants.{BadToken, ModifierLi
 use Rattle.compose_lex.proofs.Decodes.{skipped_to, piece_fits}
 use Rattle.compose_lex.proofs.TextRead.{take_prefix, drop_prefix, piece_takes, none_left, bytes_said, read_again}
 
--- ---- a backslash behind a piece changes nothing in it
+-- ---- a backslash after a piece does not change the piece
 
 begins_before : (p : ℕ → Bool) (rest behind : List ℕ) → p 92 ≡ false → begins p (rest ++ 92 ∷ behind) ≡ begins p rest
 begins_before p [] behind h = h
@@ -124,7 +124,7 @@ stop_found at zero (b ∷ rest) fault e =
     go (Some c) h (Ok bytes) i e again = cc
     go (Some c) h (Err f) i e again = one_more at b c (first_len (b ∷ rest)) rest fault (piece_fits b rest) h (again fault (i ∙ e))
 
--- and back
+-- and the other way round
 stop_read : (at : ℕ) (before bytes behind : List ℕ) → Unescapes before bytes → BeginsNoPiece (92 ∷ behind) → bytes_from at 0 (before ++ 92 ∷ behind) ≡ Err (escape_fault (at + length before) behind)
 stop_read at before [] behind u none =
     let here : at ≡ at + 0 = omega arith in
@@ -174,7 +174,7 @@ bytes_fault_said raw bytes fault u e = go (length bytes == 0) refl (nat_lt 255 (
         let is : TextNotUtf8 ≡ fault = cc in
         subst (IsTextFault raw) is (bytes, u, omega (arith, eqb-false (length bytes) 0 a), omega (arith, ltb-false 255 (length bytes) b), λ v. let w = is_utf8-from_IsUtf8 bytes v in cc)
 
--- the fault that is read of a raw text is one that its definition finds in it
+-- the fault that is read from a raw text is one that its definition finds in it
 pub text_fault_said : (raw : List ℕ) (fault : LexFault) → text_of raw ≡ Err fault → IsTextFault raw fault
 text_fault_said raw fault e = go (bytes_from 0 0 raw) refl e
   where
@@ -208,7 +208,7 @@ escape_read raw at behind s =
     let here : 0 + length s.before ≡ at = let o = s.offset in omega arith in
     ap text_of s.whole ∙ ap text_or (stop_read 0 s.before s.bytes behind s.right s.none) ∙ ap (λ n. let r : Result (List ℕ) LexFault = Err (escape_fault n behind) in r) here
 
--- the fault that the definition finds in a raw text is read of it
+-- the fault that the definition finds in a raw text is read from it
 pub text_fault_read : (raw : List ℕ) (fault : LexFault) → IsTextFault raw fault → text_of raw ≡ Err fault
 text_fault_read raw (BadCode at) x = escape_read raw at x.0 x.1 ∙ (let code = x.2 in rw code refl)
 text_fault_read raw (UnknownEscape at) x = escape_read raw at x.0 x.1 ∙ (let none = not-true (begins is_code_first x.0) x.2 in rw none refl)

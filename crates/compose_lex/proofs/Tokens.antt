@@ -15,7 +15,7 @@ use Rattle.compose_lex.proofs.LineRead.{inside_again, end_first}
 
 -- ---- the token at the beginning
 
--- the string in its quotes, or nothing where there is none
+-- the string in its quotes, or nothing if there is none
 abbrev pub quoted_of : Option (List ℕ × List ℕ) → List ℕ
 quoted_of None = []
 quoted_of (Some x) = quoted x.0
@@ -29,7 +29,7 @@ next_token (b ∷ rest) = cond (is_name_byte b) (leading is_name_byte (b ∷ res
 abbrev pub is_token_first : ℕ → Bool
 is_token_first b = not (is_blank b) && not (b == 35)
 
--- where it stands whole, it is the token at the beginning
+-- if it is whole, it is the token at the beginning
 pub record IsToken (t : List ℕ) : Type 0 where
   pub read : (rest : List ℕ) → is_whole t rest ≡ true → next_token (t ++ rest) ≡ t
   pub first : (rest : List ℕ) → begins is_token_first (t ++ rest) ≡ true
@@ -69,7 +69,7 @@ name_token (b ∷ name) h =
     ends_there : (rest : List ℕ) → is_whole (b ∷ name) rest ≡ true → begins is_name_byte rest ≡ false
     ends_there rest w = let n = not-true (is_name (b ∷ name) && begins is_name_byte rest) w in let i : is_name (b ∷ name) ≡ true = h in sym (ap (λ x. x && begins is_name_byte rest) i) ∙ n
 
--- ---- the tokens of a right reading
+-- ---- the tokens of a valid reading
 
 events_tokens : (events ts : List (List ℕ)) → list_all is_name events ≡ true → AllTokens ts → AllTokens (flat_map event_tokens events ++ ts)
 events_tokens [] ts h a = a
@@ -83,7 +83,7 @@ result_all None (Some name) r n = (name_token name n, tt)
 result_all (Some raw) None r n = (string_token raw r, tt)
 result_all (Some raw) (Some name) r n = (string_token raw r, (name_token name n, tt))
 
--- the tokens of a right reading are tokens
+-- the tokens of a valid reading are tokens
 pub right_tokens : (r : Reading) → is_reading r ≡ true → AllTokens (tokens r)
 right_tokens blank h = tt
 right_tokens (include raw) h = (name_token (codes "include") refl, (string_token raw h, tt))
@@ -91,9 +91,9 @@ right_tokens (production events raw name) h =
     let parts = right_parts events raw name h in
     events_tokens events ((58 ∷ []) ∷ result_tokens raw name) parts.names (colon_token, result_all raw name parts.closed parts.named)
 
--- ---- a name is never the next token behind a name
+-- ---- a name is never the next token after a name
 
--- a string in quotes is no name
+-- a string in quotes is not a name
 pub quoted_no_name : (raw : List ℕ) → is_name (quoted raw) ≡ false
 quoted_no_name raw = go (nat_lt 0 (length (quoted raw)))
   where
@@ -129,7 +129,7 @@ separated blank = tt
 separated (include raw) = (λ is rest. refl, (tt, tt))
 separated (production events raw name) = events_separated events ((58 ∷ []) ∷ result_tokens raw name) (behind_mark (58 ∷ []) (result_tokens raw name) refl, result_separated raw name)
 
--- so each token of a line stands whole
+-- so each token of a line is whole
 pub record Whole (ts : List (List ℕ)) (bytes : List ℕ) : Type 0 where
   pub rest : List ℕ
   pub begun : BeginsWith ts bytes rest
@@ -152,7 +152,7 @@ all_whole (t ∷ ts) bytes s a =
     let later = all_whole ts a.1 s.1 a.4 in
     record { rest = later.rest; begun = (a.0, a.1, a.2, stands_whole t ts a.1 s.0 a.4, a.3, later.begun); comment = later.comment }
 
--- in a line that is the tokens of a reading each of them stands whole, and a comment or nothing follows the last
+-- in a line with the tokens of a reading each of them is whole, and a comment or nothing follows the last
 pub reading_whole : (r : Reading) (line : List ℕ) → AreTokens (tokens r) line → Whole (tokens r) line
 reading_whole r line a = all_whole (tokens r) line (separated r) a
 
@@ -163,7 +163,7 @@ pub all_before : (ts us : List (List ℕ)) → AllTokens (ts ++ us) → AllToken
 all_before [] us a = tt
 all_before (t ∷ ts) us a = (a.0, all_before ts us a.1)
 
--- the second list has a token more, which stands where the first list ends
+-- the second list has a further token, which begins where the first list ends
 pub record Ahead (ts us : List (List ℕ)) (rest : List ℕ) : Type 0 where
   pub token : List ℕ
   pub more : List (List ℕ)
@@ -198,7 +198,7 @@ compared_further t ts us rest rest2 (inl e) = inl (ap (λ x. t ∷ x) e.0, e.1)
 compared_further t ts us rest rest2 (inr (inl a)) = inr (inl (one_further t ts us rest a))
 compared_further t ts us rest rest2 (inr (inr a)) = inr (inr (one_further t us ts rest2 a))
 
--- of two beginnings of one line one goes on where the other ends, or they are the same
+-- of two beginnings of one line, one goes on where the other ends, or they are the same
 pub compare : (ts us : List (List ℕ)) (bytes rest rest2 : List ℕ) → AllTokens ts → AllTokens us → BeginsWith ts bytes rest → BeginsWith us bytes rest2 → Compared ts us rest rest2
 compare [] [] bytes rest rest2 a b v w = inl (refl, sym (rest_at bytes rest v) ∙ rest_at bytes rest2 w)
 compare [] (u ∷ us) bytes rest rest2 a b v w =

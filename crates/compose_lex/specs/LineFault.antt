@@ -1,4 +1,5 @@
--- The faults of a line, said with the grammar and not with the reader: how far the tokens of a right reading go, and what stands where none goes on.
+-- The faults of a line, defined with the grammar and not with the function that reads a line: how many of its tokens
+-- begin a valid line, and what follows them.
 use Rattle.std.specs.Prelude.{◌≡◌, ℕ, Bool, not, ◌+◌, ◌&&◌, ◌||◌, ◌==◌, List, [], ◌∷◌, ◌++◌, length, flat_map, IsTrue}
 use Rattle.std.specs.Char.{is_ascii_alphabetic}
 use Rattle.std.specs.List.{list_all}
@@ -9,11 +10,11 @@ use Rattle.compose_lex.specs.declared.LexFault.TheVariants.{BadToken, ModifierLi
 
 -- ---- the tokens before a fault
 
--- some right reading has these tokens first
+-- some valid reading begins with these tokens
 abbrev pub AreFirst : List (List ℕ) → Type 0
 AreFirst done = (reading : Reading) × (more : List (List ℕ)) × IsTrue (is_reading reading) × (tokens reading ≡ done ++ more)
 
--- some right reading has these tokens and no more
+-- some valid reading has exactly these tokens
 abbrev pub AreAll : List (List ℕ) → Type 0
 AreAll done = (reading : Reading) × IsTrue (is_reading reading) × (tokens reading ≡ done)
 
@@ -21,16 +22,17 @@ AreAll done = (reading : Reading) × IsTrue (is_reading reading) × (tokens read
 abbrev pub is_whole : List ℕ → List ℕ → Bool
 is_whole token rest = not (is_name token && begins is_name_byte rest)
 
--- the bytes are these tokens, each one whole, with blanks before and between them and behind the last; then this rest, which no blank begins
+-- the bytes are these tokens, each one whole, with blanks before, between and after them; then this rest, which does
+-- not begin with a blank
 abbrev pub BeginsWith : List (List ℕ) → List ℕ → List ℕ → Type 0
 BeginsWith [] bytes rest = (blanks : List ℕ) × IsTrue (list_all is_blank blanks) × IsTrue (not (begins is_blank rest)) × (bytes ≡ blanks ++ rest)
 BeginsWith (t ∷ ts) bytes rest = (blanks : List ℕ) × (more : List ℕ) × IsTrue (list_all is_blank blanks) × IsTrue (is_whole t more) × (bytes ≡ blanks ++ (t ++ more)) × BeginsWith ts more rest
 
--- a token that some right reading has behind these tokens stands here
+-- the rest begins with a token that comes after these tokens in some valid reading
 abbrev pub GoesOn : List (List ℕ) → List ℕ → Type 0
 GoesOn done rest = (token : List ℕ) × (more : List ℕ) × AreFirst (done ++ token ∷ []) × IsTrue (is_whole token more) × (rest ≡ token ++ more)
 
--- behind these tokens of a right reading, at this offset, the line has neither a token that may follow nor its end
+-- after these tokens of a valid reading, at this offset, the line neither goes on with a token that may follow nor ends
 pub record StopsAt (line : List ℕ) (at : ℕ) (done : List (List ℕ)) (rest : List ℕ) : Type 0 where
   pub begun : BeginsWith done line rest
   pub right : AreFirst done
@@ -38,9 +40,9 @@ pub record StopsAt (line : List ℕ) (at : ℕ) (done : List (List ℕ)) (rest :
   pub no_token : GoesOn done rest → ⊥
   pub no_end : AreAll done → IsTrue (is_comment rest) → ⊥
 
--- ---- what is wrong there
+-- ---- the kind of fault
 
--- behind whole events, or none: where an event may begin, or the one too many
+-- after whole events, or none: here an event may begin, or the one too many
 abbrev pub AreEvents : List (List ℕ) → Type 0
 AreEvents done = (events : List (List ℕ)) × (done ≡ flat_map event_tokens events)
 
@@ -48,11 +50,11 @@ AreEvents done = (events : List (List ℕ)) × (done ≡ flat_map event_tokens e
 abbrev pub is_modifier_first : ℕ → Bool
 is_modifier_first b = b == 33 || b == 126 || is_ascii_alphabetic b
 
--- a modifier list in the place of an event
+-- a modifier list in place of an event
 abbrev pub IsModifierList : List (List ℕ) → List ℕ → Type 0
 IsModifierList done rest = AreEvents done × IsTrue (begins is_modifier_first rest)
 
--- a quote (code 34) where a string may stand; where the line stops no closing quote follows it
+-- a quote (code 34) where a string may begin; since the line stops there, no closing quote follows it
 abbrev pub IsUnclosedString : List (List ℕ) → List ℕ → Type 0
 IsUnclosedString done rest = (raw : List ℕ) × AreFirst (done ++ quoted raw ∷ []) × IsTrue (begins (λ b. b == 34) rest)
 
@@ -71,7 +73,7 @@ pub record IsBadToken (done : List (List ℕ)) (rest : List ℕ) : Type 0 where
   pub no_missing_result : IsNoResult done rest → ⊥
   pub no_33rd_event : IsTooManyKeysyms done rest → ⊥
 
--- which fault it is where the line stops at this offset
+-- the kind of fault of a line that stops at this offset
 abbrev pub IsFaultAt : ℕ → List (List ℕ) → List ℕ → LexFault → Type 0
 IsFaultAt offset done rest (BadToken at) = (at ≡ offset) × IsBadToken done rest
 IsFaultAt offset done rest (ModifierList at) = (at ≡ offset) × IsModifierList done rest

@@ -1,4 +1,5 @@
-//! The escapes of a raw text, one byte each. Octal and hexadecimal codes take as many digits as may be.
+//! Decoding of the escapes in a raw text, one byte each. Octal and hexadecimal codes take as many
+//! digits as possible.
 ghost use Rattle.std.specs.Prelude.{◌≡◌, ◌≤◌, ◌<◌, ◌+◌, ◌==◌, ◌||◌, ◌++◌, ◌∷◌, [], ℕ, List, nat_lt, length, take, drop, Some, None, Ok, Err, MatchResult, IfOk};
 ghost use Rattle.std.specs.Char.{digit_value};
 ghost use Rattle.std.specs.Str.Parse.{digits_value};
@@ -9,10 +10,10 @@ ghost use Rattle.compose_lex.specs.Steps.{IsByte, escape_byte, piece_byte, IsDec
 use crate::LexFault;
 use arrayvec::ArrayVec;
 
-/// The first 255 bytes of a text, and how many bytes it has.
+/// The first 255 bytes of a text, and the number of bytes in all of it.
 pub(crate) type Decoded = (ArrayVec<u8, 255>, usize);
 
-/// The number that the digits at the beginning write, and how many there are.
+/// Returns the number that the leading digits write, and the number of these digits.
 fn code_of(radix: u32, bytes: &[u8]) -> (u32, usize)
     requires low { 2 ≤ radix }
     requires high { radix ≤ 16 }
@@ -31,7 +32,7 @@ fn code_of(radix: u32, bytes: &[u8]) -> (u32, usize)
     (value, bytes.len())
 }
 
-/// The same of at most `most` bytes.
+/// Like `code_of`, but reads at most `most` bytes.
 fn code_at(radix: u32, most: usize, rest: &[u8]) -> (u32, usize)
     requires low { 2 ≤ radix }
     requires high { radix ≤ 16 }
@@ -47,7 +48,7 @@ fn code_at(radix: u32, most: usize, rest: &[u8]) -> (u32, usize)
     code_of(radix, &rest[..most])
 }
 
-/// The byte of a code, which took `len` bytes.
+/// Returns the byte with this code, and `len`, the number of bytes that the code takes.
 fn byte_of(at: usize, code: u32, len: usize) -> Result<(u8, usize), LexFault>
     ensures { IsByte (escapes.byte_of code) len (LexFault.BadCode at) result }
 {
@@ -57,7 +58,7 @@ fn byte_of(at: usize, code: u32, len: usize) -> Result<(u8, usize), LexFault>
     Ok((code as u8, len))
 }
 
-/// The byte of a letter behind a backslash.
+/// Returns the byte for a letter after a backslash.
 fn letter_escape(at: usize, letter: u8) -> Result<(u8, usize), LexFault>
     ensures { IsByte (escapes.letter_escape letter) 1 (LexFault.UnknownEscape at) result }
 {
@@ -70,14 +71,15 @@ fn letter_escape(at: usize, letter: u8) -> Result<(u8, usize), LexFault>
     }
 }
 
-/// Whether a hexadecimal code follows.
+/// Returns whether this byte begins a hexadecimal code.
 fn begins_hexadecimal(byte: u8) -> bool
     ensures { result ≡ (byte == 120 || byte == 88) }
 {
     byte == b'x' || byte == b'X'
 }
 
-/// What an escape stands for, behind its backslash, and how many bytes it takes there.
+/// Decodes an escape, given what follows its backslash: returns the byte, and the number of bytes
+/// that the escape takes after the backslash.
 fn escape_at(at: usize, rest: &[u8]) -> Result<(u8, usize), LexFault>
     ensures { IsByte (escape_byte rest.now) (escapes.escape_len rest.now)
         (escapes.escape_fault at rest.now) result }
@@ -96,7 +98,8 @@ fn escape_at(at: usize, rest: &[u8]) -> Result<(u8, usize), LexFault>
     letter_escape(at, *first)
 }
 
-/// What the piece of this first byte stands for, and how many bytes it takes behind that byte.
+/// Decodes the piece that begins with this byte: returns the byte that it stands for, and the
+/// number of bytes that it takes after the first.
 fn piece_at(at: usize, first: u8, behind: &[u8]) -> Result<(u8, usize), LexFault>
     ensures { IsByte (piece_byte first behind.now) (escapes.first_len (first ∷ behind.now))
         (escapes.escape_fault at behind.now) result }
@@ -116,7 +119,7 @@ fn keep(kept: &mut ArrayVec<u8, 255>, byte: u8)
     }
 }
 
-/// The bytes that a raw text stands for, or the leftmost bad escape. O(bytes).
+/// Decodes a raw text, or returns the leftmost bad escape as an error. O(bytes).
 pub(crate) fn decode(raw: &[u8]) -> Result<Decoded, LexFault>
     ensures { MatchResult result
         (λ x. (bytes : List ℕ) × (escapes.bytes_from 0 0 raw.now ≡ Ok bytes)

@@ -1,4 +1,5 @@
-//! A line, read token by token from the left; the first place where the expected token is missing is its fault.
+//! A line, read token by token from the left. Its fault is at the first place where the expected
+//! token is missing.
 ghost use Rattle.std.specs.Prelude.{◌≡◌, ◌-◌, ℕ, List, [], length, map, option_copied, drop, false, true, IfOk, MatchOption};
 ghost use Rattle.std.specs.Char.{is_ascii_alphabetic};
 ghost use Rattle.compose_lex.specs.Line.{IsLine, include};
@@ -10,23 +11,24 @@ use crate::token::{byte_at, end_at, name_at, offset, skip_blanks, split_name, st
 use crate::{LexFault, Line, law_right_reading};
 use arrayvec::ArrayVec;
 
-/// What a line says beside the names of its events; its tokens are slices of the line.
+/// The content of a line apart from the names of its events; its tokens are slices of the line.
 #[derive(Clone, Copy, Debug, PartialEq, Eq, Drop)]
 pub enum Said<'a> {
-    /// Nothing but blanks and perhaps a comment.
+    /// Only blanks, and perhaps a comment.
     Blank,
     /// An include, with the raw text of its string.
     Include(&'a str),
-    /// The raw text of the string, the name of the result keysym, or both.
+    /// A production: the raw text of its string, the name of its result keysym, or both.
     Production {
-        /// What stands between the quotes of the string, escapes and all.
+        /// The part between the quotes of the string, with its escapes as written.
         raw_text: Option<&'a str>,
         /// The name of the result keysym, not looked up.
         result_name: Option<&'a str>,
     },
 }
 
-/// What follows an event: the colon, or the `<` of a further event; with what follows it.
+/// What follows an event: the colon, or the `<` of a further event, each with the rest of the line
+/// after it.
 #[derive(Clone, Copy, Debug, Drop)]
 pub(crate) enum Next<'a> {
     Colon(&'a str),
@@ -36,10 +38,10 @@ pub(crate) enum Next<'a> {
 /// The names of the events of a production.
 type Events<'a> = ArrayVec<&'a str, 32>;
 
-/// The result of a production: its raw text, the name of its keysym, and what follows them.
+/// The result of a production: its raw text, the name of its keysym, and the rest of the line.
 type Outcome<'a> = (Option<&'a str>, Option<&'a str>, &'a str);
 
-/// Where an event may begin and none does: `!`, `~` or a letter begins a modifier list.
+/// Returns the fault if no event begins where one may: `!`, `~` or a letter begins a modifier list.
 fn event_fault(line_len: usize, rest: &str) -> LexFault
     ensures { result ≡ fault.event_fault line_len rest.now }
 {
@@ -52,7 +54,7 @@ fn event_fault(line_len: usize, rest: &str) -> LexFault
     }
 }
 
-/// A name and `>`, behind a `<`; and what follows them.
+/// Reads a name and `>`, after a `<`; returns the name and the rest of the line.
 #[inline(always)]
 fn event_at(line_len: usize, rest: &str) -> Result<(&str, &str), LexFault>
     ensures { Is (λ x. (x.0.now, x.1.now)) result (fault.event_at line_len rest.now) }
@@ -62,7 +64,7 @@ fn event_at(line_len: usize, rest: &str) -> Result<(&str, &str), LexFault>
     Ok((name, rest))
 }
 
-/// The colon or a further event.
+/// Reads the colon, or the `<` of a further event.
 fn next_at(line_len: usize, rest: &str) -> Result<Next<'_>, LexFault>
     ensures { IsNext result line_len rest.now }
 {
@@ -74,8 +76,8 @@ fn next_at(line_len: usize, rest: &str) -> Result<Next<'_>, LexFault>
     }
 }
 
-/// Puts the names of the further events, up to the colon, behind those in the list, and gives what follows the
-/// colon. O(bytes).
+/// Appends the names of the further events, up to the colon, to the list, and returns the rest of
+/// the line after the colon. O(bytes).
 fn events_at<'a>(
     line_len: usize,
     behind_event: &'a str,
@@ -99,7 +101,7 @@ fn events_at<'a>(
     }
 }
 
-/// Perhaps a name, and what follows it.
+/// Reads a name, if there is one; returns it and the rest of the line.
 fn name_if(rest: &str) -> (Option<&str>, &str)
     ensures name { option_copied result.0 ≡ (fault.name_if rest.now).0 }
     ensures rest { result.1.now ≡ (fault.name_if rest.now).1 }
@@ -111,7 +113,7 @@ fn name_if(rest: &str) -> (Option<&str>, &str)
     (Some(name), behind)
 }
 
-/// A string, a name, or a string and a name.
+/// Reads a string, a name, or a string and a name.
 fn result_at(line_len: usize, rest: &str) -> Result<Outcome<'_>, LexFault>
     ensures { Is (λ x. (option_copied x.0, option_copied x.1, x.2.now)) result
         (fault.result_at line_len rest.now) }
@@ -130,7 +132,7 @@ fn result_at(line_len: usize, rest: &str) -> Result<Outcome<'_>, LexFault>
     }
 }
 
-/// A production, behind its first `<`.
+/// Reads a production, after its first `<`.
 fn production_at<'a>(
     line_len: usize,
     rest: &'a str,
@@ -154,7 +156,7 @@ fn production_at<'a>(
     })
 }
 
-/// The raw text of an include, behind its word.
+/// Reads an include, after the word `include`; returns the raw text of its string.
 fn include_at(line_len: usize, rest: &str) -> Result<&str, LexFault>
     ensures { Is (λ raw. include raw.now) result (fault.include_at line_len rest.now) }
 {
@@ -164,7 +166,8 @@ fn include_at(line_len: usize, rest: &str) -> Result<&str, LexFault>
     Ok(raw)
 }
 
-/// What follows the word `include` at the beginning, which no letter, digit or underscore follows.
+/// Returns what follows the word `include` at the beginning, if it is there and no letter, digit or
+/// underscore follows it.
 fn behind_include(rest: &str) -> Option<&str>
     ensures { MatchOption result (fault.is_include rest.now ≡ false)
         (λ behind. (fault.is_include rest.now ≡ true) × (behind.now ≡ drop 7 rest.now)) }
@@ -173,7 +176,7 @@ fn behind_include(rest: &str) -> Option<&str>
     (word == "include").then_some(behind)
 }
 
-/// A line, behind its first blanks.
+/// Reads a line, after its leading blanks.
 #[inline(always)]
 fn reading_at<'a>(
     line_len: usize,
@@ -197,8 +200,10 @@ fn reading_at<'a>(
     }
 }
 
-/// The same as `lex_line`, with the names of the events in the caller's list, which is empty where the line has none or
-/// a fault. Takes no memory and copies no list. O(bytes).
+/// Reads a line like `lex_line`, with the names of the events put in the caller's list. The list is
+/// left empty if the line has no events, or a fault. Takes no memory and copies no list. O(bytes).
+///
+/// Errors: the fault of the line.
 #[inline(always)]
 pub fn lex_line_into<'a>(
     line: &'a str,
@@ -219,7 +224,9 @@ pub fn lex_line_into<'a>(
     said
 }
 
-/// What the line says, or its fault; its tokens are slices of the line. Takes no memory. O(bytes).
+/// Reads a line; the tokens of the result are slices of the line. Takes no memory. O(bytes).
+///
+/// Errors: the fault of the line, at the first place where the expected token is missing.
 pub fn lex_line<'a>(line: &'a str) -> Result<Line<'a>, LexFault>
     ensures exact { Is reading result (fault.reading_of line.now) }
     ensures found { IfOk result (λ said. IsLine line.now (reading said)) }

@@ -1,17 +1,21 @@
 //! One line of a Compose file, the escapes of its texts, and quoting.
 //!
-//! `lex_line` gives what a line says by the grammar, each token a slice of the line, or the fault of the first place
-//! from the left where the expected token is missing; it takes no memory. So
-//! `<Multi_key> <apostrophe> <e> : "é" eacute # e acute` is a production of three events with the raw text `é` and the
-//! result name `eacute`, and `Ctrl<a> : "x"` is a modifier list at 0. `lex_line_into` gives the same with the names of
-//! the events in the caller's list, so that one list serves every line of a file. A raw text is the string as it
-//! stands; `unescape` gives the text that it stands for, or the leftmost bad escape, and `push_text` puts it after another
-//! text. `quote` prints a text in quotes, and what stands between these stands for
-//! the text.
+//! `lex_line` reads a line by the grammar, each token a slice of the line, or returns the fault of
+//! the first place from the left where the expected token is missing; it takes no memory. For
+//! example, `<Multi_key> <apostrophe> <e> : "é" eacute # e acute` is a production of three events
+//! with the raw text `é` and the result name `eacute`, and `Ctrl<a> : "x"` has a modifier list at
+//! offset 0. `lex_line_into` puts the names of the events in the caller's list, so that one list
+//! serves every line of a file.
 //!
-//! The grammar is a relation between a line and what it says (`specs/Line.antt`), and what is wrong with a line or a raw
-//! text is said by the grammar too (`specs/LineFault.antt`, `specs/TextFault.antt`), apart from the readers that find it
-//! (`specs/Fault.antt`, `specs/Escape.antt`); the laws below say that the two agree on every line and every raw text.
+//! A raw text is a string as it is written, with its escapes. `unescape` returns the text that it
+//! stands for, or the leftmost bad escape, and `push_text` appends that text to another one.
+//! `quote` puts a text in quotes, with escapes; the part between the quotes is a raw text for the
+//! same text.
+//!
+//! The grammar is a relation between a line and its meaning (`specs/Line.antt`). The faults of a
+//! line and of a raw text are defined with the grammar too (`specs/LineFault.antt`,
+//! `specs/TextFault.antt`), separately from the functions that find them (`specs/Fault.antt`,
+//! `specs/Escape.antt`). The laws below state that the two agree on every line and every raw text.
 #![tactic(auto)]
 
 ghost use Rattle.std.specs.Prelude.{◌≡◌, ℕ, nat_lt, List, Ok, Err, IsTrue};
@@ -38,31 +42,33 @@ use std::alloc::AllocError;
 pub use texts::{push_text, unescape};
 use thiserror::Error;
 
-/// What is wrong with a line, or with the text of a string. `at` is an offset in bytes in the text that the call was handed.
+/// The fault of a line, or of the raw text of a string. `at` is an offset in bytes in the text that
+/// was passed to the function, counted from 0.
 #[derive(Debug, PartialEq, Eq, Drop, Error)]
 pub enum LexFault {
-    /// Something else than the needed token, or the end of the line.
+    /// Something other than the expected token, at its first byte; or the end of the line.
     #[error("1 BadToken at={at}")]
     BadToken { at: usize },
-    /// A modifier list, which is not read, where an event may begin.
+    /// A modifier list where an event may begin, at its first byte. Modifier lists are not
+    /// supported.
     #[error("2 ModifierList at={at}")]
     ModifierList { at: usize },
-    /// A string without its closing quote; at its opening quote.
+    /// A string without its closing quote, at its opening quote.
     #[error("3 UnclosedString at={at}")]
     UnclosedString { at: usize },
-    /// A backslash with none of the known escapes behind it.
+    /// A backslash that begins none of the known escapes, at the backslash.
     #[error("4 UnknownEscape at={at}")]
     UnknownEscape { at: usize },
-    /// A code without a digit, code 0, or an octal code above 255; at its backslash.
+    /// A code without a digit, the code 0, or an octal code above 255, at its backslash.
     #[error("5 BadCode at={at}")]
     BadCode { at: usize },
-    /// A colon with neither a string nor a name behind it.
+    /// A colon with neither a string nor a name after it.
     #[error("6 NoResult")]
     NoResult,
     /// A 33rd event.
     #[error("7 TooManyKeysyms")]
     TooManyKeysyms,
-    /// A text without a byte.
+    /// An empty text.
     #[error("8 EmptyText")]
     EmptyText,
     /// A text of more than 255 bytes.
@@ -71,7 +77,7 @@ pub enum LexFault {
     /// A text whose bytes are not UTF-8.
     #[error("10 TextNotUtf8")]
     TextNotUtf8,
-    /// Memory was refused in this call.
+    /// Memory ran out.
     #[error("11 NoMemory")]
     NoMemory,
 }
@@ -84,25 +90,26 @@ impl From<AllocError> for LexFault {
     }
 }
 
-/// What a line says; its tokens are slices of the line.
+/// The content of a line; its tokens are slices of the line.
 #[derive(Debug, PartialEq, Eq, Drop)]
 pub enum Line<'a> {
-    /// Nothing but blanks and perhaps a comment.
+    /// Only blanks, and perhaps a comment.
     Blank,
     /// An include, with the raw text of its string.
     Include(&'a str),
-    /// The names of 1 to 32 events, then the raw text of the string, the name of the result keysym, or both.
+    /// A production: the names of 1 to 32 events, then the raw text of the string, the name of the
+    /// result keysym, or both.
     Production {
         /// The name between `<` and `>` of each event.
         events: ArrayVec<&'a str, 32>,
-        /// What stands between the quotes of the string, escapes and all.
+        /// The part between the quotes of the string, with its escapes as written.
         raw_text: Option<&'a str>,
         /// The name of the result keysym, not looked up.
         result_name: Option<&'a str>,
     },
 }
 
-/// A line says one thing at most: what is read of it.
+/// A line has at most one meaning by the grammar, and that is what is read.
 pub fn law_one_reading()
     ensures read { (line : List ℕ) (reading : Reading) → IsLine line reading
         → reading_of line ≡ Ok reading }
@@ -111,14 +118,16 @@ pub fn law_one_reading()
         → IsLine line reading → reading_of line ≡ Err fault → ⊥ }
 {}
 
-/// What is read of a line is what the line says: a line without a fault is a line of the grammar.
+/// What is read is what the line means by the grammar: a line without a fault is a line of the
+/// grammar.
 pub fn law_right_reading()
     ensures { (line : List ℕ) (reading : Reading) → reading_of line ≡ Ok reading
         → IsLine line reading }
 {}
 
-/// What the reader finds wrong in a line is what is wrong by the grammar: the tokens of a right reading go so far and no
-/// further. A line has one fault at most.
+/// The fault that is found in a line is its fault by the grammar: up to this place the tokens are
+/// the first ones of a valid line, and no token of a valid line follows. A line has at most one
+/// fault.
 pub fn law_line_fault()
     ensures said { (line : List ℕ) (fault : LexFault) → reading_of line ≡ Err fault
         → IsLineFault line fault }
@@ -128,7 +137,8 @@ pub fn law_line_fault()
         → a ≡ b }
 {}
 
-/// A raw text stands for one list of bytes at most; where this is a text, it is what is read.
+/// A raw text stands for at most one list of bytes. If these are a text, it is the one that is
+/// read.
 pub fn law_one_text()
     ensures one { (raw a b : List ℕ) → Unescapes raw a → Unescapes raw b → a ≡ b }
     ensures read { (raw bytes : List ℕ) → Unescapes raw bytes → IsText bytes
@@ -137,8 +147,8 @@ pub fn law_one_text()
         → Unescapes raw bytes × IsText bytes }
 {}
 
-/// What the reader finds wrong in a raw text is what is wrong by its escapes, or with the bytes that it stands for. A raw
-/// text has one fault at most.
+/// The fault that is found in a raw text is the fault of its escapes, or of the bytes that it
+/// stands for. A raw text has at most one fault.
 pub fn law_text_fault()
     ensures said { (raw : List ℕ) (fault : LexFault) → text_of raw ≡ Err fault
         → IsTextFault raw fault }
@@ -147,7 +157,7 @@ pub fn law_text_fault()
     ensures one { (raw : List ℕ) (a b : LexFault) → IsTextFault raw a → IsTextFault raw b → a ≡ b }
 {}
 
-/// What stands between the quotes of a quoted text stands for the text.
+/// The part between the quotes of a quoted text is a raw text for that text.
 pub fn law_quote()
     ensures { (text : List ℕ) → IsText text → IsTrue (list_all (λ b. nat_lt 0 b) text)
         → Unescapes (quote_inside text) text × (text_of (quote_inside text) ≡ Ok text) }

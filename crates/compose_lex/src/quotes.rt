@@ -6,14 +6,14 @@ ghost use Rattle.compose_lex.specs.declared.LexFault.TheVariants as faults;
 use crate::LexFault;
 use std::alloc::{AllocError, Global};
 
-/// Whether a byte stands for itself between quotes.
+/// Returns whether a byte stands for itself between quotes.
 fn is_plain(byte: u8) -> bool
     ensures { result ≡ not (byte == 92 || byte == 34 || (nat_lt byte 32 || byte == 127)) }
 {
     !(byte == b'\\' || byte == b'"' || (byte < 32 || byte == 127))
 }
 
-/// Pushes a backslash and the three octal digits of a control byte.
+/// Appends a backslash and the three octal digits of a control byte.
 fn push_octal(quoted: &mut String, byte: u8) -> Result<(), AllocError>
     requires { byte < 128 }
     ensures { OnOk result
@@ -25,7 +25,7 @@ fn push_octal(quoted: &mut String, byte: u8) -> Result<(), AllocError>
     quoted.push(char::from(b'0' + byte % 8))
 }
 
-/// Pushes the escape of a byte that does not stand for itself.
+/// Appends the escape of a byte that does not stand for itself.
 fn push_escape(quoted: &mut String, byte: u8) -> Result<(), AllocError>
     requires ascii { byte < 128 }
     requires special { not (byte == 92 || byte == 34 || (nat_lt byte 32 || byte == 127)) ≡ false }
@@ -39,7 +39,7 @@ fn push_escape(quoted: &mut String, byte: u8) -> Result<(), AllocError>
     push_octal(quoted, byte)
 }
 
-/// Pushes what stands between the quotes, the plain stretches whole.
+/// Appends the part between the quotes, each run of plain bytes at once.
 fn push_inside(quoted: &mut String, text: &str) -> Result<(), AllocError>
     ensures { OnOk result
         (string_bytes quoted.new ≡ string_bytes quoted.old ++ escapes.quote_inside text.now) }
@@ -55,8 +55,10 @@ fn push_inside(quoted: &mut String, text: &str) -> Result<(), AllocError>
     quoted.push_str(&text[done..])
 }
 
-/// The text in double quotes, with `"` and `\` behind a backslash and each control as an octal escape. Its only
-/// fault is NoMemory. O(bytes).
+/// Returns the text in double quotes, with a backslash before each `"` and `\`, and each control
+/// character as an octal escape. O(bytes).
+///
+/// Errors: `NoMemory` if memory runs out.
 pub fn quote(alloc: Global, text: &str) -> Result<String, LexFault>
     ensures ok { IfOk result (λ quoted. string_bytes quoted ≡ escapes.quote text.now) }
     ensures err { IfErr result (λ e. e ≡ faults.NoMemory) }

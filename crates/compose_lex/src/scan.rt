@@ -1,4 +1,4 @@
-//! Plain text at the beginning of bytes.
+//! The number of plain bytes at the beginning of a text.
 ghost use Rattle.std.specs.Prelude.{◌≡◌};
 ghost use Rattle.std.specs.List.{prefix_len};
 ghost use Rattle.compose_lex.specs.Steps.{is_plain};
@@ -25,7 +25,7 @@ impl ByteClass for Plain {
     }
 }
 
-/// How many bytes stand before the first quote or backslash. O(these bytes).
+/// Returns the number of bytes before the first quote or backslash. O(these bytes).
 #[inline(always)]
 pub(crate) fn plain_len(bytes: &[u8]) -> usize
     ensures { result ≡ prefix_len is_plain bytes.now }

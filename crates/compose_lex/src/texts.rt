@@ -10,7 +10,7 @@ use crate::escapes::decode;
 use crate::{LexFault, law_one_text};
 use std::alloc::Global;
 
-/// A text has 1 to 255 bytes.
+/// Checks that a text has 1 to 255 bytes.
 fn check_len(len: usize) -> Result<(), LexFault>
     ensures exact { Is (λ _. tt) result (len_check len) }
     ensures fits { OnOk result (len ≤ 255) }
@@ -22,14 +22,14 @@ fn check_len(len: usize) -> Result<(), LexFault>
     }
 }
 
-/// Whether a raw text has a backslash.
+/// Returns whether a raw text has a backslash.
 fn has_escapes(raw: &str) -> bool
     ensures { result ≡ list_any (λ b. b == 92) raw.now }
 {
     raw.as_bytes().contains(&b'\\')
 }
 
-/// The text of the bytes of a raw text, of which there are `len` and the first 255 were kept.
+/// Returns the text that a raw text was decoded to, of `len` bytes, given its first 255 bytes.
 fn decoded_text(kept: &[u8], len: usize) -> Result<&str, LexFault>
     ensures exact { (bytes : List ℕ) → IsDecoded kept.now len bytes
         → Is (λ text. text.now) result (escapes.text_or (Ok bytes)) }
@@ -42,7 +42,10 @@ fn decoded_text(kept: &[u8], len: usize) -> Result<&str, LexFault>
     }
 }
 
-/// The text that a raw text stands for, or its fault. Takes memory once, for the text. O(bytes).
+/// Returns the text that a raw text stands for. Takes memory once, for the text. O(bytes).
+///
+/// Errors: the fault of the raw text: its leftmost bad escape, or a text that is empty, longer than
+/// 255 bytes or not UTF-8; `NoMemory` if memory runs out.
 pub fn unescape(alloc: Global, raw: &str) -> Result<String, LexFault>
     ensures exact { Gives string_bytes result (escapes.text_of raw.now) }
     ensures found { IfOk result
@@ -54,7 +57,7 @@ pub fn unescape(alloc: Global, raw: &str) -> Result<String, LexFault>
     Ok(text)
 }
 
-/// Pushes a raw text without a backslash.
+/// Appends a raw text without a backslash.
 fn push_plain(text: &mut String, raw: &str) -> Result<(), LexFault>
     ensures { PushGives (string_bytes text.old) (string_bytes text.new) result
         (escapes.text_or (Ok raw.now)) }
@@ -64,7 +67,7 @@ fn push_plain(text: &mut String, raw: &str) -> Result<(), LexFault>
     Ok(())
 }
 
-/// Pushes the text of a raw text with escapes.
+/// Appends the text of a raw text with escapes.
 fn push_unescaped(text: &mut String, raw: &str) -> Result<(), LexFault>
     ensures { PushGives (string_bytes text.old) (string_bytes text.new) result
         (escapes.text_of raw.now) }
@@ -74,8 +77,10 @@ fn push_unescaped(text: &mut String, raw: &str) -> Result<(), LexFault>
     Ok(())
 }
 
-/// Puts the text that a raw text stands for after another text; a fault changes nothing. A raw text without a
-/// backslash is put there as it stands. Takes memory only to grow the text. O(bytes).
+/// Appends the text that a raw text stands for to another text, which an error leaves as it was. A
+/// raw text without a backslash is appended as it is. Takes memory only to grow the text. O(bytes).
+///
+/// Errors: the fault of the raw text, as for `unescape`; `NoMemory` if memory runs out.
 pub fn push_text(text: &mut String, raw: &str) -> Result<(), LexFault>
     ensures exact { PushGives (string_bytes text.old) (string_bytes text.new) result
         (escapes.text_of raw.now) }

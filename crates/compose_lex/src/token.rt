@@ -1,5 +1,5 @@
-//! The tokens of a line, each read from the beginning of what is left of the line. A function takes the length of the
-//! whole line, for the offset of a fault, and the part that is left.
+//! The tokens of a line, each read at the beginning of the rest of the line. A function takes the
+//! length of the whole line, for the offset of a fault, and the rest.
 ghost use Rattle.std.specs.Prelude.{◌≡◌, ◌<◌};
 ghost use Rattle.compose_text.specs.Bytes.{is_name_byte, leading, behind};
 ghost use Rattle.compose_lex.specs.Fault as fault;
@@ -9,21 +9,22 @@ use crate::LexFault;
 use crate::scan::plain_len;
 use compose_text::{blank_len, name_len};
 
-/// Where in the line the rest begins.
+/// Returns the offset in the line at which the rest begins.
 pub(crate) fn offset(line_len: usize, rest: &str) -> usize
     ensures { result ≡ fault.offset line_len rest.now }
 {
     line_len.saturating_sub(rest.len())
 }
 
-/// What follows the blanks at the beginning. O(blanks).
+/// Returns what follows the leading blanks. O(blanks).
 pub(crate) fn skip_blanks(text: &str) -> &str
     ensures { result.now ≡ fault.skip_blanks text.now }
 {
     &text[blank_len(text.as_bytes())..]
 }
 
-/// The bytes of a name at the beginning, perhaps none, and what follows them. O(bytes of the name).
+/// Returns the leading bytes of a name, perhaps none, and the rest after them. O(bytes of the
+/// name).
 pub(crate) fn split_name(text: &str) -> (&str, &str)
     ensures name { result.0.now ≡ leading is_name_byte text.now }
     ensures rest { result.1.now ≡ behind is_name_byte text.now }
@@ -32,7 +33,7 @@ pub(crate) fn split_name(text: &str) -> (&str, &str)
     (&text[..len], &text[len..])
 }
 
-/// A name, and what follows it.
+/// Reads a name; returns it and the rest after it.
 pub(crate) fn name_at(line_len: usize, rest: &str) -> Result<(&str, &str), LexFault>
     ensures { Is (λ x. (x.0.now, x.1.now)) result (fault.name_at line_len rest.now) }
 {
@@ -45,7 +46,7 @@ pub(crate) fn name_at(line_len: usize, rest: &str) -> Result<(&str, &str), LexFa
     Ok((name, behind))
 }
 
-/// What follows this byte, which is ASCII.
+/// Reads this ASCII byte; returns the rest after it.
 pub(crate) fn byte_at(line_len: usize, wanted: u8, rest: &str) -> Result<&str, LexFault>
     requires { wanted < 128 }
     ensures { Is (λ x. x.now) result (fault.byte_at line_len wanted rest.now) }
@@ -58,7 +59,8 @@ pub(crate) fn byte_at(line_len: usize, wanted: u8, rest: &str) -> Result<&str, L
     }
 }
 
-/// Behind an opening quote: the raw text, and what follows the closing quote. O(bytes of the string).
+/// Reads a string, after its opening quote: returns the raw text, and the rest after the closing
+/// quote. O(bytes of the string).
 pub(crate) fn string_at(line_len: usize, rest: &str) -> Result<(&str, &str), LexFault>
     ensures { Is (λ x. (x.0.now, x.1.now)) result (fault.string_at line_len rest.now) }
 {
@@ -78,7 +80,7 @@ pub(crate) fn string_at(line_len: usize, rest: &str) -> Result<(&str, &str), Lex
     })
 }
 
-/// Nothing but a comment.
+/// Checks that only a comment is left, or nothing.
 pub(crate) fn end_at(line_len: usize, rest: &str) -> Result<(), LexFault>
     ensures { Is (λ _. tt) result (fault.end_at line_len rest.now) }
 {

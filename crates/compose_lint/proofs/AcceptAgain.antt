@@ -1,4 +1,4 @@
--- The lines of a written list are read again, and accept the findings for which it was written.
+-- A written list can be read again, and accepts the findings for which it was written.
 use Rattle.std.proofs.Common.{◌≡◌, ◌∙◌, ℕ, ◌+◌, Bool, true, false, not, List, [], ◌∷◌, ◌++◌, map, filter, flat_map, refl, ap, arith, leb-true}
 use Rattle.std.specs.Prelude.{◌==◌, ◌&&◌, ◌||◌, None, Ok, Err, bytes_eq, codes}
 use Rattle.std.specs.List.{find, list_any, list_all}
@@ -40,7 +40,7 @@ characters_line : (cs : List ℕ) → list_all in_line (flat_map listed_characte
 characters_line [] = refl
 characters_line (c ∷ cs) = list_all-append in_line (listed_character c) (flat_map listed_character cs) ∙ and_from _ _ (character_line c) (characters_line cs)
 
--- it begins with the word of a kind
+-- the text begins with the word of a kind
 abbrev form_of : List ℕ → Bool
 form_of text = begins_as_one file_words text || (begins_as_one text_words text || begins_as_one reader_words text)
 
@@ -68,7 +68,7 @@ all_good : (rows : List Row) → list_all is_good (map listed_text rows) ≡ tru
 all_good [] = refl
 all_good (row ∷ rows) = and_from _ _ (good row.finding.kind (listed_line row.bytes) (characters_line (chars (utf8_lossy (without_blanks row.bytes))))) (all_good rows)
 
--- ---- such texts are read again
+-- ---- reading such texts again
 
 -- a line for each of these texts, numbered on from n
 abbrev numbered : ℕ → List (List ℕ) → List Line
@@ -108,7 +108,7 @@ none_bad n (text ∷ texts) all =
     let parts = and_parts (is_good text) (list_all is_good texts) all in
     find_skip is_bad (record { number = n; text = text }) (numbered (1 + n) texts) (ap not (first_good text parts.0).1) ∙ none_bad (1 + n) texts parts.1
 
--- ---- none of them is stale
+-- ---- none of the lines is stale
 
 none_stale : (all : List (List ℕ)) (n : ℕ) (texts : List (List ℕ)) → list_all (λ text. list_any (bytes_eq text) all) texts ≡ true → find (is_none_of all) (numbered n texts) ≡ None
 none_stale all n [] there = refl
@@ -116,7 +116,7 @@ none_stale all n (text ∷ texts) there =
     let parts = and_parts (list_any (bytes_eq text) all) (list_all (λ t. list_any (bytes_eq t) all) texts) there in
     find_skip (is_none_of all) (record { number = n; text = text }) (numbered (1 + n) texts) (ap not parts.0) ∙ none_stale all (1 + n) texts parts.1
 
--- ---- and nothing is left
+-- ---- no finding is left
 
 texts_back : (n : ℕ) (texts : List (List ℕ)) → map (λ (line : Line). line.text) (numbered n texts) ≡ texts
 texts_back n [] = refl

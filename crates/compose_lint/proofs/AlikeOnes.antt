@@ -1,4 +1,5 @@
--- Texts that are not in normal form C, as one line more is looked at; and that they are those that look like a text in normal form.
+-- The places of texts that are not in normal form C, when a line is added; and that these texts are
+-- those that look like a text in normal form.
 use Rattle.std.proofs.Common.{◌≡◌, ◌∙◌, ℕ, ◌+◌, ◌<◌, List, [], ◌∷◌, ◌++◌, Bool, true, false, not, cond, ◌&&◌, length, take, get_or, refl, sym, ap, ap₂}
 use Rattle.std.specs.Prelude.{Option, Some, None, bytes_eq, is_some}
 use Rattle.std.specs.List.{find}
@@ -18,9 +19,9 @@ use Rattle.compose_lint.specs.declared.finding.Kind.TheVariants.{Alike, Form}
 use Rattle.compose_lint.proofs.PrefixOnes.{map_or, lines_more}
 use Rattle.compose_lint.proofs.Among.{turned}
 
--- ---- more lines
+-- ---- several lines
 
--- of more lines the first ones go first
+-- among several lines, earlier ones go first
 pub form_of_both : (xs ys : List LintLine) (q : List ℕ) → form_place (xs ++ ys) q ≡ option_or (form_place xs q) (form_place ys q)
 form_of_both xs ys q = ap (option_map place_of) (find-append (gives_form q) xs ys) ∙ map_or (find (gives_form q) xs) (find (gives_form q) ys)
 
@@ -43,7 +44,7 @@ file_added files i d q after before within put so_far =
     put ∙ ap (λ o. option_or o (form_place (get_or files i d).lines q)) so_far
     ∙ sym (ap (λ ls. form_place ls q) (lines_more files i d within) ∙ form_of_both (all_lines (take i files)) (get_or files i d).lines q)
 
--- ---- one text more
+-- ---- another text
 
 or_none : (o : Option LinePlace) → o ≡ option_or o None
 or_none None = refl
@@ -57,7 +58,7 @@ is_there : (o other : Option LinePlace) → is_some o ≡ true → o ≡ option_
 is_there None other e = cc
 is_there (Some x) other e = refl
 
--- put where none is
+-- added if the form has no place
 pub put_first : (f : List ℕ → Option LinePlace) (form q : List ℕ) (place : LinePlace) → is_some (f form) ≡ false
     → cond (bytes_eq form q) (Some place) (f q) ≡ option_or (f q) (cond (bytes_eq form q) (Some place) None)
 put_first f form q place none = by (bytes_eq form q) refl
@@ -66,7 +67,7 @@ put_first f form q place none = by (bytes_eq form q) refl
     by true e = sym (ap (λ o. option_or o (Some place)) (is_none (f q) (ap (λ s. is_some (f s)) (sym ((bytes_eq-Decides form q).0 e)) ∙ none)))
     by false e = or_none (f q)
 
--- not put where one is
+-- not added if the form has a place
 pub kept_first : (f : List ℕ → Option LinePlace) (form q : List ℕ) (place : LinePlace) → is_some (f form) ≡ true
     → f q ≡ option_or (f q) (cond (bytes_eq form q) (Some place) None)
 kept_first f form q place there = by (bytes_eq form q) refl
@@ -87,7 +88,7 @@ normal_given l d q old given normal =
     ∙ sym (ap (λ (o : Option Definition). option_or old (option_map place_of (cond (option_map_or (λ d. not (is_normal d.text) && bytes_eq (normal_form d.text) q) o false) (Some l) None))) given
     ∙ ap (λ b. option_or old (option_map place_of (cond (not b && bytes_eq (normal_form d.text) q) (Some l) None))) normal)
 
--- another line has its own
+-- another line has the place of its own form
 pub form_given : (l : LintLine) (d : Definition) (q form : List ℕ) (old : Option LinePlace) → l.definition ≡ Some d → is_normal d.text ≡ false → form ≡ normal_form d.text
     → option_or old (cond (bytes_eq form q) (Some (place_of l)) None) ≡ option_or old (form_place (l ∷ []) q)
 form_given l d q form old given other is =
@@ -139,11 +140,12 @@ module _ (text : List ℕ) (normal : is_normal text ≡ true) where
   same_find [] = refl
   same_find (l ∷ lines) = ap₂ (λ b o. cond b (Some l) o) (same_line l) (same_find lines)
 
-  -- the texts that are not normal and have this normal form are those that look like it
+  -- the texts that are not in normal form C and have this one as their normal form are those that
+  -- look like it
   pub same_place : (lines : List LintLine) → form_place lines text ≡ alike_place lines text
   same_place lines = ap (option_map place_of) (same_find lines)
 
--- what is found of the form of a text, by the places of normal forms
+-- the findings about the form of a text, by the places of normal forms
 pub form_said : (all : List LintLine) (text : List ℕ) → form_of all text ≡ cond (is_normal text) (option_map_or (λ place. Alike place ∷ []) (form_place all text) []) (Form ∷ [])
 form_said all text = by (is_normal text) refl
   where

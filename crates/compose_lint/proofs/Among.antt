@@ -1,4 +1,4 @@
--- Texts that are looked up among others, and each of them where it stands first.
+-- Looking up texts in a set, and the first occurrence of each text.
 use Rattle.std.proofs.Common.{◌≡◌, ◌∙◌, ℕ, ◌+◌, ◌<◌, Bool, true, false, not, cond, List, [], ◌∷◌, ◌++◌, length, take, map, filter, get_or, refl, sym, ap}
 use Rattle.std.specs.Prelude.{◌||◌, Option, Some, is_some, bytes_eq}
 use Rattle.std.specs.List.{find, list_any, list_all}
@@ -11,7 +11,7 @@ use Rattle.compose_diff.specs.Accepted.{Line}
 use Rattle.compose_lint.specs.Rows.{Row}
 use Rattle.compose_lint.specs.Accepted.{distinct, as_line, as_lines, is_accepted, unless}
 
--- ---- the order of a comparison
+-- ---- the order of the compared texts
 
 pub turned : (x y : List ℕ) → bytes_eq x y ≡ bytes_eq y x
 turned x y = by (bytes_eq x y) (bytes_eq y x) refl refl
@@ -25,7 +25,7 @@ turned x y = by (bytes_eq x y) (bytes_eq y x) refl refl
 pub same : (x : List ℕ) → bytes_eq x x ≡ true
 same x = (bytes_eq-Decides x x).1 refl
 
--- ---- one text more
+-- ---- another text
 
 pub last_more : {X Y : Type 0} (f : X → Y) (xs : List X) (i : ℕ) (x : X) → i < length xs → x ≡ get_or xs i x → map f (take (i + 1) xs) ≡ map f (take i xs) ++ f x ∷ []
 last_more f xs i x within is = ap (map f) (take_more xs i x within ∙ ap (λ y. take i xs ++ y ∷ []) (sym is)) ∙ map-append f (take i xs) (x ∷ [])
@@ -35,7 +35,7 @@ none true t e = refl
 none false true e = sym e
 none false false e = refl
 
--- put in its place, it is there
+-- a text that is inserted is in the set
 pub one_more : {X V : Type 0} (f : X → List ℕ) (xs : List X) (i : ℕ) (x : X) (q key : List ℕ) (v : V) (old : Option V) → i < length xs → x ≡ get_or xs i x → key ≡ f x
     → is_some old ≡ list_any (bytes_eq q) (map f (take i xs)) → is_some (cond (bytes_eq key q) (Some v) old) ≡ list_any (bytes_eq q) (map f (take (i + 1) xs))
 one_more f xs i x q key v old within is put before =
@@ -49,7 +49,7 @@ one_more f xs i x q key v old within is put before =
     by true e = sym (or_right (list_any (bytes_eq q) (map f (take i xs))) (bytes_eq q (f x) || false) (or_left (bytes_eq q (f x)) false (at ∙ e)))
     by false e = before ∙ none (list_any (bytes_eq q) (map f (take i xs))) (bytes_eq q (f x)) (at ∙ e)
 
--- ---- each text where it stands first
+-- ---- first occurrences
 
 filter_more : (p : List ℕ → Bool) (zs : List (List ℕ)) (z : List ℕ) → p z ≡ false → filter p (zs ++ z ∷ []) ≡ filter p zs
 filter_more p [] z e = rw e refl
@@ -67,7 +67,7 @@ filter_most p (w ∷ zs) z e = at (p w) (filter_most p zs z e)
     at true h = ap (λ r. w ∷ r) h
     at false h = h
 
--- one text more at the end: it is added where it is none of those before
+-- a text at the end is added if it is none of those before
 distinct_more : (xs : List (List ℕ)) (x : List ℕ) → distinct (xs ++ x ∷ []) ≡ cond (list_any (bytes_eq x) xs) (distinct xs) (distinct xs ++ x ∷ [])
 distinct_more [] x = refl
 distinct_more (y ∷ ys) x = ap (λ zs. y ∷ filter (λ z. not (bytes_eq z y)) zs) (distinct_more ys x) ∙ by (list_any (bytes_eq x) ys) (bytes_eq x y) refl
@@ -83,7 +83,7 @@ pub distinct_next : {X : Type 0} (f : X → List ℕ) (xs : List X) (i : ℕ) (x
     → distinct (map f (take (i + 1) xs)) ≡ cond (list_any (bytes_eq (f x)) (map f (take i xs))) (distinct (map f (take i xs))) (distinct (map f (take i xs)) ++ f x ∷ [])
 distinct_next f xs i x within is = ap distinct (last_more f xs i x within is) ∙ distinct_more (map f (take i xs)) (f x)
 
--- ---- what holds of all of them, and what is among them
+-- ---- properties of all texts, and members
 
 filter_all : {X : Type 0} (p q : X → Bool) (xs : List X) → list_all p xs ≡ true → list_all p (filter q xs) ≡ true
 filter_all p q [] all = refl
@@ -93,7 +93,7 @@ filter_all p q (x ∷ xs) all = let parts = and_parts (p x) (list_all p xs) all 
     at true here rest = and_from _ _ here rest
     at false here rest = rest
 
--- what holds of each text holds of those
+-- a property of all texts is one of their first occurrences
 pub distinct_all : (p : List ℕ → Bool) (xs : List (List ℕ)) → list_all p xs ≡ true → list_all p (distinct xs) ≡ true
 distinct_all p [] all = refl
 distinct_all p (x ∷ xs) all = let parts = and_parts (p x) (list_all p xs) all in and_from _ _ parts.0 (filter_all p (λ z. not (bytes_eq z x)) (distinct xs) (distinct_all p xs parts.1))
@@ -101,7 +101,7 @@ distinct_all p (x ∷ xs) all = let parts = and_parts (p x) (list_all p xs) all 
 clash : false ≡ true → ⊥
 clash h = cc
 
--- what is equal to no text that is left out stays
+-- a text that differs from the removed ones stays
 kept : (q x : List ℕ) (zs : List (List ℕ)) → bytes_eq q x ≡ false → list_any (bytes_eq q) zs ≡ true → list_any (bytes_eq q) (filter (λ z. not (bytes_eq z x)) zs) ≡ true
 kept q x [] other there = absurd (clash there)
 kept q x (z ∷ zs) other there = by (bytes_eq q z) (bytes_eq z x) refl refl there (λ h. kept q x zs other h)
@@ -114,7 +114,7 @@ kept q x (z ∷ zs) other there = by (bytes_eq q z) (bytes_eq z x) refl refl the
     by false true d e h rest = rest h
     by false false d e h rest = or_right (bytes_eq q z) _ (rest h)
 
--- a text is among those if it is among all
+-- a text is among the first occurrences if it is among all texts
 pub among_distinct : (q : List ℕ) (xs : List (List ℕ)) → list_any (bytes_eq q) xs ≡ true → list_any (bytes_eq q) (distinct xs) ≡ true
 among_distinct q [] there = there
 among_distinct q (x ∷ xs) there = by (bytes_eq q x) refl there (λ h. among_distinct q xs h)
@@ -128,13 +128,13 @@ weaker : {X : Type 0} (p q : X → Bool) (xs : List X) → ((x : X) → p x ≡ 
 weaker p q [] each all = refl
 weaker p q (x ∷ xs) each all = let parts = and_parts (p x) (list_all p xs) all in and_from _ _ (each x parts.0) (weaker p q xs each parts.1)
 
--- each text is among all
+-- each text is among all texts
 pub all_among : (xs : List (List ℕ)) → list_all (λ x. list_any (bytes_eq x) xs) xs ≡ true
 all_among [] = refl
 all_among (x ∷ xs) =
     and_from _ _ (or_left (bytes_eq x x) _ (same x)) (weaker (λ y. list_any (bytes_eq y) xs) (λ y. list_any (bytes_eq y) (x ∷ xs)) xs (λ y h. or_right (bytes_eq y x) _ h) (all_among xs))
 
--- ---- lines of those
+-- ---- lines of the first occurrences
 
 as_lines_more : (xs : List (List ℕ)) (x : List ℕ) → as_lines (xs ++ x ∷ []) ≡ as_lines xs ++ as_line x
 as_lines_more xs x = flat_map-append as_line xs (x ∷ []) ∙ ap (λ ys. as_lines xs ++ ys) (append_nothing (as_line x))
@@ -143,7 +143,7 @@ as_lines_more xs x = flat_map-append as_line xs (x ∷ []) ∙ ap (λ ys. as_lin
     append_nothing [] = refl
     append_nothing (y ∷ ys) = ap (λ zs. y ∷ zs) (append_nothing ys)
 
--- a text that is new is a line more
+-- a new text adds a line
 pub line_more : {X : Type 0} (f : X → List ℕ) (xs : List X) (i : ℕ) (x : X) (key lines next : List ℕ) (has : Bool) → i < length xs → x ≡ get_or xs i x → key ≡ f x
     → has ≡ list_any (bytes_eq key) (map f (take i xs)) → has ≡ false → lines ≡ as_lines (distinct (map f (take i xs))) → next ≡ lines ++ as_line (f x)
     → next ≡ as_lines (distinct (map f (take (i + 1) xs)))
@@ -152,7 +152,7 @@ line_more f xs i x key lines next has within is put there absent before more =
     ∙ sym (ap as_lines (distinct_next f xs i x within is
     ∙ ap (λ b. cond b (distinct (map f (take i xs))) (distinct (map f (take i xs)) ++ f x ∷ [])) (ap (λ k. list_any (bytes_eq k) (map f (take i xs))) (sym put) ∙ sym there ∙ absent)))
 
--- one that is not is none
+-- a text that is not new adds none
 pub line_same : {X : Type 0} (f : X → List ℕ) (xs : List X) (i : ℕ) (x : X) (key lines : List ℕ) (has : Bool) → i < length xs → x ≡ get_or xs i x → key ≡ f x
     → has ≡ list_any (bytes_eq key) (map f (take i xs)) → has ≡ true → lines ≡ as_lines (distinct (map f (take i xs)))
     → lines ≡ as_lines (distinct (map f (take (i + 1) xs)))
@@ -161,13 +161,13 @@ line_same f xs i x key lines has within is put there present before =
     ∙ sym (ap as_lines (distinct_next f xs i x within is
     ∙ ap (λ b. cond b (distinct (map f (take i xs))) (distinct (map f (take i xs)) ++ f x ∷ [])) (ap (λ k. list_any (bytes_eq k) (map f (take i xs))) (sym put) ∙ sym there ∙ present)))
 
--- ---- the first that passes
+-- ---- the first element that passes a test
 
 pub find_same : {X : Type 0} (p q : X → Bool) (xs : List X) → ((x : X) → p x ≡ q x) → find p xs ≡ find q xs
 find_same p q [] each = refl
 find_same p q (x ∷ xs) each = ap (λ b. cond b (Some x) (find p xs)) (each x) ∙ ap (λ o. cond (q x) (Some x) o) (find_same p q xs each)
 
--- ---- what is left
+-- ---- the findings that are left
 
 at_last : (t : Bool) (row : Row) → cond (not t) (row ∷ []) [] ≡ unless t row
 at_last true row = refl
@@ -182,7 +182,7 @@ at_end lines row [] = at_last (is_accepted lines row) row
 at_end lines row (r ∷ rs) =
     one_before (is_accepted lines r) r (filter (λ q. not (is_accepted lines q)) (rs ++ row ∷ [])) (filter (λ q. not (is_accepted lines q)) rs) (unless (is_accepted lines row) row) (at_end lines row rs)
 
--- one finding more
+-- one more finding
 pub filter_next : (lines : List Line) (rows : List Row) (i : ℕ) (row : Row) → i < length rows → row ≡ get_or rows i row
     → filter (λ r. not (is_accepted lines r)) (take (i + 1) rows) ≡ filter (λ r. not (is_accepted lines r)) (take i rows) ++ unless (is_accepted lines row) row
 filter_next lines rows i row within is =

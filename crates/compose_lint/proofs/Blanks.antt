@@ -1,4 +1,4 @@
--- A blank at the end of a line says nothing in a list.
+-- A blank at the end of a line in a list is ignored.
 use Rattle.std.proofs.Common.{◌≡◌, ◌∙◌, ℕ, suc, ◌+◌, ◌-◌, Bool, true, false, cond, List, [], ◌∷◌, ◌++◌, length, take, drop, reverse, refl, sym, ap, ap₂, arith}
 use Rattle.std.specs.List.{prefix_len, suffix_len}
 use Rattle.std.specs.Str.Lossy.{utf8_lossy}
@@ -9,7 +9,7 @@ use Rattle.compose_lint.specs.Accepted.{without_last_blanks, without_blanks, lis
 one_more : (p : ℕ → Bool) (x : ℕ) (xs : List ℕ) → p x ≡ true → prefix_len p (x ∷ xs) ≡ 1 + prefix_len p xs
 one_more p x xs e = rw e refl
 
--- behind it one more blank ends the line
+-- adding a blank to the blanks at the end
 last_more : (line : List ℕ) (b : ℕ) → is_blank b ≡ true → without_last_blanks (line ++ b ∷ []) ≡ without_last_blanks line
 last_more line b blank =
     let count : suffix_len is_blank (line ++ b ∷ []) ≡ 1 + suffix_len is_blank line = ap (prefix_len is_blank) (reverse-append line (b ∷ [])) ∙ one_more is_blank b (reverse line) blank in
@@ -18,7 +18,7 @@ last_more line b blank =
     ∙ ap (λ n. take n (line ++ b ∷ [])) (omega arith)
     ∙ take-append-le (length line - suffix_len is_blank line) line (b ∷ []) (omega arith)
 
--- past the first
+-- after the first byte
 step : (n x : ℕ) (line : List ℕ) → drop (1 + n) (x ∷ line) ≡ drop n line
 step n x line = let next : 1 + n ≡ suc n = omega arith in ap (λ k. drop k (x ∷ line)) next
 
@@ -35,6 +35,6 @@ same_blanks : (line : List ℕ) (b : ℕ) → is_blank b ≡ true → without_bl
 same_blanks [] b blank = ap (λ t. without_last_blanks (drop (cond t 1 0) (b ∷ []))) blank
 same_blanks (x ∷ line) b blank = first_of (is_blank x) x b line refl blank (same_blanks line b blank)
 
--- the line of a list is the same
+-- the line of the list is the same
 pub blank_at_end : (line : List ℕ) (b : ℕ) → is_blank b ≡ true → listed_line (line ++ b ∷ []) ≡ listed_line line
 blank_at_end line b blank = ap (λ (bytes : List ℕ). listed_characters (utf8_lossy bytes)) (same_blanks line b blank)

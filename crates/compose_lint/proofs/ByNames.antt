@@ -1,4 +1,4 @@
--- What is answered by the names of the header.
+-- The answer by the names of the header.
 use Rattle.std.proofs.Common.{◌≡◌}
 use Rattle.std.specs.Prelude.{Result, Ok, Err, IfOk}
 use Rattle.keysym_core.specs.Names.{KeysymNames}
@@ -22,7 +22,7 @@ by_names asked names (Err (Input (Certificate fault))) read by = absurd by
 by_names asked names (Err (Input (Fresh fault))) read by = absurd by
 by_names asked names (Err (Input TooManyFresh)) read by = absurd by
 
--- another fact of a value, where there is one
+-- another property of the value, if there is one
 pub ok_map : {X E : Type 0} (P Q : X → Type 0) (r : Result X E) → ((x : X) → P x → Q x) → IfOk r P → IfOk r Q
 ok_map P Q (Ok x) f h = f x h
 ok_map P Q (Err e) f h = tt

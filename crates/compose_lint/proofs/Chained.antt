@@ -1,4 +1,4 @@
--- Texts that are added one after another.
+-- Texts that are appended one after another.
 use Rattle.std.proofs.Common.{◌≡◌, ◌∙◌, ℕ, List, ◌++◌, ap}
 use Rattle.std.specs.Prelude.{Result, Ok, Err, OnOk}
 use Rattle.std.proofs.lemmas.List.{append_assoc}
@@ -8,7 +8,7 @@ four a b c d e v w x y first second third fourth =
     fourth ∙ ap (λ t. t ++ y) (third ∙ ap (λ t. t ++ x) (second ∙ ap (λ t. t ++ w) first))
     ∙ append_assoc ((a ++ v) ++ w) x y ∙ append_assoc (a ++ v) w (x ++ y) ∙ append_assoc a v (w ++ (x ++ y))
 
--- another fact, where there is a value
+-- another property, if there is a value
 pub on_map : {X E : Type 0} (P Q : Type 0) (r : Result X E) → (P → Q) → OnOk r P → OnOk r Q
 on_map P Q (Ok x) f h = f h
 on_map P Q (Err e) f h = tt

@@ -1,4 +1,4 @@
--- The definition that a line gives, by what it writes.
+-- The definition on a line, by the production on it.
 use Rattle.std.proofs.Common.{◌≡◌, ◌+◌, ℕ, List, [], ◌∷◌, Bool, true, false, cond, refl, ◌∙◌, ap, ap₂, length}
 use Rattle.std.specs.Prelude.{Option, Some, None, Result, Ok, Err, not, nat_lt, unwrap_or}
 use Rattle.std.specs.Option.{option_map, option_and_then, option_map_or}
@@ -25,7 +25,7 @@ module _ (names : KeysymNames) (sources : List Source) (v : Visit) where
   one_more k (Ok s) o e = ap (option_map (λ s. k ∷ s)) e
   one_more k (Err f) o e = ap (option_map (λ s. k ∷ s)) e
 
-  -- of one key and the keysyms of the others
+  -- those of one key and the keysyms of the others
   step_if : (i k : ℕ) (rest : Result (List ℕ) ReadFault) (o : Option (List ℕ)) → result_ok rest ≡ o → (b : Bool)
       → result_ok ((let x : Result ℕ ReadFault = cond b (Err (IgnoredKeysym v.source v.line i)) (Ok k) in x) >>= (λ k. rest >>= (λ s. let x : Result (List ℕ) ReadFault = Ok (k ∷ s) in x)))
       ≡ option_and_then (λ k. option_map (λ s. k ∷ s) o) (cond b None (Some k))
@@ -95,7 +95,7 @@ module _ (names : KeysymNames) (sources : List Source) (v : Visit) where
   reading_is (Ok (include name)) = include_is (not (nat_lt (source_named sources name) (length sources))) (nat_lt v.depth max_depth)
   reading_is (Ok (production events raw name)) = production_is events raw name
 
-  -- the definition that a line gives is that of the production that it writes
+  -- the definition on a line is that of its production
   pub given_is : definition_in (line_gives names sources v) ≡ option_and_then (definition_given names) (production_of v.bytes)
   given_is = by (is_utf8 v.bytes)
     where

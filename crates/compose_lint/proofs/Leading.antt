@@ -1,4 +1,4 @@
--- The value that stands most often beside a key.
+-- The value that occurs most often with a key.
 use Rattle.std.proofs.Common.{◌≡◌, ◌∙◌, ℕ, ◌+◌, ◌<◌, ◌≤◌, ◌≢◌, Bool, true, false, not, cond, ◌&&◌, ◌||◌, List, [], ◌∷◌, ◌++◌, length, take, get_or, refl, sym, ap, ap₂, subst, inl, inr, arith}
 use Rattle.std.specs.Prelude.{Option, Some, None, unwrap_or, bytes_eq, nat_lt, nat_le, ◌==◌}
 use Rattle.std.specs.List.{list_any}
@@ -20,7 +20,7 @@ alike x = (bytes_eq-Decides x x).1 refl
 abbrev pub is_pair : List ℕ → List ℕ → Note → Bool
 is_pair k v m = bytes_eq m.key k && bytes_eq m.value v
 
--- a pair more
+-- another pair
 pub counted : (notes : List Note) (i : ℕ) (x : Note) (k v : List ℕ) (n : ℕ) (old : Option ℕ) → i < length notes → x ≡ get_or notes i x
     → n ≡ times (take i notes) x.key x.value → unwrap_or old 0 ≡ times (take i notes) k v
     → unwrap_or (cond (is_pair k v x) (Some (n + 1)) old) 0 ≡ times (take (i + 1) notes) k v
@@ -32,7 +32,7 @@ counted notes i x k v n old within is here before = by (is_pair k v x) refl
         ap (λ m. m + 1) (here ∙ ap₂ (times (take i notes)) (same _ _ h.0) (same _ _ h.1)) ∙ sym (count_by_more_yes (is_pair k v) notes i x within (ap (is_pair k v) (sym is) ∙ e))
     by false e = before ∙ sym (count_by_more_no (is_pair k v) notes i x within (ap (is_pair k v) (sym is) ∙ e))
 
--- ---- the leading value, as one note more is looked at
+-- ---- the leading value, when a note is added
 
 module _ (f : List ℕ → ℕ) (k : List ℕ) where
   abbrev is_key : Note → Bool
@@ -55,7 +55,7 @@ module _ (f : List ℕ → ℕ) (k : List ℕ) where
   or_false true = refl
   or_false false = refl
 
-  -- the first value beside the key
+  -- the first value with the key
   first_leads : (ys : List Note) (x : Note) → list_any is_key ys ≡ false → is_key x ≡ true → Leads f k (ys ++ x ∷ []) (record { value = x.value; count = f x.value; is_tied = false })
   first_leads ys x none is =
       let v = x.value in let others = all_none is_key ys none in record {
@@ -68,7 +68,7 @@ module _ (f : List ℕ → ℕ) (k : List ℕ) where
             (let h : is_as_often v (f v) x ≡ false = ap (λ b. is_key x && (not b && f v == f v)) (alike v) ∙ ap (λ b. b && false) is in h));
       }
 
-  -- one that stands more often
+  -- a value that occurs more often
   next_leads : (ys : List Note) (x : Note) (l : Leading) → Leads f k ys l → is_key x ≡ true → l.count < f x.value → Leads f k (ys ++ x ∷ []) (record { value = x.value; count = f x.value; is_tied = false })
   next_leads ys x l led is more =
       let v = x.value in record {
@@ -90,7 +90,7 @@ module _ (f : List ℕ → ℕ) (k : List ℕ) where
             (let h : is_as_often v (f v) x ≡ false = ap (λ b. is_key x && (not b && f v == f v)) (alike v) ∙ ap (λ b. b && false) is in h));
       }
 
-  -- one that doesn't
+  -- a value that doesn't
   still_leads : (ys : List Note) (x : Note) (l : Leading) → Leads f k ys l → is_key x ≡ true → f x.value ≤ l.count
       → Leads f k (ys ++ x ∷ []) (record { value = l.value; count = l.count; is_tied = l.is_tied || (not (bytes_eq x.value l.value) && f x.value == l.count) })
   still_leads ys x l led is less = record {
@@ -122,7 +122,7 @@ module _ (f : List ℕ → ℕ) (k : List ℕ) where
     tied = led.tied ∙ sym (any_more (is_as_often l.value l.count) ys x ∙ ap (λ b. list_any (is_as_often l.value l.count) ys || b) (and_left (is_key x) _ not_it) ∙ or_false _);
   }
 
--- a note more, whose key has the next leading value
+-- another note, whose key has the next leading value
 pub led_more : (notes : List Note) (i : ℕ) (x : Note) (k : List ℕ) (leader : Leading) (after old : Option Leading) → i < length notes → x ≡ get_or notes i x
     → after ≡ cond (bytes_eq x.key k) (Some leader) old → (bytes_eq x.key k ≡ true → leader ≡ next_leading old x.value (times notes k x.value))
     → IsLed (times notes k) k (take i notes) old → IsLed (times notes k) k (take (i + 1) notes) after
@@ -134,7 +134,7 @@ led_more notes i x k leader after old within is put leads before =
     by true e = subst (λ l. IsLed (times notes k) k (take i notes ++ x ∷ []) (Some l)) (sym (leads e)) (same_key (times notes k) k (take i notes) x old e before)
     by false e = other_key (times notes k) k (take i notes) x old e before
 
--- ---- what the leading value says of the others
+-- ---- the leading value and the other values
 
 module _ (notes : List Note) (k : List ℕ) where
   abbrev f : List ℕ → ℕ
@@ -179,7 +179,7 @@ module _ (notes : List Note) (k : List ℕ) where
             ]
           ]))
 
-  -- the leading one is the commonest, where it is not tied
+  -- the leading one is the commonest if it is not tied
   commonest_if : (l : Leading) → Leads f k notes l → l.is_tied ≡ false → is_commonest notes k l.value ≡ true
   commonest_if l led untied =
       all_from (λ (n : Note). is_at_most f k l.count n && not (is_as_often f k l.value l.count n))

@@ -1,4 +1,4 @@
--- What a list leaves, or why it is refused.
+-- The findings that a list leaves, or why the list is refused.
 use Rattle.std.proofs.Common.{◌≡◌, ℕ, List, filter, not}
 use Rattle.std.specs.Prelude.{Result, Ok, Err, Option, Some, None}
 use Rattle.std.specs.List.{find}
@@ -22,25 +22,25 @@ form_read lines rows n is = by (find (is_stale rows) lines) is
     by None h = cc
     by (Some line) h = cc
 
--- once the list is read
+-- after the list is read
 pub left_once : (bytes : List ℕ) (lines : List Line) (rows : List Row) (left : Result (Vec Row Global) AcceptFault) → accepted_of bytes ≡ Ok lines → Leaves left (left_of lines rows) → IsLeftBy bytes rows left
 left_once bytes lines rows (Ok left) read is = (lines, read, is)
 left_once bytes lines rows (Err (Stale n)) read is = (lines, read, is)
 left_once bytes lines rows (Err (BadLine n)) read is = absurd (form_read lines rows n is)
 left_once bytes lines rows (Err NoMemory) read is = tt
 
--- a list whose form is found right has no stale line yet
+-- a list whose form is valid has no stale line yet
 no_stale : (lines : List Line) (o : Option Line) (n : ℕ) → option_map_or (λ (line : Line). Err (BadLine line.number)) o (Ok lines) ≡ Err (Stale n) → ⊥
 no_stale lines None n h = cc
 no_stale lines (Some line) n h = cc
 
--- where it is refused
+-- if it is refused
 pub read_refused : (bytes : List ℕ) (rows : List Row) (fault : AcceptFault) → Gives (Err fault) (accepted_of bytes) → IsLeftBy bytes rows (Err fault)
 read_refused bytes rows (Stale n) is = absurd (no_stale (said_from 1 (lines_of bytes)) (find (λ line. not (is_in_form line)) (said_from 1 (lines_of bytes))) n is)
 read_refused bytes rows (BadLine n) is = is
 read_refused bytes rows NoMemory is = tt
 
--- what is answered where it is refused
+-- the answer if it is refused
 pub refused_on : (asked : Asked) (rows : List Row) (fault : AcceptFault) → IsLeftBy asked.accepted rows (Err fault) → AnswersOn asked rows (Err (accept_raised fault))
 refused_on asked rows (Stale n) is = record { lines = is.0; read = is.1; stale = is.2 }
 refused_on asked rows (BadLine n) is = is

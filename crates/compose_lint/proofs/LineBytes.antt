@@ -1,4 +1,4 @@
--- The bytes of a line are those that the lines of its file have.
+-- The bytes of a line are those in the lines of its file.
 use Rattle.std.proofs.Common.{◌≡◌, ◌∙◌, ℕ, zero, suc, ◌+◌, ◌-◌, Bool, List, [], ◌∷◌, map, refl, sym, ap, get_or, arith}
 use Rattle.std.specs.Prelude.{Option, Some, None, slice_get}
 use Rattle.std.specs.Option.{option_map, option_map_or}
@@ -35,7 +35,7 @@ absent [] i none = refl
 absent (x ∷ xs) zero none = cc
 absent (x ∷ xs) (suc i) none = absent xs i none
 
--- the bytes of the line in which a finding stands
+-- the bytes of the line of a finding
 pub same_bytes : (names : KeysymNames) (sources : List Source) (is_all : Bool) (f : Finding) → bytes_in (all_sources names sources is_all) f ≡ line_at sources f.source f.line
 same_bytes names sources is_all f =
     ap (λ o. option_map_or (λ (file : SourceLines). line_bytes (slice_get file.lines (f.line - 1))) o []) (file_at names sources is_all 0 sources f.source f.source (omega arith))
@@ -46,7 +46,7 @@ same_bytes names sources is_all f =
     by None none = sym (ap (λ (s : Source). get_or (source_lines s.bytes) (f.line - 1) []) (absent sources f.source none))
     by (Some s) some = numbered_at names sources f.source 0 1 (source_lines (get_or sources f.source nothing).bytes) (f.line - 1)
 
--- findings with what their table says of them
+-- findings with the data of their table
 pub same_rows : (names : KeysymNames) (is_all : Bool) (t : Table) (faults : List ReadFault) (found : List Finding) → map (row_in t faults (all_sources names t.sources is_all)) found ≡ map (row_of t faults) found
 same_rows names is_all t faults [] = refl
 same_rows names is_all t faults (f ∷ found) =

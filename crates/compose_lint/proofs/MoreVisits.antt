@@ -1,4 +1,4 @@
--- The lines of other sources among those that are visited, as one line more is.
+-- The lines of other sources among the visited ones, when a line is visited.
 use Rattle.std.proofs.Common.{◌≡◌, ℕ, suc, length, List, [], ◌∷◌, ◌++◌, Bool, true, false, cond, map, take, sym, ◌∙◌, ap, ap₂, append_assoc}
 use Rattle.std.specs.Prelude.{filter, nat_lt, Option, Some, None}
 use Rattle.std.specs.Option.{option_map, option_map_or}
@@ -8,7 +8,7 @@ use Rattle.compose_read.specs.Read.{max_lines}
 use Rattle.std.proofs.lemmas.List.{append-nil}
 
 module _ {X Y : Type 0} (test : X → Bool) (view : X → Y) (found whole : List Y) (left : List X) (n : ℕ) (before : found ++ map view (filter test (take n left)) ≡ whole) where
-  -- where no line is left, or none is to be read
+  -- if no line is left, or no more are to be read
   pub all_found : map view (filter test (take n left)) ≡ [] → found ≡ whole
   all_found h = sym (append-nil found) ∙ ap (λ ys. found ++ ys) (sym h) ∙ before
 
@@ -16,11 +16,12 @@ module _ {X Y : Type 0} (test : X → Bool) (view : X → Y) (found whole : List
     opened : found ++ map view (cond (test v) (v ∷ filter test (take m others)) (filter test (take m others))) ≡ whole
     opened = sym (ap₂ (λ k xs. found ++ map view (filter test (take k xs))) one is) ∙ before
 
-    -- past a line that does not pass, what is found and what is still to come are the whole
+    -- after a line that does not pass, the lines found so far and those still to come are the whole
     pub nothing_more : test v ≡ false → found ++ map view (filter test (take m others)) ≡ whole
     nothing_more h = ap (λ b. found ++ map view (cond b (v ∷ filter test (take m others)) (filter test (take m others)))) (sym h) ∙ opened
 
-    -- past a line that passes and is found, what is found and what is still to come are the whole
+    -- after a line that passes and is added, the lines found so far and those still to come are the
+    -- whole
     pub one_more : test v ≡ true → (after : List Y) → after ≡ found ++ view v ∷ [] → after ++ map view (filter test (take m others)) ≡ whole
     one_more h after pushed =
         ap (λ ys. ys ++ map view (filter test (take m others))) pushed ∙ append_assoc found (view v ∷ []) (map view (filter test (take m others)))

@@ -22,7 +22,7 @@ module _ (names : KeysymNames) (sources : List Source) (source : ℕ) where
       (sym (same_Some (get_or sources source (record { name = []; bytes = [] })).bytes bytes
       (ap (option_map (λ (s : Source). s.bytes)) (sym (slice_get-get_or sources source (record { name = []; bytes = [] }) within)) ∙ is)))
 
-  -- one line further
+  -- one more line
   pub next_line : (line : ℕ) (bytes rest behind : List ℕ) (l : LintLine) (found after whole : List LintLine) → lines_of rest ≡ bytes ∷ lines_of behind
       → l ≡ line_read names source (line + 1) bytes → after ≡ found ++ l ∷ []
       → found ++ map (lint_line names sources) (numbered source 0 (1 + line) (lines_of rest)) ≡ whole

@@ -1,4 +1,4 @@
--- A text is in normal form C just where its bytes are those of its normal form.
+-- A text is in normal form C if and only if its bytes are those of its normal form.
 use Rattle.std.proofs.Common.{◌≡◌, ◌∙◌, ℕ, List, Bool, true, false, encode_utf8_all, refl, sym, ap}
 use Rattle.std.specs.Prelude.{◌↔◌, IsTrue, Result, Ok, Err, IfOk, chars}
 use Rattle.std.specs.Str.{IsUtf8}

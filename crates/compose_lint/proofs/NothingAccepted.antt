@@ -1,4 +1,4 @@
--- Where no line accepts anything, all findings are left.
+-- If no line accepts anything, all findings are left.
 use Rattle.std.proofs.Common.{◌≡◌, List, [], ◌∷◌, not, length, refl, ap}
 use Rattle.std.specs.Prelude.{Ok, filter}
 use Rattle.compose_diff.specs.Accepted.{Line}

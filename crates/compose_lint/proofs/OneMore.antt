@@ -2,7 +2,7 @@
 use Rattle.std.proofs.Common.{◌≡◌, ◌∙◌, ℕ, suc, ◌+◌, ◌<◌, List, ◌∷◌, ◌++◌, length, drop, get_or, drop-cons, sym, ap, append_assoc, arith}
 use Rattle.std.specs.Prelude.{flat_map}
 
--- one part further
+-- one more part
 pub one_more : {X Y : Type 0} (F : X → List Y) (xs : List X) (i : ℕ) (d : X) (found after whole : List Y) → i < length xs → after ≡ found ++ F (get_or xs i d)
     → found ++ flat_map F (drop i xs) ≡ whole → after ++ flat_map F (drop (i + 1) xs) ≡ whole
 one_more F xs i d found after whole within added before =

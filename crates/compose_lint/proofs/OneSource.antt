@@ -17,7 +17,7 @@ module _ (names : KeysymNames) (sources : List Source) (is_all : Bool) (i : ℕ)
   at : drop i sources ≡ here ∷ drop (i + 1) sources
   at = let one : suc i ≡ i + 1 = omega arith in drop-cons sources i no_source within ∙ ap (λ n. here ∷ drop n sources) one
 
-  -- one source further
+  -- one more source
   pub one_source : (bytes : List ℕ) (lines included : List LintLine) (found after whole : List SourceLines) → option_map (λ (s : Source). s.bytes) (slice_get sources i) ≡ Some bytes
       → lines ≡ lines_in names sources i → included ≡ cond is_all (included_lines names sources i) []
       → after ≡ found ++ record { bytes = bytes; lines = lines; included = included } ∷ []

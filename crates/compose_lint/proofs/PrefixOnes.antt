@@ -1,4 +1,4 @@
--- Longer sequences, as one line more is looked at, and one prefix more of its sequence.
+-- Longer sequences, when a line is added, and when a prefix of its sequence is added.
 use Rattle.std.proofs.Common.{◌≡◌, ◌∙◌, ℕ, suc, zero, ◌+◌, ◌<◌, List, [], ◌∷◌, ◌++◌, Bool, true, false, cond, ◌&&◌, ◌||◌, length, take, get_or, reverse, refl, sym, ap, arith}
 use Rattle.std.specs.Prelude.{Option, Some, None, bytes_eq, ◌==◌}
 use Rattle.std.specs.List.{find}
@@ -11,7 +11,7 @@ use Rattle.compose_lint.specs.Lines.{LintLine, SourceLines, all_lines}
 use Rattle.compose_lint.specs.Longer.{extends, place_of, longer_place}
 use Rattle.compose_lint.specs.declared.finding.LinePlace.{LinePlace}
 
--- ---- one prefix more
+-- ---- another prefix
 
 same_eq : (j k : ℕ) → (j == k) ≡ (k == j)
 same_eq j k = grind arith
@@ -45,20 +45,20 @@ put_more t q n place old within =
     by true b = refl
     by false b = refl
 
--- ---- more lines
+-- ---- several lines
 
 pub map_or : (a b : Option LintLine) → option_map place_of (option_or a b) ≡ option_or (option_map place_of a) (option_map place_of b)
 map_or None b = refl
 map_or (Some a) b = refl
 
--- of more lines the last ones go first
+-- among several lines, later ones go first
 pub longer_of_both : (xs ys : List LintLine) (s : List ℕ) → longer_place (xs ++ ys) s ≡ option_or (longer_place ys s) (longer_place xs s)
 longer_of_both xs ys s =
     ap (λ ls. option_map place_of (find (extends s) ls)) (reverse-append xs ys)
     ∙ ap (option_map place_of) (find-append (extends s) (reverse ys) (reverse xs))
     ∙ map_or (find (extends s) (reverse ys)) (find (extends s) (reverse xs))
 
--- ---- one file more
+-- ---- another file
 
 pub lines_more : (files : List SourceLines) (i : ℕ) (d : SourceLines) → i < length files → all_lines (take (i + 1) files) ≡ all_lines (take i files) ++ (get_or files i d).lines
 lines_more files i d within =

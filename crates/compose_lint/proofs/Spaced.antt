@@ -1,4 +1,4 @@
--- Blanks beside the names of keys, looked for byte by byte; and a line without a carriage return.
+-- Blanks next to key names, searched byte by byte; and a line without a carriage return.
 use Rattle.std.proofs.Common.{◌≡◌, ◌∙◌, ℕ, zero, suc, ◌+◌, ◌≤◌, List, [], ◌∷◌, Bool, true, false, cond, not, ◌&&◌, ◌||◌, length, take, drop, refl, sym, ap, ap₂, arith}
 use Rattle.std.specs.Prelude.{Option, Some, None, nat_lt, ◌==◌, is_some, take_while, unwrap_or}
 use Rattle.std.specs.List.{list_any, zip, prefix_len}
@@ -9,7 +9,7 @@ use Rattle.memchr.specs.Find.{Nowhere, Passes, is_byte}
 use Rattle.compose_lint.specs.Productions.{Written}
 use Rattle.compose_lint.specs.FileLines.{begins_string_or_comment, head_len, is_spaced, has_spaced_name, has_spaced_name_after, has_return, has_return_in_include, tail}
 
--- ---- what comes before the string or the comment
+-- ---- the bytes before the string or the comment
 
 abbrev is_head : ℕ → Bool
 is_head b = not (begins_string_or_comment b)
@@ -41,7 +41,7 @@ head_past b line e = head_is (b ∷ line) ∙ past b line (ap not e) ∙ ap suc 
 head_here : (b : ℕ) (line : List ℕ) → begins_string_or_comment b ≡ true → head_len (b ∷ line) ≡ 0
 head_here b line e = head_is (b ∷ line) ∙ here b line (ap not e)
 
--- ---- blanks beside names
+-- ---- blanks next to names
 
 abbrev pairs : ℕ → List ℕ → Bool
 pairs before head = list_any is_spaced (zip (before ∷ head) head)
@@ -107,7 +107,7 @@ none_behind line (Some raw) none =
 pub no_return : (line : List ℕ) (p : Written) → Nowhere (Passes (is_byte 13) line) 0 (length line) → has_return line p ≡ false
 no_return line p h = let none = none_there line h in ap₂ (λ s t. s || t) (any_first (head_len line) line none) (none_behind line p.raw none)
 
--- nor before the string of an include
+-- and none before the string of an include
 pub no_return_in_include : (line : List ℕ) → Nowhere (Passes (is_byte 13) line) 0 (length line) → has_return_in_include line ≡ false
 no_return_in_include line h = ap (λ t. is_some (raw_include line) && t) (any_first (head_len line) line (none_there line h)) ∙ by (is_some (raw_include line))
   where

@@ -1,11 +1,11 @@
--- Tests of all elements of a list and of any.
+-- Whether all elements of a list, or some element, pass a test.
 use Rattle.std.proofs.Common.{◌≡◌, ◌∙◌, Bool, true, false, not, ◌&&◌, ◌||◌, List, [], ◌∷◌, ◌++◌, refl, sym, ap, inl, inr}
 use Rattle.std.specs.List.{list_any, list_all}
 use Rattle.std.proofs.lemmas.Bool.{and_parts, and_from, or_cases, or_parts, or_from, or_left, or_right}
 use Rattle.std.proofs.lemmas.List.Folds.{list_any-append, list_all-append}
 
 module _ {X : Type 0} where
-  -- one element more
+  -- another element
   pub any_more : (p : X → Bool) (xs : List X) (x : X) → list_any p (xs ++ x ∷ []) ≡ (list_any p xs || p x)
   any_more p xs x = list_any-append p xs (x ∷ []) ∙ ap (λ b. list_any p xs || b) (by (p x))
     where
@@ -20,7 +20,7 @@ module _ {X : Type 0} where
       by true = refl
       by false = refl
 
-  -- where all pass one test and one passes another, one passes both
+  -- if all pass one test and one passes another, one passes both
   pub one_of_all : (p q : X → Bool) (xs : List X) → list_all p xs ≡ true → list_any q xs ≡ true → (x : X) × (p x ≡ true) × (q x ≡ true)
   one_of_all p q [] all any = absurd (let t : true ≡ false = sym any in cc)
   one_of_all p q (x ∷ xs) all any = elim (or_cases (q x) (list_any q xs) any) [

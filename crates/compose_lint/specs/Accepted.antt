@@ -1,4 +1,4 @@
--- Findings that are accepted: lines of a kind and the line in which it is found (this project's profile).
+-- Accepted findings: lines of a kind and the line of the finding (this project's format).
 use Rattle.std.specs.Prelude.{◌≡◌, ℕ, ◌-◌, Bool, true, false, not, ◌==◌, ◌||◌, if◌then◌else◌, List, [], ◌∷◌, ◌++◌, length, take, drop, map, filter, flat_map, Result, Ok, Err, bytes_eq, codes}
 use Rattle.std.specs.List.{find, list_any, prefix_len, suffix_len}
 use Rattle.std.specs.Option.{option_map_or}
@@ -17,7 +17,8 @@ use Rattle.compose_lint.specs.Report.{kind_word}
 
 -- ---- a line of a list
 
--- a line without the blanks at its beginning, and without those at its end: space, tab and carriage return
+-- a line without the blanks (space, tab and carriage return) at its beginning, and without those at
+-- its end
 abbrev pub without_first_blanks : List ℕ → List ℕ
 without_first_blanks line = drop (prefix_len is_blank line) line
 
@@ -27,22 +28,23 @@ without_last_blanks line = take (length line - suffix_len is_blank line) line
 abbrev pub without_blanks : List ℕ → List ℕ
 without_blanks line = without_last_blanks (without_first_blanks line)
 
--- a tab (code 9) itself; what else could steer a terminal by its number
+-- a tab (code 9) as itself; other characters that a terminal may interpret as controls, by their
+-- number
 abbrev pub listed_character : ℕ → List ℕ
 listed_character c = if c == 9 then c ∷ [] else shown_character c
 
 abbrev pub listed_characters : List ℕ → List ℕ
 listed_characters text = flat_map listed_character (chars text)
 
--- a line of a Compose file without the blanks at its ends, with U+FFFD for what is no UTF-8
+-- a line of a Compose file without the blanks at its ends, with U+FFFD for bytes that are not UTF-8
 abbrev pub listed_line : List ℕ → List ℕ
 listed_line line = listed_characters (utf8_lossy (without_blanks line))
 
--- the word of the kind, a colon and a blank, and the line in which the finding stands
+-- the word of the kind, a colon and a blank, and the line of the finding
 abbrev pub listed_text : Row → List ℕ
 listed_text row = kind_word row.finding.kind ++ (codes ": " ++ listed_line row.bytes)
 
--- the words of kinds: of what is wrong in a file, of what is wrong with texts, and of readers
+-- the words of kinds: those about lines of a file, about texts, and of readers
 abbrev pub file_words : List (List ℕ)
 file_words = codes "fault" ∷ codes "overridden" ∷ codes "repeated" ∷ codes "prefix" ∷ codes "keysym" ∷ []
 
@@ -52,11 +54,11 @@ text_words = codes "mark" ∷ codes "form" ∷ codes "comment" ∷ codes "redund
 abbrev pub reader_words : List (List ℕ)
 reader_words = codes "libX11" ∷ codes "libxkbcommon" ∷ codes "gtk3" ∷ codes "gtk4" ∷ []
 
--- it begins with one of these words, a colon and a blank
+-- the text begins with one of these words, a colon and a blank
 abbrev pub begins_as_one : List (List ℕ) → List ℕ → Bool
 begins_as_one words text = list_any (λ word. begins_with text (word ++ codes ": ")) words
 
--- with the word of a kind
+-- the line begins with the word of a kind
 abbrev pub is_in_form : Line → Bool
 is_in_form line = begins_as_one file_words line.text || (begins_as_one text_words line.text || begins_as_one reader_words line.text)
 
@@ -66,13 +68,13 @@ accepted_of bytes =
     let lines = said_from 1 (lines_of bytes) in
     option_map_or (λ (line : Line). Err (BadLine line.number)) (find (λ line. not (is_in_form line)) lines) (Ok lines)
 
--- ---- what they accept
+-- ---- what the lines accept
 
--- one of the lines has the kind of the finding and the line in which it stands
+-- one of the lines has the kind of the finding and its line
 abbrev pub is_accepted : List Line → Row → Bool
 is_accepted lines row = list_any (bytes_eq (listed_text row)) (map (λ (line : Line). line.text) lines)
 
--- the line is none of the texts
+-- the line equals none of the texts
 abbrev pub is_none_of : List (List ℕ) → Line → Bool
 is_none_of texts line = not (list_any (bytes_eq line.text) texts)
 
@@ -84,22 +86,23 @@ is_stale rows line = is_none_of (map listed_text rows) line
 abbrev pub left_of : List Line → List Row → Result (List Row) AcceptFault
 left_of lines rows = option_map_or (λ (line : Line). Err (Stale line.number)) (find (is_stale rows) lines) (Ok (filter (λ row. not (is_accepted lines row)) rows))
 
--- this is left, unless memory was refused
+-- this is the result, unless memory runs out
 abbrev pub Leaves : Result (Vec Row Global) AcceptFault → Result (List Row) AcceptFault → Type 0
 Leaves (Ok left) said = said ≡ Ok left.items
 Leaves (Err NoMemory) said = Unit {0}
 Leaves (Err fault) said = said ≡ Err fault
 
--- the same by the bytes of a list; a line that is not in the form is found before one that accepts nothing
+-- the same by the bytes of a list; a line that is not in the form is refused before one that
+-- accepts nothing
 abbrev pub IsLeftBy : List ℕ → List Row → Result (Vec Row Global) AcceptFault → Type 0
 IsLeftBy bytes rows (Ok left) = (lines : List Line) × (accepted_of bytes ≡ Ok lines) × (left_of lines rows ≡ Ok left.items)
 IsLeftBy bytes rows (Err (BadLine n)) = accepted_of bytes ≡ Err (BadLine n)
 IsLeftBy bytes rows (Err (Stale n)) = (lines : List Line) × (accepted_of bytes ≡ Ok lines) × (left_of lines rows ≡ Err (Stale n))
 IsLeftBy bytes rows (Err NoMemory) = Unit {0}
 
--- ---- the list to accept
+-- ---- the list that accepts findings
 
--- each of the texts where it stands first
+-- the texts in order of first occurrence, without duplicates
 abbrev pub distinct : List (List ℕ) → List (List ℕ)
 distinct [] = []
 distinct (text ∷ texts) = text ∷ filter (λ other. not (bytes_eq other text)) (distinct texts)
@@ -111,21 +114,21 @@ as_line text = text ++ 10 ∷ []
 abbrev pub as_lines : List (List ℕ) → List ℕ
 as_lines texts = flat_map as_line texts
 
--- a line for each finding, each line once
+-- a line for each finding, without duplicates
 abbrev pub accept_lines : List Row → List ℕ
 accept_lines rows = as_lines (distinct (map listed_text rows))
 
--- ---- the written list, read again
+-- ---- reading back the written list
 
--- the bytes are a list, none of whose lines is stale, and no finding is left
+-- the bytes are a list, none of its lines is stale, and no finding is left
 pub record AcceptsAll (bytes : List ℕ) (rows : List Row) : Type 0 where
   pub lines : List Line
   pub read : accepted_of bytes ≡ Ok lines
   pub left : left_of lines rows ≡ Ok []
 
--- ---- in words for private functions
+-- ---- definitions for private functions
 
--- nothing where the finding is accepted
+-- the finding, unless it is accepted
 abbrev pub unless : Bool → Row → List Row
 unless true row = []
 unless false row = row ∷ []

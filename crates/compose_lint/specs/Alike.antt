@@ -1,4 +1,5 @@
--- Texts that look like one another and are not the same: they have one normal form C (Unicode Standard Annex 15, canonical equivalence).
+-- Texts that look the same and are not equal: they have one normal form C (Unicode Standard Annex
+-- 15, canonical equivalence).
 use Rattle.std.specs.Prelude.{ℕ, Bool, false, not, ◌&&◌, bytes_eq, List, Option}
 use Rattle.std.specs.List.{find}
 use Rattle.std.specs.Option.{option_map, option_map_or}
@@ -7,24 +8,24 @@ use Rattle.compose_lint.specs.Lines.{LintLine}
 use Rattle.compose_lint.specs.Longer.{place_of}
 use Rattle.compose_lint.specs.declared.finding.LinePlace.{LinePlace}
 
--- two texts that are not the same have one normal form C
+-- two texts that are not equal have one normal form C
 abbrev pub are_alike : List ℕ → List ℕ → Bool
 are_alike a b = bytes_eq (normal_form a) (normal_form b) && not (bytes_eq a b)
 
--- the line defines another text that looks like this one
+-- the line produces another text with the same normal form C
 abbrev pub gives_alike : List ℕ → LintLine → Bool
 gives_alike text l = option_map_or (λ d. are_alike text d.text) l.definition false
 
--- where the first of these lines stands that defines another text that looks like this one
+-- the place of the first of these lines that produces another text with the same normal form C
 abbrev pub alike_place : List LintLine → List ℕ → Option LinePlace
 alike_place lines text = option_map place_of (find (gives_alike text) lines)
 
--- ---- in words for private functions
+-- ---- definitions for private functions
 
--- the line defines a text that is not in normal form C, and this is its normal form
+-- the line produces a text that is not in normal form C, and this is its normal form
 abbrev pub gives_form : List ℕ → LintLine → Bool
 gives_form form l = option_map_or (λ d. not (is_normal d.text) && bytes_eq (normal_form d.text) form) l.definition false
 
--- where the first of these lines stands that does
+-- the place of the first of these lines that does
 abbrev pub form_place : List LintLine → List ℕ → Option LinePlace
 form_place lines form = option_map place_of (find (gives_form form) lines)

@@ -1,4 +1,5 @@
--- What `lint` answers on the names, the tables and the list of accepted findings that it is given (this project's profile).
+-- The answer of `lint` on the names, the tables and the list of accepted findings (this project's
+-- format).
 use Rattle.std.specs.Prelude.{◌≡◌, ◌≢◌, Bool, ℕ, List, [], map, Result, Ok, Err, string_bytes, ⊤}
 use Rattle.keysym_core.specs.Names.{KeysymNames}
 use Rattle.keysym_core.specs.Header.{names_of}
@@ -19,7 +20,7 @@ use Rattle.compose_lint.specs.declared.asking.LintInput.{LintInput}
 use Rattle.compose_lint.specs.declared.asking.LintTable.{LintTable}
 use Rattle.compose_lint.specs.declared.reader.Readers.{Readers}
 
--- ---- what is asked
+-- ---- the input
 
 abbrev pub table_given : LintTable → Table
 table_given t = record { sources = t.sources.now; paths = map (λ path. path.now) t.paths.now; skip_faulty = t.skip_faulty }
@@ -44,13 +45,13 @@ asked input = record {
 
 -- ---- the answer
 
--- what is printed of all findings, some of which are left
+-- the printed text, if `left` are the findings that are not accepted
 abbrev pub form_text : LintForm → List Row → List Row → List ℕ
 form_text Lines rows left = rows_text left
 form_text Json rows left = json_answer rows left
 form_text AcceptList rows left = accept_lines left
 
--- yes where no finding is left
+-- yes if no finding is left
 abbrev pub Tells : LintForm → List Row → List Row → Answer → Type 0
 Tells form rows left (Yes text) = (left ≡ []) × (string_bytes text ≡ form_text form rows left)
 Tells form rows left (No text) = (left ≢ []) × (string_bytes text ≡ form_text form rows left)
@@ -60,7 +61,7 @@ Tells form rows left (FreshNotAllowed keysym) = ⊥
 abbrev pub rows_asked : Asked → KeysymNames → List Row
 rows_asked asked names = rows_in names asked.readers asked.is_all asked.tables
 
--- of these findings those are left that no line accepts
+-- the findings that are left are those that no line accepts
 pub record IsLinted (asked : Asked) (rows : List Row) (answer : Answer) : Type 0 where
   pub lines : List Line
   pub left : List Row
@@ -74,7 +75,8 @@ pub record IsStale (asked : Asked) (rows : List Row) (line : ℕ) : Type 0 where
   pub read : accepted_of asked.accepted ≡ Ok lines
   pub stale : left_of lines rows ≡ Err (Stale line)
 
--- the answer on these findings, or what is refused first: a line that is not in the form, or one that accepts none of them; memory may be refused too
+-- the answer on these findings, or the first refusal: a line that is not in the form, or one that
+-- accepts none of the findings; memory may run out too
 abbrev pub AnswersOn : Asked → List Row → Result Answer LintFault → Type 0
 AnswersOn asked rows (Ok answer) = IsLinted asked rows answer
 AnswersOn asked rows (Err (Accept (BadLine n))) = accepted_of asked.accepted ≡ Err (BadLine n)
@@ -83,11 +85,11 @@ AnswersOn asked rows (Err (Accept NoMemory)) = ⊥
 AnswersOn asked rows (Err (Input RefusalNoMemory)) = ⊤
 AnswersOn asked rows (Err (Input refusal)) = ⊥
 
--- the same on what these names find in the tables
+-- the same on the findings in the tables, by these names
 abbrev pub AnswersBy : Asked → KeysymNames → Result Answer LintFault → Type 0
 AnswersBy asked names answered = AnswersOn asked (rows_asked asked names) answered
 
--- the answer by the names of the header, or that they are refused
+-- the answer by the names of the header, or that the header is refused
 abbrev pub AnswersLint : Asked → Result Answer LintFault → Type 0
 AnswersLint asked (Err (Input (Names fault))) = names_of asked.header ≡ Err fault
 AnswersLint asked (Err (Input RefusalNoMemory)) = ⊤

@@ -1,4 +1,5 @@
--- Which of the lines of a file counts for a sequence (Compose(5): a later definition overrides an earlier one).
+-- The line of a file that counts for a sequence (Compose(5): a later definition overrides an
+-- earlier one).
 use Rattle.std.specs.Prelude.{ℕ, Bool, false, bytes_eq, List, reverse, Option}
 use Rattle.std.specs.List.{find}
 use Rattle.std.specs.Option.{option_map_or}
@@ -8,6 +9,6 @@ use Rattle.compose_lint.specs.Lines.{LintLine}
 abbrev pub defines : List ℕ → LintLine → Bool
 defines s l = option_map_or (λ d. bytes_eq d.sequence s) l.definition false
 
--- of the lines the last one that defines the sequence
+-- the last of the lines that defines the sequence
 abbrev pub last_defining : List LintLine → List ℕ → Option LintLine
 last_defining lines s = find (defines s) (reverse lines)

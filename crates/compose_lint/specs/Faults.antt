@@ -7,10 +7,10 @@ use Rattle.compose_lint.specs.Lines.{LintLine}
 use Rattle.compose_lint.specs.declared.finding.Kind.{Kind}
 use Rattle.compose_lint.specs.declared.finding.Kind.TheVariants.{Fault}
 
--- the fault stands in the line
+-- the fault is in the line
 abbrev pub is_in : LintLine → ReadFault → Bool
 is_in l fault = option_map_or (λ at. at.0 == l.source && at.1 == l.line) (line_of fault) false
 
--- the first fault that stands in the line, by its index
+-- the first fault in the line, by its index
 abbrev pub fault_kinds : List ReadFault → LintLine → List Kind
 fault_kinds faults l = option_map_or (λ i. Fault i ∷ []) (position (is_in l) faults) []

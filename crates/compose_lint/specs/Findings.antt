@@ -1,4 +1,4 @@
--- What is found in the lines of a file, each kind by itself.
+-- The findings in the lines of a file, by kind.
 use Rattle.std.specs.Prelude.{ℕ, Bool, ◌&&◌, nat_lt, bytes_eq, if◌then◌else◌, List, [], ◌∷◌, ◌++◌, length, map, flat_map, Option, Some, false}
 use Rattle.std.specs.Option.{option_map_or, option_and_then}
 use Rattle.keysym_core.specs.Names.{KeysymNames}
@@ -30,20 +30,21 @@ when b kind = if b then kind ∷ [] else []
 abbrev pub gives_text : List ℕ → LintLine → Bool
 gives_text text m = option_map_or (λ d. bytes_eq text d.text) m.definition false
 
--- what a definition of the line is beside the line that counts
+-- how the definition compares with that of the line that counts: nothing, if it is the one that
+-- counts; otherwise repeated or overridden
 abbrev pub beside : LintLine → Definition → LintLine → List Kind
 beside l d m = if nat_lt l.line m.line then (if gives_text d.text m then Repeated m.line else Overridden m.line) ∷ [] else []
 
--- a later line of the file counts for the sequence
+-- a later line of the file defines the sequence again
 abbrev pub defined_again : List LintLine → LintLine → Definition → List Kind
 defined_again lines l d = option_map_or (beside l d) (last_defining lines d.sequence) []
 
--- ---- the line by itself
+-- ---- the line alone
 
 abbrev pub text_kinds : KeysymNames → Written → Definition → List Kind
 text_kinds names p d = when (has_other_character names p d) Keysym ++ when (repeats_mark d.text) Mark
 
--- ---- the readers that are asked for
+-- ---- the wanted readers
 
 abbrev pub libx11_kinds : Readers → Definition → List Kind
 libx11_kinds readers d =
@@ -66,7 +67,7 @@ gtk_kinds readers p d =
     ++ when (readers.gtk4 && has_wide_keysym d) (Reader Gtk4 WideKeysym)
     ++ when (readers.gtk4 && has_no_string p) (Reader Gtk4 NoString)
 
--- how the file is written
+-- the form of the file
 abbrev pub file_kinds : Readers → List ℕ → List LintLine → LintLine → List Kind
 file_kinds readers bytes lines l =
     when (readers.libx11 && is_after_mark bytes l) (Reader LibX11 ByteOrderMark)
@@ -81,7 +82,7 @@ blank_kinds readers line p = when (readers.libx11 && has_return line p) (Reader 
 
 -- ---- all kinds
 
--- of a line with this definition, which the production gives
+-- of a line with this definition and this string and result name
 abbrev pub kinds_of : KeysymNames → Readers → List LintLine → LintLine → Written → Definition → List Kind
 kinds_of names readers lines l p d =
     defined_again lines l d ++ text_kinds names p d ++ blank_kinds readers l.bytes p ++ libx11_kinds readers d ++ libxkbcommon_kinds readers p d ++ gtk_kinds readers p d
@@ -90,21 +91,23 @@ abbrev pub kinds_if : KeysymNames → Readers → List LintLine → LintLine →
 kinds_if names readers lines l (Some p) (Some d) = kinds_of names readers lines l p d
 kinds_if names readers lines l _ _ = []
 
--- what is found in a line of the file with these bytes by that file alone: its first fault, how it is written, and, where it gives a definition, what is found of this
+-- the findings in a line of the file that depend on this file alone: its first fault, its form,
+-- and, if it has a definition, those in the definition
 abbrev pub own_kinds : KeysymNames → Readers → List ReadFault → List ℕ → List LintLine → LintLine → List Kind
 own_kinds names readers faults bytes lines l =
     fault_kinds faults l ++ file_kinds readers bytes lines l ++ kinds_if names readers lines l l.written l.definition
 
 -- ---- the lines of all files
 
--- the text is not in normal form C, or it is, and of any file a line defines another text that looks like it
+-- the text is not in normal form C; or it is, and a line of any file produces another text with
+-- this normal form C
 abbrev pub form_of : List LintLine → List ℕ → List Kind
 form_of all text = if is_normal text then option_map_or (λ place. Alike place ∷ []) (alike_place all text) [] else Form ∷ []
 
 abbrev pub form_kinds : List LintLine → LintLine → List Kind
 form_kinds all l = option_map_or (λ d. form_of all d.text) l.definition []
 
--- of any file a line defines a longer sequence that begins with that of the line
+-- a line of any file defines a longer sequence that begins with the one of the line
 abbrev pub prefix_kinds : List LintLine → LintLine → List Kind
 prefix_kinds all l = option_map_or (λ place. Prefix place ∷ []) (option_and_then (λ d. longer_place all d.sequence) l.definition) []
 
@@ -112,29 +115,31 @@ prefix_kinds all l = option_map_or (λ place. Prefix place ∷ []) (option_and_t
 abbrev pub comment_kinds : List LintLine → LintLine → List Kind
 comment_kinds all l = when (has_misplaced_comment all l) Comment
 
--- what the line says again, where this line of an included file counts for its sequence
+-- this line of an included file, which counts for the sequence, has the same text
 abbrev pub again : Definition → LintLine → List Kind
 again d m = if gives_text d.text m then Redundant (place_of m) ∷ [] else []
 
--- the line says again what the included files say, of whose lines for a sequence the last one counts
+-- the included files define the sequence with the same text, by the last of their lines that
+-- defines it
 abbrev pub redundant_kinds : List LintLine → LintLine → List Kind
 redundant_kinds included l = option_map_or (λ d. option_map_or (again d) (last_defining included d.sequence) []) l.definition []
 
--- what is found in a line of the file, where these are the lines of all files
+-- the findings in a line of the file, if these are the lines of all files
 abbrev pub line_kinds : KeysymNames → Readers → List ReadFault → List LintLine → SourceLines → LintLine → List Kind
 line_kinds names readers faults all f l = own_kinds names readers faults f.bytes f.lines l ++ form_kinds all l ++ prefix_kinds all l ++ comment_kinds all l ++ redundant_kinds f.included l
 
 abbrev pub line_findings : KeysymNames → Readers → List ReadFault → List LintLine → SourceLines → LintLine → List Finding
 line_findings names readers faults all f l = map (λ k. record { source = l.source; line = l.line; kind = k }) (line_kinds names readers faults all f l)
 
--- what is found in the lines of a file, in order
+-- the findings in the lines of a file, in order
 abbrev pub findings_in : KeysymNames → Readers → List ReadFault → List LintLine → SourceLines → List Finding
 findings_in names readers faults all f = flat_map (line_findings names readers faults all f) f.lines
 
--- what is found in the lines of these files
+-- the findings in the lines of these files
 abbrev pub findings_of : KeysymNames → Readers → List ReadFault → List SourceLines → List Finding
 findings_of names readers faults files = flat_map (findings_in names readers faults (all_lines files)) files
 
--- what is found in the lines of all sources, each once, in order, where these are the faults that are read; what is redundant only where all is asked for
+-- the findings in the lines of all sources, each line once, in order, if these are the faults of
+-- the sources; redundant lines only if `is_all`
 abbrev pub findings : KeysymNames → Readers → Bool → List ReadFault → List Source → List Finding
 findings names readers is_all faults sources = findings_of names readers faults (all_sources names sources is_all)

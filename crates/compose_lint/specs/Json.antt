@@ -1,4 +1,5 @@
--- Findings as JSON (RFC 8259): an object in a line for each, and one that counts (this project's profile).
+-- Findings as JSON (RFC 8259): an object in a line for each, and one with their counts (this
+-- project's format).
 use Rattle.std.specs.Prelude.{ℕ, ◌-◌, List, ◌++◌, length, filter, flat_map, Option, Some, None, bytes_eq, codes}
 use Rattle.std.specs.Fmt.{decimal}
 use Rattle.compose_diff.specs.Json.{json_string}
@@ -9,7 +10,7 @@ use Rattle.compose_lint.specs.declared.finding.Kind.TheVariants.{Overridden, Rep
 use Rattle.compose_lint.specs.declared.finding.LinePlace.{LinePlace}
 use Rattle.compose_lint.specs.declared.reader.Reader.{Reader as ReaderName}
 
--- the other line that a kind names
+-- the place of the other line that a kind names
 abbrev pub kind_other : ℕ → Kind → Option LinePlace
 kind_other source (Overridden line) = Some (record { source = source; line = line })
 kind_other source (Repeated line) = Some (record { source = source; line = line })
@@ -38,18 +39,18 @@ abbrev pub json_reader : Option ReaderName → List ℕ
 json_reader None = codes ",\"reader\":null"
 json_reader (Some reader) = codes ",\"reader\":\"" ++ (reader_word reader ++ codes "\"")
 
--- where the finding stands
+-- the place of the finding
 abbrev pub json_head : Row → List ℕ
 json_head row = codes "{" ++ (json_place row.paths (record { source = row.finding.source; line = row.finding.line }) ++ (codes ",\"column\":" ++ decimal (column_of row)))
 
--- what is found
+-- the kind of the finding
 abbrev pub json_kind : Row → List ℕ
 json_kind row = codes ",\"kind\":\"" ++ (kind_word row.finding.kind ++ (codes "\",\"message\":" ++ json_string (sentence_of row)))
 
 abbrev pub json_row : Row → List ℕ
 json_row row = json_head row ++ (json_kind row ++ (json_other row.paths (other_of row) ++ (json_reader (reader_of row.finding.kind) ++ codes "}\n")))
 
--- how many of the findings are of the kind with this word
+-- the number of findings of the kind with this word
 abbrev pub count_of : List ℕ → List Row → ℕ
 count_of word rows = length (filter (λ row. bytes_eq (kind_word row.finding.kind) word) rows)
 
@@ -57,28 +58,29 @@ count_of word rows = length (filter (λ row. bytes_eq (kind_word row.finding.kin
 abbrev pub json_count : List Row → List ℕ → List ℕ
 json_count rows word = codes "\"" ++ (word ++ (codes "\":" ++ (decimal (count_of word rows) ++ codes ",")))
 
--- those of lines without a fault
+-- the kinds about lines without a fault
 abbrev pub json_line_counts : List Row → List ℕ
 json_line_counts rows = json_count rows (codes "overridden") ++ (json_count rows (codes "repeated") ++ (json_count rows (codes "prefix") ++ json_count rows (codes "keysym")))
 
--- those of the file itself
+-- the kinds about the file itself
 abbrev pub json_file_counts : List Row → List ℕ
 json_file_counts rows = json_count rows (codes "fault") ++ json_line_counts rows
 
--- those of texts
+-- the kinds about texts
 abbrev pub json_text_counts : List Row → List ℕ
 json_text_counts rows = json_count rows (codes "mark") ++ (json_count rows (codes "form") ++ (json_count rows (codes "comment") ++ json_count rows (codes "redundant")))
 
--- those of readers
+-- the kinds about readers
 abbrev pub json_reader_counts : List Row → List ℕ
 json_reader_counts rows = json_count rows (codes "libX11") ++ (json_count rows (codes "libxkbcommon") ++ (json_count rows (codes "gtk3") ++ json_count rows (codes "gtk4")))
 
--- an object in a line, with all of these as the object `counts`, and how many findings are accepted
+-- an object in a line, with all of these as the object `counts`, and the number of accepted
+-- findings
 abbrev pub json_counts : List Row → ℕ → List ℕ
 json_counts rows accepted =
     codes "{\"counts\":{" ++ (json_file_counts rows ++ (json_text_counts rows ++ (json_reader_counts rows ++ (codes "\"accepted\":" ++ (decimal accepted ++ codes "}}\n")))))
 
--- an object for each finding that is left of all, and one that counts
+-- an object for each finding that is left, and one with the counts
 abbrev pub json_rows : List Row → List ℕ
 json_rows rows = flat_map json_row rows
 

@@ -1,4 +1,4 @@
--- The lines of the sources, each once, and the definition that each of them gives.
+-- The lines of the sources, each once, and their definitions.
 use Rattle.std.specs.Prelude.{ℕ, Bool, not, ◌+◌, ◌==◌, nat_lt, if◌then◌else◌, List, [], ◌∷◌, length, take, map, filter, flat_map, slice_get, Option, None, Result, Ok, Err}
 use Rattle.std.specs.Option.{option_map_or, option_and_then}
 use Rattle.keysym_core.specs.Names.{KeysymNames}
@@ -8,7 +8,8 @@ use Rattle.compose_read.specs.Read.{line_gives, max_lines}
 use Rattle.compose_read.specs.declared.ReadFault.{ReadFault}
 use Rattle.compose_lint.specs.Productions.{Written, comment_of, definition_given, production_of, written_of}
 
--- a line: the index of its source, its number from 1, its bytes, what it writes for a text, the definition that it gives, and the comment beside its string
+-- a line: the index of its source, its number from 1, its bytes, its string and result name, its
+-- definition, and the comment after its string
 pub record LintLine : Type 0 where
   pub source : ℕ
   pub line : ℕ
@@ -17,7 +18,7 @@ pub record LintLine : Type 0 where
   pub definition : Option Definition
   pub comment : Option (List ℕ)
 
--- the definition among what a line gives; a faulty line gives none
+-- the definition in the result of reading a line; a faulty line has none
 abbrev pub definition_in : Result (Option Definition) ReadFault → Option Definition
 definition_in (Ok definition) = definition
 definition_in (Err fault) = None
@@ -25,7 +26,7 @@ definition_in (Err fault) = None
 abbrev pub lint_line : KeysymNames → List Source → Visit → LintLine
 lint_line names sources v = record { source = v.source; line = v.line; bytes = v.bytes; written = written_of v.bytes; definition = definition_in (line_gives names sources v); comment = comment_of v.bytes }
 
--- the same by itself, in words for private functions
+-- the line by its bytes, for private functions
 abbrev pub line_read : KeysymNames → ℕ → ℕ → List ℕ → LintLine
 line_read names source line bytes = record { source = source; line = line; bytes = bytes; written = written_of bytes; definition = option_and_then (definition_given names) (production_of bytes); comment = comment_of bytes }
 
@@ -42,7 +43,7 @@ read_from sources source =
 abbrev pub included_lines : KeysymNames → List Source → ℕ → List LintLine
 included_lines names sources source = map (lint_line names sources) (filter (λ v. not (v.source == source)) (read_from sources source))
 
--- a source: its bytes, its lines, and the lines that it includes, where these are asked for
+-- a source: its bytes, its lines, and the lines that it includes, if these are wanted
 pub record SourceLines : Type 0 where
   pub bytes : List ℕ
   pub lines : List LintLine

@@ -1,4 +1,5 @@
--- Sequences that begin with another one: where both are defined, the longer one is typed (libxkbcommon).
+-- Sequences that begin with another one: if both are defined, the longer one is typed
+-- (libxkbcommon).
 use Rattle.std.specs.Prelude.{ℕ, Bool, false, List, reverse, Option}
 use Rattle.std.specs.List.{find}
 use Rattle.std.specs.Option.{option_map, option_map_or}
@@ -13,6 +14,6 @@ extends s l = option_map_or (λ d. is_proper_prefix s d.sequence) l.definition f
 abbrev pub place_of : LintLine → LinePlace
 place_of l = record { source = l.source; line = l.line }
 
--- where the last of these lines stands that defines a longer sequence that begins with this one
+-- the place of the last of these lines that defines a longer sequence that begins with this one
 abbrev pub longer_place : List LintLine → List ℕ → Option LinePlace
 longer_place lines s = option_map place_of (find (extends s) (reverse lines))

@@ -1,4 +1,4 @@
--- What faults are raised as.
+-- The faults of `lint` that other faults become.
 use Rattle.compose_answer.specs.declared.refusal.Refusal.TheVariants.{NoMemory as RefusalNoMemory}
 use Rattle.compose_diff.specs.declared.accepted.AcceptFault.{AcceptFault}
 use Rattle.compose_diff.specs.declared.accepted.AcceptFault.TheVariants.{NoMemory}

@@ -1,4 +1,5 @@
--- What other readers of Compose files make of a definition that is read here: each class is one line of docs/READERS.md.
+-- Definitions that other readers of Compose files skip or treat differently: each class is one line
+-- of docs/READERS.md.
 use Rattle.std.specs.Prelude.{ℕ, Bool, true, false, not, ◌==◌, ◌||◌, nat_lt, nat_le, List, [], ◌∷◌, length, is_some}
 use Rattle.std.specs.List.{list_any}
 use Rattle.std.specs.Option.{option_map_or}
@@ -7,7 +8,7 @@ use Rattle.compose_text.specs.Bytes.{begins}
 use Rattle.compose_model.specs.Table.{Definition}
 use Rattle.compose_lint.specs.Productions.{Written}
 
--- libX11 skips a line of ten keysyms or more, libxkbcommon one of more than ten
+-- libX11 skips a line of ten keysyms or more, libxkbcommon one of eleven or more
 abbrev pub has_ten_keysyms : Definition → Bool
 has_ten_keysyms d = nat_le 10 (length d.sequence)
 
@@ -30,7 +31,7 @@ has_nul d = list_any (λ b. b == 0) d.text
 abbrev pub has_wide_keysym : Definition → Bool
 has_wide_keysym d = list_any (λ k. nat_lt 0xffff k) d.sequence
 
--- the name of the result begins with a digit: libxkbcommon skips the line
+-- the result name begins with a digit: libxkbcommon skips the line
 abbrev pub has_digit_name : Written → Bool
 has_digit_name p = option_map_or (begins is_ascii_digit) p.name false
 
@@ -38,7 +39,8 @@ has_digit_name p = option_map_or (begins is_ascii_digit) p.name false
 abbrev pub has_no_string : Written → Bool
 has_no_string p = not (is_some p.raw)
 
--- `\n`, `\r` or `\t` (codes 110, 114 and 116 after a backslash, code 92): libxkbcommon takes the letter
+-- `\n`, `\r` or `\t` (codes 110, 114 and 116 after a backslash, code 92): libxkbcommon types the
+-- letter
 abbrev pub has_letter_escape_from : Bool → List ℕ → Bool
 has_letter_escape_from taken [] = false
 has_letter_escape_from true (b ∷ raw) = (b == 110 || b == 114 || b == 116) || has_letter_escape_from false raw

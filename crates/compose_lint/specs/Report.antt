@@ -1,4 +1,4 @@
--- How a finding is printed (this project's profile).
+-- How a finding is printed (this project's format).
 use Rattle.std.specs.Prelude.{ℕ, List, [], ◌∷◌, ◌++◌, flat_map, slice_get, unwrap_or, codes}
 use Rattle.std.specs.Fmt.{decimal}
 use Rattle.std.specs.Option.{option_map_or}
@@ -48,25 +48,25 @@ kind_word Comment = codes "comment"
 kind_word (Redundant place) = codes "redundant"
 kind_word (Reader reader class) = reader_word reader
 
--- the path of the source with this index; nothing where there is none
+-- the path of the source with this index; empty if there is none
 abbrev pub path_of : List (List ℕ) → ℕ → List ℕ
 path_of paths source = unwrap_or (slice_get paths source) []
 
 -- ---- the sentence
 
--- of a number of a line
+-- a sentence that names a line by its number
 abbrev pub line_sentence : ℕ → List ℕ → List ℕ
 line_sentence line sentence = codes "line " ++ (decimal line ++ sentence)
 
--- of a line of any file, as `PATH:LINE`
+-- a sentence that names a line of any file, as `PATH:LINE`
 abbrev pub place_sentence : List (List ℕ) → LinePlace → List ℕ → List ℕ
 place_sentence paths place sentence = shown_text (path_of paths place.source) ++ (codes ":" ++ (decimal place.line ++ sentence))
 
--- of a fault what is said of it
+-- the message of a fault
 abbrev pub fault_sentence : Row → ℕ → List ℕ
 fault_sentence row index = option_map_or (read_said row.sources) (slice_get row.faults index) []
 
--- of a kind that names no other line
+-- the sentence of a kind that names no other line
 abbrev pub own_sentence : Kind → List ℕ
 own_sentence Keysym = codes "the keysym after the string has another character"
 own_sentence Mark = codes "the text has one combining mark twice in a row"
@@ -92,7 +92,7 @@ sentence_of row = kind_sentence row row.finding.kind
 abbrev pub fault_column : Row → ℕ → ℕ
 fault_column row index = option_map_or (λ fault. option_map_or (λ at. at.1.column) (position_of row.sources fault) 1) (slice_get row.faults index) 1
 
--- of a fault its own, and else 1
+-- that of a fault, or 1 if the finding is not a fault
 abbrev pub kind_column : Row → Kind → ℕ
 kind_column row (Fault index) = fault_column row index
 kind_column row kind = 1

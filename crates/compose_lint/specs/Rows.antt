@@ -1,4 +1,4 @@
--- What is found in tables: each finding, with what its table says of it.
+-- The findings in tables, each with the table's data that its row needs.
 use Rattle.std.specs.Prelude.{ℕ, ◌-◌, Bool, true, false, if◌then◌else◌, List, [], take, map, filter, flat_map, slice_get}
 use Rattle.std.specs.Option.{option_map_or}
 use Rattle.keysym_core.specs.Names.{KeysymNames}
@@ -12,13 +12,13 @@ use Rattle.compose_lint.specs.Lines.{LintLine, SourceLines}
 use Rattle.compose_lint.specs.declared.finding.Finding.{Finding}
 use Rattle.compose_lint.specs.declared.reader.Readers.{Readers}
 
--- a table: its sources, the path of the file of each, and whether its faulty lines are left out
+-- a table: its sources, the path of each source's file, and whether its faulty lines are skipped
 pub record Table : Type 0 where
   pub sources : List Source
   pub paths : List (List ℕ)
   pub skip_faulty : Bool
 
--- a finding, the sources, the paths and the first faults of its table, and the bytes of the line in which it stands
+-- a finding, the sources, the paths and the first faults of its table, and the bytes of its line
 pub record Row : Type 0 where
   pub sources : List Source
   pub paths : List (List ℕ)
@@ -26,7 +26,7 @@ pub record Row : Type 0 where
   pub finding : Finding
   pub bytes : List ℕ
 
--- the name of the first source, from which a table is read; nothing where there is none
+-- the name of the first source, from which a table is read; empty if there is none
 abbrev pub root_of : List Source → List ℕ
 root_of sources = option_map_or (λ (s : Source). s.name) (slice_get sources 0) []
 
@@ -37,13 +37,13 @@ max_faults = 1000
 abbrev pub first_faults : KeysymNames → List Source → List ReadFault
 first_faults names sources = take max_faults (faults_of names sources (root_of sources))
 
--- the fault of an include, which is in no line by itself
+-- the fault of an include, whose line is valid by itself
 abbrev pub is_of_include : ReadFault → Bool
 is_of_include (MissingInclude source line) = true
 is_of_include (IncludeDepth source line) = true
 is_of_include fault = false
 
--- the faults that are looked at, but for those of lines that are left out
+-- the reported faults, except those of skipped lines
 abbrev pub left_faults : Bool → List ReadFault → List ReadFault
 left_faults skip_faulty faults = if skip_faulty then filter is_of_include faults else faults
 
@@ -53,18 +53,18 @@ table_faults names t = left_faults t.skip_faulty (first_faults names t.sources)
 abbrev pub row_of : Table → List ReadFault → Finding → Row
 row_of t faults f = record { sources = t.sources; paths = t.paths; faults = faults; finding = f; bytes = line_at t.sources f.source f.line }
 
--- what is found in the lines of a table, in order, where these are the faults that are read
+-- the findings in the lines of a table, in order, if these are its faults
 abbrev pub rows_by : KeysymNames → Readers → Bool → Table → List ReadFault → List Row
 rows_by names readers is_all t faults = map (row_of t faults) (findings names readers is_all faults t.sources)
 
 abbrev pub table_rows : KeysymNames → Readers → Bool → Table → List Row
 table_rows names readers is_all t = rows_by names readers is_all t (table_faults names t)
 
--- what is found in the tables, in their order
+-- the findings in the tables, in the order of the tables
 abbrev pub rows_in : KeysymNames → Readers → Bool → List Table → List Row
 rows_in names readers is_all tables = flat_map (table_rows names readers is_all) tables
 
--- ---- in words for private functions
+-- ---- definitions for private functions
 
 -- a table, and its first faults
 pub record FaultyTable : Type 0 where
@@ -77,7 +77,7 @@ with_faults names t = record { table = t; faults = table_faults names t }
 abbrev pub faulty_rows : KeysymNames → Readers → Bool → FaultyTable → List Row
 faulty_rows names readers is_all t = rows_by names readers is_all t.table t.faults
 
--- the bytes of the line of these files in which the finding stands
+-- the bytes of the line of the finding in these files
 abbrev pub bytes_in : List SourceLines → Finding → List ℕ
 bytes_in files f = option_map_or (λ (file : SourceLines). option_map_or (λ (l : LintLine). l.bytes) (slice_get file.lines (f.line - 1)) []) (slice_get files f.source) []
 

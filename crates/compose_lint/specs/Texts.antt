@@ -1,4 +1,4 @@
--- What is wrong with a text by itself (Unicode Standard Annex 15, and section 3.11 of the standard).
+-- Findings in a text alone (Unicode Standard Annex 15, and section 3.11 of the standard).
 use Rattle.std.specs.Prelude.{ℕ, Bool, not, ◌==◌, ◌&&◌, false, List, drop, chars, bytes_eq, encode_utf8, encode_utf8_all, is_some}
 use Rattle.std.specs.List.{list_any, zip}
 use Rattle.std.specs.Option.{option_map_or, option_and_then}
@@ -24,7 +24,7 @@ normal_form text = encode_utf8_all (nfc (chars text))
 abbrev pub is_normal : List ℕ → Bool
 is_normal text = bytes_eq (normal_form text) text
 
--- beside the string stands the name of a keysym whose character is not the string
+-- after the string comes the name of a keysym whose character is not the text
 abbrev pub has_other_character : KeysymNames → Written → Definition → Bool
 has_other_character names p d =
     is_some p.raw && option_map_or (λ c. not (bytes_eq (encode_utf8 c) d.text)) (option_and_then (λ name. option_and_then (character_of names) (value names name)) p.name) false

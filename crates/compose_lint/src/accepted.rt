@@ -1,4 +1,4 @@
-//! The findings that are accepted.
+//! Accepted findings, which are left out of the answer.
 ghost use Rattle.std.specs.Prelude.{◌≡◌, ◌++◌, ◌==◌, ℕ, List, length, map, filter, is_some, not, IfOk, OnOk, bytes_eq, string_bytes};
 ghost use Rattle.std.specs.List.{find, list_any};
 ghost use Rattle.std.specs.Option.{option_map};
@@ -14,7 +14,7 @@ use indexmap::IndexMap;
 use std::alloc::{AllocError, Global};
 use std::marker::Model;
 
-/// The findings that are accepted, as lines of a kind and a line of a Compose file.
+/// The lines of a list of accepted findings, each a kind and a line of a Compose file.
 #[derive(Drop)]
 struct Accepted<'a> {
     lines: Vec<ListLine<'a>>,
@@ -30,8 +30,9 @@ impl<'a> Model for Accepted<'a> {
 }
 
 impl<'a> Accepted<'a> {
-    /// Reads the lines of a list, but for the empty ones and those that begin with `#`; or the first that is not in the form: it is to
-    /// begin with the word of a kind, a colon and a blank. O(bytes).
+    /// Reads the lines of a list, except empty lines and lines that begin with `#`. O(bytes).
+    /// Errors: `BadLine` with the first line that doesn't begin with the word of a kind, a colon
+    /// and a blank; `NoMemory` if memory runs out.
     fn read(alloc: Global, bytes: &'a [u8]) -> Result<Accepted<'a>, AcceptFault>
         ensures { Gives result (accepted_of bytes.now) }
     {
@@ -42,15 +43,18 @@ impl<'a> Accepted<'a> {
         }
     }
 
-    /// Whether nothing is accepted. O(1).
+    /// Returns whether the list has no lines. O(1).
     fn is_empty(&self) -> bool
         ensures { result ≡ (length self.now == 0) }
     {
         self.lines.is_empty()
     }
 
-    /// The findings that no line accepts, in order; or the first line that accepts none of them. A line accepts each finding of its kind in
-    /// a line of its text, wherever that stands. O(findings) where there are no lines, and else O(bytes).
+    /// Returns the findings that no line accepts, in order. A line accepts each finding of its kind
+    /// in a line with its text, in any file. O(findings) if the list is empty, and otherwise
+    /// O(bytes).
+    /// Errors: `Stale` with the first line that accepts none of the findings; `NoMemory` if memory
+    /// runs out.
     fn leave_out<'r>(&self, alloc: Global, rows: &[Row<'r>]) -> Result<Vec<Row<'r>>, AcceptFault>
         ensures { words.Leaves result (left_of self.now rows.now) }
     {
@@ -64,8 +68,9 @@ impl<'a> Accepted<'a> {
     }
 }
 
-/// The findings that no line of this list accepts, in order; or the first line that is not in the form; or the first that accepts none of them.
-/// O(bytes).
+/// Returns the findings that no line of this list accepts, in order. O(bytes).
+/// Errors: `BadLine` with the first line that is not in the form; otherwise `Stale` with the first
+/// line that accepts none of the findings; `NoMemory` if memory runs out.
 pub(crate) fn left_by<'r>(
     alloc: Global,
     accepted: &[u8],
@@ -79,7 +84,7 @@ pub(crate) fn left_by<'r>(
     }
 }
 
-/// These findings once more.
+/// Returns a copy of these findings.
 fn all_again<'r>(alloc: Global, rows: &[Row<'r>]) -> Result<Vec<Row<'r>>, AllocError>
     ensures { IfOk result (λ left. left.items ≡ rows.now) }
 {
@@ -90,7 +95,7 @@ fn all_again<'r>(alloc: Global, rows: &[Row<'r>]) -> Result<Vec<Row<'r>>, AllocE
     Ok(left)
 }
 
-/// The number of the first line that is not in the form.
+/// Returns the number of the first line that is not in the form, from 1.
 fn first_bad(lines: &[ListLine<'_>]) -> Option<usize>
     ensures { result
         ≡ option_map (λ line. line.number) (find (λ line. not (words.is_in_form line)) lines.now) }
@@ -103,14 +108,14 @@ fn first_bad(lines: &[ListLine<'_>]) -> Option<usize>
     None
 }
 
-/// Whether the line begins with the word of a kind, a colon and a blank.
+/// Returns whether the line begins with the word of a kind, a colon and a blank.
 fn is_in_form(line: &ListLine<'_>) -> bool
     ensures { result ≡ words.is_in_form line.now }
 {
     begins_as_file(line.text) || begins_as_text(line.text) || begins_as_reader(line.text)
 }
 
-/// Whether it begins with the word of what is wrong in a file.
+/// Returns whether it begins with the word of a kind about the lines of a file.
 fn begins_as_file(text: &[u8]) -> bool
     ensures { result ≡ words.begins_as_one words.file_words text.now }
 {
@@ -121,7 +126,7 @@ fn begins_as_file(text: &[u8]) -> bool
         || begins_as(text, "keysym: ")
 }
 
-/// Whether it begins with the word of what is wrong with a text.
+/// Returns whether it begins with the word of a kind about texts and comments.
 fn begins_as_text(text: &[u8]) -> bool
     ensures { result ≡ words.begins_as_one words.text_words text.now }
 {
@@ -131,7 +136,7 @@ fn begins_as_text(text: &[u8]) -> bool
         || begins_as(text, "redundant: ")
 }
 
-/// Whether it begins with the word of a reader.
+/// Returns whether it begins with the word of a reader.
 fn begins_as_reader(text: &[u8]) -> bool
     ensures { result ≡ words.begins_as_one words.reader_words text.now }
 {
@@ -141,14 +146,14 @@ fn begins_as_reader(text: &[u8]) -> bool
         || begins_as(text, "gtk4: ")
 }
 
-/// Whether the text begins with this one.
+/// Returns whether the text begins with this prefix.
 fn begins_as(text: &[u8], prefix: &str) -> bool
     ensures { result ≡ begins_with text.now prefix.now }
 {
     text.strip_prefix(prefix.as_bytes()).is_some()
 }
 
-/// What a line of a list has to be to accept each of the findings.
+/// Returns for each finding the text of a list line that accepts it.
 fn listed_texts(alloc: Global, rows: &[Row<'_>]) -> Result<Vec<String>, AllocError>
     ensures { IfOk result
         (λ texts. map (λ text. string_bytes text) texts.items ≡ map words.listed_text rows.now) }
@@ -161,10 +166,10 @@ fn listed_texts(alloc: Global, rows: &[Row<'_>]) -> Result<Vec<String>, AllocErr
     Ok(texts)
 }
 
-/// Some texts, to look one up.
+/// A set of texts.
 type Texts<'a> = IndexMap<&'a [u8], ()>;
 
-/// These texts, to look one up.
+/// Returns the set of these texts.
 fn texts_among<'a>(alloc: Global, texts: &'a [String]) -> Result<Texts<'a>, AllocError>
     ensures { IfOk result
         (λ among. (q : List ℕ)
@@ -178,7 +183,7 @@ fn texts_among<'a>(alloc: Global, texts: &'a [String]) -> Result<Texts<'a>, Allo
     Ok(among)
 }
 
-/// The texts of these lines, to look one up.
+/// Returns the set of the texts of these lines.
 fn lines_among<'a>(alloc: Global, lines: &[ListLine<'a>]) -> Result<Texts<'a>, AllocError>
     ensures { IfOk result
         (λ among. (q : List ℕ)
@@ -192,7 +197,7 @@ fn lines_among<'a>(alloc: Global, lines: &[ListLine<'a>]) -> Result<Texts<'a>, A
     Ok(among)
 }
 
-/// The number of the first line that accepts none of the findings.
+/// Returns the number of the first line that accepts none of the findings, from 1.
 fn stale_line(
     alloc: Global,
     lines: &[ListLine<'_>],
@@ -207,7 +212,7 @@ fn stale_line(
     Ok(stale)
 }
 
-/// The number of the first line that is none of the texts.
+/// Returns the number of the first line that equals none of the texts, from 1.
 fn first_stale(
     alloc: Global,
     lines: &[ListLine<'_>],
@@ -222,7 +227,7 @@ fn first_stale(
     Ok(first_missing(lines, &among))
 }
 
-/// The number of the first line that is not among these.
+/// Returns the number of the first line that is not in this set, from 1.
 fn first_missing(lines: &[ListLine<'_>], among: &Texts<'_>) -> Option<usize>
     ensures { result
         ≡ option_map (λ line. line.number)
@@ -236,7 +241,7 @@ fn first_missing(lines: &[ListLine<'_>], among: &Texts<'_>) -> Option<usize>
     None
 }
 
-/// The findings whose text is none of the lines, in order.
+/// Returns the findings whose text equals none of the lines, in order.
 fn not_accepted<'r>(
     alloc: Global,
     lines: &[ListLine<'_>],
@@ -253,7 +258,7 @@ fn not_accepted<'r>(
     Ok(left)
 }
 
-/// Adds a finding, unless its text is among these.
+/// Adds a finding, unless its text is in this set.
 fn push_unless<'r>(
     alloc: Global,
     left: &mut Vec<Row<'r>>,
@@ -273,7 +278,7 @@ fn push_unless<'r>(
     Ok(())
 }
 
-/// Whether the text of the finding is among these.
+/// Returns whether the text of the finding is in this set.
 fn is_among(alloc: Global, among: &Texts<'_>, row: &Row<'_>) -> Result<bool, AllocError>
     ensures { IfOk result
         (λ is. is
@@ -283,7 +288,8 @@ fn is_among(alloc: Global, among: &Texts<'_>, row: &Row<'_>) -> Result<bool, All
     Ok(among.contains_key(text.as_bytes()))
 }
 
-/// The list that accepts these findings: a line for each, each line once, where it stands first. O(bytes).
+/// Returns the list that accepts these findings: a line for each, in order of first occurrence,
+/// without duplicates. O(bytes).
 pub(crate) fn accept_text(alloc: Global, rows: &[Row<'_>]) -> Result<String, AllocError>
     ensures { IfOk result (λ text. string_bytes text ≡ words.accept_lines rows.now) }
 {
@@ -291,7 +297,7 @@ pub(crate) fn accept_text(alloc: Global, rows: &[Row<'_>]) -> Result<String, All
     lines_once(alloc, &texts)
 }
 
-/// Each of the texts as a line, where it stands first.
+/// Returns each of the texts as a line, in order of first occurrence, without duplicates.
 fn lines_once(alloc: Global, texts: &[String]) -> Result<String, AllocError>
     ensures { IfOk result
         (λ lines. string_bytes lines

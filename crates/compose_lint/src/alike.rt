@@ -12,12 +12,13 @@ use crate::texts::{is_normal, normal_form};
 use indexmap::IndexMap;
 use std::alloc::{AllocError, Global};
 
-/// For each normal form C of a text that is not in it where the first line stands that gives such a
-/// text.
+/// For each text in normal form C: the place of the first line that produces another text with this
+/// normal form C.
 pub(crate) type FormPlaces = IndexMap<String, LinePlace>;
 
-/// For each normal form C of a text of these lines that is not in it where the first line stands that
-/// gives such a text. O(characters), and memory for the texts that are not in normal form C.
+/// Returns, for each text in normal form C, the place of the first of these lines that produces
+/// another text with this normal form C. O(characters), and memory for the texts that are not in
+/// normal form C.
 pub(crate) fn form_places(
     alloc: Global,
     files: &[SourceLines<'_>],
@@ -33,7 +34,7 @@ pub(crate) fn form_places(
     Ok(places)
 }
 
-/// Adds the places of these lines, which follow the others.
+/// Adds the places of these lines, which follow the lines added before.
 fn add_lines(
     alloc: Global,
     places: &mut FormPlaces,
@@ -50,7 +51,7 @@ fn add_lines(
     Ok(())
 }
 
-/// Adds the place of this line, which follows the others.
+/// Adds the place of this line, which follows the lines added before.
 fn add_line(alloc: Global, places: &mut FormPlaces, line: &LintLine<'_>) -> Result<(), AllocError>
     ensures { OnOk result
         ((q : List ℕ)
@@ -68,7 +69,7 @@ fn add_line(alloc: Global, places: &mut FormPlaces, line: &LintLine<'_>) -> Resu
     Ok(())
 }
 
-/// Puts the place at the normal form, unless one is there.
+/// Adds the place for the normal form, unless it already has one.
 fn add_first(places: &mut FormPlaces, form: String, place: LinePlace) -> Result<(), AllocError>
     ensures { OnOk result
         ((q : List ℕ)

@@ -1,4 +1,4 @@
-//! What `lint` answers on the tables that it is given.
+//! The answer of `lint` on the given tables.
 ghost use Rattle.std.specs.Prelude.{◌≡◌, IfOk, string_bytes};
 ghost use Rattle.compose_lint.specs.Answers as words;
 ghost use Rattle.compose_lint.specs.Answers.{AnswersBy, AnswersLint, asked};
@@ -12,12 +12,14 @@ use compose_answer::{Answer, Refusal};
 use keysym_core::{NameFault, Names};
 use std::alloc::{AllocError, Global};
 
-/// What is found in the tables, in their order, and is not accepted: no, with a line for each, `PATH:LINE:COLUMN: KIND: SENTENCE`, as JSON,
-/// or as the list that accepts it; yes where there is none. At the cost of `find_findings` for each table, and O(bytes).
+/// Returns the findings in the tables that are not accepted, in the order of the tables: `No` with
+/// a line for each, `PATH:LINE:COLUMN: KIND: SENTENCE`, or with JSON, or with the list that accepts
+/// them; `Yes` if there are none. Takes the time of `find_findings` for each table, and O(bytes).
 ///
 /// # Errors
-/// `Names` where the header is refused, then `BadLine` where a line of the list of accepted findings doesn't begin with the word of a kind,
-/// then `Stale` where a line of it accepts no finding of these tables; and `NoMemory`.
+/// `Names` if the header is refused. Otherwise `BadLine` if a line of the list of accepted findings
+/// doesn't begin with the word of a kind, a colon and a blank. Otherwise `Stale` if a line of the
+/// list accepts no finding of these tables. `NoMemory` if memory runs out.
 pub fn lint_tables(alloc: Global, input: &LintInput<'_>) -> Result<Answer, LintFault>
     ensures { AnswersLint (asked input.entry.now) result }
 {
@@ -28,7 +30,7 @@ pub fn lint_tables(alloc: Global, input: &LintInput<'_>) -> Result<Answer, LintF
     }
 }
 
-/// The answer by these names.
+/// Returns the answer under these names.
 fn answer_by(alloc: Global, names: &Names, input: &LintInput<'_>) -> Result<Answer, LintFault>
     ensures { AnswersBy (asked input.entry.now) names.now result }
 {
@@ -37,7 +39,7 @@ fn answer_by(alloc: Global, names: &Names, input: &LintInput<'_>) -> Result<Answ
     answer_on(alloc, input, &rows)
 }
 
-/// What is answered on these findings.
+/// Returns the answer on these findings.
 fn answer_on(alloc: Global, input: &LintInput<'_>, rows: &[Row<'_>]) -> Result<Answer, LintFault>
     ensures { words.AnswersOn (asked input.entry.now) rows.now result }
 {
@@ -47,7 +49,7 @@ fn answer_on(alloc: Global, input: &LintInput<'_>, rows: &[Row<'_>]) -> Result<A
     }
 }
 
-/// What is answered where these of all findings are left.
+/// Returns the answer if `left` are the findings that are not accepted.
 fn answer_of(
     alloc: Global,
     form: LintForm,
@@ -63,7 +65,7 @@ fn answer_of(
     Ok(Answer::No(text))
 }
 
-/// What is printed where these of all findings are left.
+/// Returns the printed text if `left` are the findings that are not accepted.
 fn form_text(
     alloc: Global,
     form: LintForm,

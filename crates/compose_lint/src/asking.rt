@@ -1,4 +1,4 @@
-//! What `lint` is asked, and why it has no answer.
+//! The input of `lint`, and its errors.
 use crate::reader::Readers;
 use compose_answer::Refusal;
 use compose_diff::AcceptFault;
@@ -11,45 +11,47 @@ use thiserror::Error;
 pub enum LintForm {
     /// A line for each, `PATH:LINE:COLUMN: KIND: SENTENCE`.
     Lines,
-    /// A JSON object for each, and one that counts.
+    /// A JSON object for each, and one with their counts.
     Json,
     /// The list that accepts them.
     AcceptList,
 }
 
-/// A table: its sources, and the path of the file of each, in their order.
+/// A table: its sources, and the path of each source's file.
 #[derive(Clone, Copy)]
 pub struct LintTable<'a> {
+    /// The sources of the table.
     pub sources: &'a Sources,
+    /// The path of each source's file, in the order of the sources.
     pub paths: &'a [&'a str],
-    /// Whether faulty lines are left out, so that they are no findings.
+    /// Whether faulty lines are skipped, and so are not findings.
     pub skip_faulty: bool,
 }
 
-/// What `lint` is asked.
+/// The input of `lint`.
 #[derive(Clone, Copy)]
 pub struct LintInput<'a> {
-    /// The names of keysyms as a header.
+    /// The names of keysyms, as the bytes of a C header.
     pub header: &'a [u8],
     /// The tables.
     pub tables: &'a [LintTable<'a>],
-    /// The readers that are asked for.
+    /// The readers whose findings are wanted.
     pub readers: Readers,
-    /// Whether what included files say too is asked for.
+    /// Whether lines are also compared with the lines of included files.
     pub is_all: bool,
-    /// The list of the findings that are accepted.
+    /// The list of accepted findings.
     pub accepted: &'a [u8],
-    /// How the others are printed.
+    /// How the other findings are printed.
     pub form: LintForm,
 }
 
 /// Why `lint` has no answer.
 #[derive(Debug, PartialEq, Eq, Drop, Error)]
 pub enum LintFault {
-    /// The names are refused, or memory was refused.
+    /// The names are refused, or memory ran out.
     #[error("{0}")]
     Input(Refusal),
-    /// The list of the findings that are accepted is refused.
+    /// The list of accepted findings is refused.
     #[error("refused: accept: {0}")]
     Accept(AcceptFault),
 }

@@ -1,4 +1,4 @@
-//! What other readers make of a definition.
+//! Properties of a definition that other readers treat differently.
 ghost use Rattle.std.specs.Prelude.{◌≡◌, false};
 ghost use Rattle.std.specs.Char.{is_ascii_digit};
 ghost use Rattle.compose_text.specs.Bytes.{begins};
@@ -7,21 +7,21 @@ ghost use Rattle.compose_lint.specs.Readers as words;
 use crate::definition::LineDefinition;
 use crate::production::Written;
 
-/// Whether the sequence has ten keysyms or more. O(1).
+/// Returns whether the sequence has ten keysyms or more. O(1).
 pub(crate) fn has_ten_keysyms(definition: &LineDefinition) -> bool
     ensures { result ≡ words.has_ten_keysyms definition.now }
 {
     definition.sequence().len() >= 10
 }
 
-/// Whether the sequence has eleven keysyms or more. O(1).
+/// Returns whether the sequence has eleven keysyms or more. O(1).
 pub(crate) fn has_eleven_keysyms(definition: &LineDefinition) -> bool
     ensures { result ≡ words.has_eleven_keysyms definition.now }
 {
     definition.sequence().len() >= 11
 }
 
-/// Whether the keysym 0 is in the sequence. O(keysyms).
+/// Returns whether the keysym 0 is in the sequence. O(keysyms).
 pub(crate) fn has_no_symbol(definition: &LineDefinition) -> bool
     ensures { result ≡ words.has_no_symbol definition.now }
 {
@@ -31,21 +31,21 @@ pub(crate) fn has_no_symbol(definition: &LineDefinition) -> bool
         .any(|keysym| keysym.value() == 0)
 }
 
-/// Whether the text has 255 bytes. O(1).
+/// Returns whether the text has 255 bytes. O(1).
 pub(crate) fn has_longest_text(definition: &LineDefinition) -> bool
     ensures { result ≡ words.has_longest_text definition.now }
 {
     definition.text().len() >= 255
 }
 
-/// Whether the text has a byte 0. O(bytes).
+/// Returns whether the text has a byte 0. O(bytes).
 pub(crate) fn has_nul(definition: &LineDefinition) -> bool
     ensures { result ≡ words.has_nul definition.now }
 {
     definition.text().as_bytes().iter().any(|byte| *byte == 0)
 }
 
-/// Whether a keysym above 0xffff is in the sequence. O(keysyms).
+/// Returns whether a keysym above 0xffff is in the sequence. O(keysyms).
 pub(crate) fn has_wide_keysym(definition: &LineDefinition) -> bool
     ensures { result ≡ words.has_wide_keysym definition.now }
 {
@@ -55,7 +55,7 @@ pub(crate) fn has_wide_keysym(definition: &LineDefinition) -> bool
         .any(|keysym| keysym.value() > 0xffff)
 }
 
-/// Whether the name of the result begins with a digit. O(1).
+/// Returns whether the name of the result begins with a digit. O(1).
 pub(crate) fn has_digit_name(written: &Written<'_>) -> bool
     ensures { result ≡ words.has_digit_name written.now }
 {
@@ -65,7 +65,7 @@ pub(crate) fn has_digit_name(written: &Written<'_>) -> bool
     }
 }
 
-/// Whether the first byte is a digit.
+/// Returns whether the first byte is a digit.
 fn begins_with_digit(name: &[u8]) -> bool
     ensures { result ≡ begins is_ascii_digit name.now }
 {
@@ -75,14 +75,14 @@ fn begins_with_digit(name: &[u8]) -> bool
     }
 }
 
-/// Whether there is no string. O(1).
+/// Returns whether the line has no string. O(1).
 pub(crate) fn has_no_string(written: &Written<'_>) -> bool
     ensures { result ≡ words.has_no_string written.now }
 {
     written.raw_text().is_none()
 }
 
-/// Whether the string has the escape of a letter. O(bytes).
+/// Returns whether the string has one of the escapes `\n`, `\r` and `\t`. O(bytes).
 pub(crate) fn has_letter_escape(written: &Written<'_>) -> bool
     ensures { result ≡ words.has_letter_escape written.now }
 {
@@ -92,7 +92,7 @@ pub(crate) fn has_letter_escape(written: &Written<'_>) -> bool
     }
 }
 
-/// Whether one of the letters n, r and t follows a backslash that begins an escape.
+/// Returns whether one of the letters n, r and t follows a backslash that begins an escape.
 fn has_letter_escape_in(raw: &[u8]) -> bool
     ensures { result ≡ words.has_letter_escape_from false raw.now }
 {

@@ -5,22 +5,23 @@ ghost use Rattle.compose_lint.specs.Productions as words;
 use crate::file_lines::head_len;
 use crate::production::Written;
 
-/// The comment of a line with a string, if it has one and this is what it writes: what follows the
-/// first `#` that follows the string, without white space at its ends. O(bytes).
+/// Returns the comment of a line whose string and result name are `written`, if the line has both a
+/// string and a comment: the text after the first `#` after the string, without white space at its
+/// ends. O(bytes).
 pub(crate) fn comment_beside<'a>(line: &'a [u8], written: Option<&Written<'_>>) -> Option<&'a str>
     ensures { option_copied result ≡ words.comment_beside line.now (option_copied written.entry) }
 {
     comment_in(behind_string(line, written?.raw_text()?))
 }
 
-/// What follows the string with this raw text. O(bytes).
+/// Returns the bytes after the string with this raw text. O(bytes).
 fn behind_string<'a>(line: &'a [u8], raw: &str) -> &'a [u8]
     ensures { result.now ≡ words.behind_string line.now raw.now }
 {
     behind(behind(behind(line, head_len(line)), 2), raw.len())
 }
 
-/// The bytes behind so many.
+/// Returns the bytes after the first `count` ones.
 pub(crate) fn behind(bytes: &[u8], count: usize) -> &[u8]
     ensures { result.now ≡ drop count bytes.now }
 {
@@ -30,7 +31,7 @@ pub(crate) fn behind(bytes: &[u8], count: usize) -> &[u8]
     }
 }
 
-/// What follows the first `#` of these bytes, if there is one.
+/// Returns the text after the first `#` of these bytes, if there is one.
 fn comment_in(bytes: &[u8]) -> Option<&str>
     ensures { option_copied result ≡ words.comment_in bytes.now }
 {
@@ -40,14 +41,14 @@ fn comment_in(bytes: &[u8]) -> Option<&str>
     }
 }
 
-/// Where the first `#` of these bytes stands, if there is one.
+/// Returns the index of the first `#` of these bytes, if there is one.
 fn comment_at(bytes: &[u8]) -> Option<usize>
     ensures { result ≡ position (λ b. b == 35) bytes.now }
 {
     bytes.iter().position(|byte| *byte == b'#')
 }
 
-/// The bytes as a text without white space at its ends, if they are one.
+/// Returns the bytes as a text without white space at its ends, if they are UTF-8.
 fn trimmed(bytes: &[u8]) -> Option<&str>
     ensures { option_copied result ≡ words.trimmed bytes.now }
 {

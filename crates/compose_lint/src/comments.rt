@@ -1,4 +1,4 @@
-//! The comments beside texts.
+//! The comments of lines, and their texts.
 ghost use Rattle.std.specs.Prelude.{◌≡◌, ◌++◌, ℕ, List, map, IfOk, OnOk, bytes_eq, option_to_list};
 ghost use Rattle.std.specs.Borrow.{Bor};
 ghost use Rattle.indexmap.specs.IndexMap.{get_by};
@@ -11,7 +11,7 @@ use crate::lines::LintLine;
 use crate::source_lines::SourceLines;
 use std::alloc::{AllocError, Global};
 
-/// The comment of a line, and beside it the text of its string. O(1).
+/// Returns the comment of a line and the text that the line produces. O(1).
 fn commented<'a>(line: &'a LintLine<'_>) -> Option<Note<'a>>
     ensures { result ≡ words.commented line.now }
 {
@@ -23,7 +23,7 @@ fn commented<'a>(line: &'a LintLine<'_>) -> Option<Note<'a>>
     })
 }
 
-/// The comments of the lines of these files, and the text beside each. O(lines).
+/// Returns the comments of the lines of these files, each with the text of its line. O(lines).
 pub(crate) fn comments_in<'a>(
     alloc: Global,
     files: &'a [SourceLines<'_>],
@@ -37,7 +37,7 @@ pub(crate) fn comments_in<'a>(
     Ok(notes)
 }
 
-/// Adds the comments of these lines, and the text beside each.
+/// Adds the comments of these lines, each with the text of its line.
 fn push_comments<'a>(notes: &mut Vec<Note<'a>>, lines: &'a [LintLine<'_>]) -> Result<(), AllocError>
     ensures { OnOk result (notes.new.items ≡ notes.old.items ++ words.comments_in lines.now) }
 {
@@ -47,7 +47,7 @@ fn push_comments<'a>(notes: &mut Vec<Note<'a>>, lines: &'a [LintLine<'_>]) -> Re
     Ok(())
 }
 
-/// Adds the comment of the line, and the text beside it, if it has both.
+/// Adds the comment of the line with the text of the line, if it has both.
 fn push_commented<'a>(notes: &mut Vec<Note<'a>>, line: &'a LintLine<'_>) -> Result<(), AllocError>
     ensures { OnOk result
         (notes.new.items ≡ notes.old.items ++ option_to_list (words.commented line.now)) }
@@ -58,7 +58,7 @@ fn push_commented<'a>(notes: &mut Vec<Note<'a>>, line: &'a LintLine<'_>) -> Resu
     Ok(())
 }
 
-/// The texts, and the comment beside each. O(notes).
+/// Returns the texts, each with its comment. O(notes).
 pub(crate) fn texts_of<'a>(alloc: Global, notes: &[Note<'a>]) -> Result<Vec<Note<'a>>, AllocError>
     ensures { IfOk result (λ texts. texts.items ≡ map words.turned notes.now) }
 {
@@ -72,8 +72,8 @@ pub(crate) fn texts_of<'a>(alloc: Global, notes: &[Note<'a>]) -> Result<Vec<Note
     Ok(texts)
 }
 
-/// Whether the comment of the line stands most often beside another text, and the text beside
-/// another comment.
+/// Returns whether the line's comment occurs most often with another text, and its text most often
+/// with another comment.
 pub(crate) fn has_misplaced_comment(
     files: &[SourceLines<'_>],
     by_comment: &Leaders<'_>,

@@ -1,4 +1,4 @@
-//! Which value stands most often beside a key.
+//! The value that occurs most often with a key.
 ghost use Rattle.std.specs.Prelude.{◌≡◌, ℕ, List, IfOk, unwrap_or, bytes_eq, ◌&&◌, option_copied};
 ghost use Rattle.std.specs.Borrow.{Bor};
 ghost use Rattle.indexmap.specs.IndexMap.{get_by};
@@ -8,7 +8,7 @@ use indexmap::IndexMap;
 use std::alloc::{AllocError, Global};
 use std::marker::Model;
 
-/// A key, and the value that stands beside it.
+/// A key, and a value that occurs with it.
 #[derive(Drop)]
 pub(crate) struct Note<'a> {
     pub(crate) key: &'a str,
@@ -39,14 +39,14 @@ impl<'a> Note<'a> {
     }
 }
 
-/// How often each value stands beside each key.
+/// How often each value occurs with each key.
 type Counts<'a> = IndexMap<(&'a str, &'a str), usize>;
 
-/// For each key the value that stands most often beside it.
+/// For each key, the value that occurs most often with it.
 pub(crate) type Leaders<'a> = IndexMap<&'a str, Leader<'a>>;
 
-/// The first value that stands as often as any beside a key, how often it does, and whether another
-/// does as well.
+/// The first of the values that occur most often with a key, how often it does, and whether another
+/// value does equally often.
 #[derive(Drop)]
 pub(crate) struct Leader<'a> {
     value: &'a str,
@@ -62,7 +62,7 @@ impl<'a> Model for Leader<'a> {
     ghost view = { λ l. record { value = l.value.now; count = l.count; is_tied = l.is_tied } };
 }
 
-/// How often each value stands beside each key. O(bytes).
+/// Counts how often each value occurs with each key. O(bytes).
 fn counts<'a>(alloc: Global, notes: &[Note<'a>]) -> Result<Counts<'a>, AllocError>
     ensures { IfOk result (λ counts. (k : Bor (List ℕ)) (v : Bor (List ℕ)) → unwrap_or (get_by (λ p. bytes_eq k.now p.0.now && bytes_eq v.now p.1.now) counts) 0 ≡ words.times notes.now k.now v.now) }
 {
@@ -75,7 +75,7 @@ fn counts<'a>(alloc: Global, notes: &[Note<'a>]) -> Result<Counts<'a>, AllocErro
     Ok(counts)
 }
 
-/// The leader, as a value is looked at that stands so often beside the key.
+/// Returns the leader after another value, which occurs `count` times with the key.
 fn next_leader<'a>(leader: Option<&Leader<'a>>, value: &'a str, count: usize) -> Leader<'a>
     ensures { result ≡ words.next_leading (option_copied leader.entry) value.now count }
 {
@@ -101,7 +101,7 @@ fn next_leader<'a>(leader: Option<&Leader<'a>>, value: &'a str, count: usize) ->
     }
 }
 
-/// For each key the value that stands most often beside it. O(bytes).
+/// Returns for each key the value that occurs most often with it. O(bytes).
 pub(crate) fn leaders<'a>(alloc: Global, notes: &[Note<'a>]) -> Result<Leaders<'a>, AllocError>
     ensures { IfOk result (λ leaders. (k : Bor (List ℕ)) → words.IsLed (words.times notes.now k.now) k.now notes.now (get_by (λ p. bytes_eq k.now p.now) leaders)) }
 {
@@ -116,8 +116,8 @@ pub(crate) fn leaders<'a>(alloc: Global, notes: &[Note<'a>]) -> Result<Leaders<'
     Ok(leaders)
 }
 
-/// Whether another value than this one stands more often beside the key than any other, where these
-/// are the leaders of some notes. O(bytes of the key and the value).
+/// Returns whether a value other than this one occurs more often with the key than any other, if
+/// these are the leaders of some notes. O(bytes of the key and the value).
 pub(crate) fn has_other(leaders: &Leaders<'_>, key: &str, value: &str) -> bool
     ensures { (notes : List words.Note)
         → ((k : Bor (List ℕ))
@@ -128,7 +128,7 @@ pub(crate) fn has_other(leaders: &Leaders<'_>, key: &str, value: &str) -> bool
     leads_other(leaders.get(key), value)
 }
 
-/// Whether the leader is another value than this one, and no other stands as often.
+/// Returns whether the leader is a value other than this one, and no value occurs equally often.
 fn leads_other(leader: Option<&Leader<'_>>, value: &str) -> bool
     ensures { result ≡ words.leads_other value.now (option_copied leader.entry) }
 {

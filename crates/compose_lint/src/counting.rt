@@ -1,4 +1,4 @@
-//! The line of a file that counts for a sequence.
+//! The line of a file that defines a sequence last, and so counts.
 ghost use Rattle.std.specs.Prelude.{◌≡◌, ℕ, List, IfOk, bytes_eq, slice_get, option_copied};
 ghost use Rattle.std.specs.Borrow.{Bor};
 ghost use Rattle.std.specs.Option.{option_and_then};
@@ -10,10 +10,11 @@ use indexmap::IndexMap;
 use keysym_core::Keysym;
 use std::alloc::{AllocError, Global};
 
-/// For each sequence that the lines of a file define the index of the last line that does.
+/// For each sequence that the lines of a file define, the index of the last line that does.
 pub(crate) type LastLines<'a> = IndexMap<&'a [Keysym], usize>;
 
-/// For each sequence that the lines define the index of the last line that does. O(keysyms).
+/// Returns, for each sequence that the lines define, the index of the last line that does.
+/// O(keysyms).
 pub(crate) fn last_lines<'a>(
     alloc: Global,
     lines: &'a [LintLine<'_>],

@@ -1,4 +1,4 @@
-//! The definition that a line gives.
+//! The definition on a line.
 ghost use Rattle.std.specs.Prelude.{◌≡◌, ◌++◌, map, length, Some, IfOk, option_copied, string_bytes};
 ghost use Rattle.std.specs.Option.{option_map, option_and_then};
 ghost use Rattle.std.specs.Result.{result_ok};
@@ -44,7 +44,8 @@ impl LineDefinition {
     }
 }
 
-/// The definition that a line gives, if this is what it writes; a faulty line gives none. O(bytes).
+/// Returns the definition of a line's production, if the line has one. A production with an unknown
+/// or ignored keysym, or with an invalid text, has no definition. O(bytes).
 pub(crate) fn line_definition(
     alloc: Global,
     names: &Names,
@@ -60,7 +61,7 @@ pub(crate) fn line_definition(
     }
 }
 
-/// The definition that a production gives, if its keys have keysyms and its text is right.
+/// Returns the definition of a production, if its keysyms and its text are valid.
 fn definition_given(
     alloc: Global,
     names: &Names,
@@ -82,7 +83,7 @@ fn definition_given(
     }
 }
 
-/// The keysyms of these keys, if each has one that is not ignored.
+/// Returns the keysyms of these keys, if each is known and none is ignored.
 fn fed_sequence(
     alloc: Global,
     names: &Names,
@@ -102,7 +103,7 @@ fn fed_sequence(
     Ok(Some(sequence))
 }
 
-/// The keysym of a key, if it has one that is not ignored.
+/// Returns the keysym of a key, if it is known and not ignored.
 fn fed_keysym(names: &Names, event: &str) -> Option<Keysym>
     ensures { result ≡ words.fed_keysym names.now event.now }
 {
@@ -113,7 +114,7 @@ fn fed_keysym(names: &Names, event: &str) -> Option<Keysym>
     Some(keysym)
 }
 
-/// The text of a string, or else of a result keysym, if both are right.
+/// Returns the text of a string, or otherwise of a result keysym, if both are valid.
 fn text_given(
     alloc: Global,
     names: &Names,
@@ -133,7 +134,8 @@ fn text_given(
     }
 }
 
-/// The text of the keysym of this name, if the name has one; nothing where there is no name.
+/// Returns the text of the keysym with this name, if it is known; an empty text if there is no
+/// name.
 fn name_given(
     alloc: Global,
     names: &Names,
@@ -152,7 +154,7 @@ fn name_given(
     }
 }
 
-/// The text of a keysym; nothing where it has no character.
+/// Returns the text of a keysym; an empty text if it has no character.
 fn keysym_text(alloc: Global, names: &Names, keysym: Keysym) -> Result<String, AllocError>
     ensures { IfOk result (λ given. string_bytes given ≡ text names.now keysym) }
 {
@@ -163,7 +165,7 @@ fn keysym_text(alloc: Global, names: &Names, keysym: Keysym) -> Result<String, A
     Ok(given)
 }
 
-/// The text that a raw text stands for, if it is right.
+/// Returns the raw text with its escapes replaced, if it is valid.
 fn string_text(alloc: Global, raw: &str) -> Result<Option<String>, AllocError>
     ensures { IfOk result
         (λ text. option_map string_bytes text ≡ result_ok (text_of raw.now)) }

@@ -8,7 +8,7 @@ use compose_messages::line_of;
 use compose_read::ReadFault;
 use std::alloc::AllocError;
 
-/// Whether the fault stands in the line.
+/// Returns whether the fault is in the line.
 fn is_in(line: &LintLine<'_>, fault: &ReadFault) -> bool
     ensures { result ≡ words.is_in line.now fault.now }
 {
@@ -18,14 +18,14 @@ fn is_in(line: &LintLine<'_>, fault: &ReadFault) -> bool
     }
 }
 
-/// The index of the first fault that stands in the line, if there is one. O(faults).
+/// Returns the index of the first fault in the line, if there is one. O(faults).
 fn fault_in(faults: &[ReadFault], line: &LintLine<'_>) -> Option<usize>
     ensures { result ≡ position (words.is_in line.now) faults.now }
 {
     faults.iter().position(|fault| is_in(line, fault))
 }
 
-/// Adds the first fault that stands in the line, if there is one. O(faults).
+/// Adds the first fault in the line, if there is one. O(faults).
 pub(crate) fn push_fault_kinds(
     kinds: &mut Vec<Kind>,
     faults: &[ReadFault],

@@ -1,4 +1,4 @@
-//! How a line is written, where other readers of Compose files mind it.
+//! How a line is written, if other readers of Compose files treat it differently.
 ghost use Rattle.std.specs.Prelude.{◌≡◌, ◌==◌, take, drop, position, option_copied, false, not, is_some};
 ghost use Rattle.std.specs.List.{list_any};
 ghost use Rattle.std.specs.Option.{option_map_or};
@@ -13,14 +13,14 @@ use arrayvec::ArrayVec;
 use compose_lex::{Said, lex_line_into};
 use memchr::memchr;
 
-/// Whether the line reads as a definition or an include. O(bytes).
+/// Returns whether the line is a definition or an include. O(bytes).
 fn says_something(line: &[u8]) -> bool
     ensures { result ≡ words.says_something line.now }
 {
     production_of(line).is_some() || raw_include(line).is_some()
 }
 
-/// The raw text of the line's include, if it is one. O(bytes).
+/// Returns the raw text of the line's include, if it is one. O(bytes).
 fn raw_include(line: &[u8]) -> Option<&str>
     ensures { option_copied result ≡ raw_include line.now }
 {
@@ -34,21 +34,22 @@ fn raw_include(line: &[u8]) -> Option<&str>
     }
 }
 
-/// Whether the bytes begin with a UTF-8 byte order mark.
+/// Returns whether the bytes begin with a UTF-8 byte order mark.
 fn has_mark(bytes: &[u8]) -> bool
     ensures { result ≡ words.has_mark bytes.now }
 {
     bytes.starts_with(&[0xef, 0xbb, 0xbf])
 }
 
-/// Whether the line is the first one of these bytes, after a byte order mark. O(bytes of the line).
+/// Returns whether the line is the first one of these bytes, and follows a byte order mark. O(bytes
+/// of the line).
 pub(crate) fn is_after_mark(bytes: &[u8], line: &LintLine<'_>) -> bool
     ensures { result ≡ words.is_after_mark bytes.now line.now }
 {
     line.line() == 1 && has_mark(bytes) && says_something(line.bytes())
 }
 
-/// Whether the bytes end without a newline.
+/// Returns whether the bytes don't end in a newline.
 fn is_unended(bytes: &[u8]) -> bool
     ensures { result ≡ words.is_unended bytes.now }
 {
@@ -58,15 +59,14 @@ fn is_unended(bytes: &[u8]) -> bool
     }
 }
 
-/// Whether the line reads as a definition without the name of a result, or as an include.
-/// O(bytes).
+/// Returns whether the line is a definition without a result name, or an include. O(bytes).
 fn ends_in_string(line: &[u8]) -> bool
     ensures { result ≡ words.ends_in_string line.now }
 {
     is_nameless(line) || raw_include(line).is_some()
 }
 
-/// Whether the line reads as a definition without the name of a result.
+/// Returns whether the line is a definition without a result name.
 fn is_nameless(line: &[u8]) -> bool
     ensures { result
         ≡ option_map_or (λ p. not (is_some p.name)) (written_of line.now) false }
@@ -77,14 +77,15 @@ fn is_nameless(line: &[u8]) -> bool
     }
 }
 
-/// Whether the line is the last one of these bytes, without a newline. O(bytes of the line).
+/// Returns whether the line is the last one of these bytes, and no newline follows it. O(bytes of
+/// the line).
 pub(crate) fn is_without_newline(bytes: &[u8], lines: usize, line: &LintLine<'_>) -> bool
     ensures { result ≡ words.is_without_newline bytes.now lines line.now }
 {
     line.line() == lines && is_unended(bytes) && ends_in_string(line.bytes())
 }
 
-/// Whether the bytes end in a backslash.
+/// Returns whether the bytes end in a backslash.
 fn ends_in_backslash(line: &[u8]) -> bool
     ensures { result ≡ words.ends_in_backslash line.now }
 {
@@ -94,7 +95,7 @@ fn ends_in_backslash(line: &[u8]) -> bool
     }
 }
 
-/// Whether of these lines of its file the one before the line ends in a backslash.
+/// Returns whether the line before this one in its file ends in a backslash.
 fn follows_backslash(lines: &[LintLine<'_>], line: &LintLine<'_>) -> bool
     ensures { result ≡ words.follows_backslash lines.now line.now }
 {
@@ -107,28 +108,28 @@ fn follows_backslash(lines: &[LintLine<'_>], line: &LintLine<'_>) -> bool
     }
 }
 
-/// Whether the line is joined to the comment before it. O(bytes of the line).
+/// Returns whether libX11 joins the line to the comment on the line before. O(bytes of the line).
 pub(crate) fn is_joined(lines: &[LintLine<'_>], line: &LintLine<'_>) -> bool
     ensures { result ≡ words.is_joined lines.now line.now }
 {
     follows_backslash(lines, line) && says_something(line.bytes())
 }
 
-/// Whether the byte begins a string or a comment.
+/// Returns whether the byte begins a string or a comment.
 fn begins_string_or_comment(byte: u8) -> bool
     ensures { result ≡ words.begins_string_or_comment byte }
 {
     byte == b'"' || byte == b'#'
 }
 
-/// Where the string or the comment begins, if there is one.
+/// Returns the index at which the string or the comment begins, if there is one.
 fn head_end(line: &[u8]) -> Option<usize>
     ensures { result ≡ position words.begins_string_or_comment line.now }
 {
     line.iter().position(|byte| begins_string_or_comment(*byte))
 }
 
-/// How many bytes come before the string or the comment. O(bytes).
+/// Returns the number of bytes before the string or the comment. O(bytes).
 pub(crate) fn head_len(line: &[u8]) -> usize
     ensures { result ≡ words.head_len line.now }
 {
@@ -138,14 +139,14 @@ pub(crate) fn head_len(line: &[u8]) -> usize
     }
 }
 
-/// Whether a carriage return stands before the string or the comment.
+/// Returns whether a carriage return precedes the string or the comment.
 fn has_return_before(line: &[u8]) -> bool
     ensures { result ≡ list_any (λ b. b == 13) (take (words.head_len line.now) line.now) }
 {
     line.iter().take(head_len(line)).any(|byte| *byte == b'\r')
 }
 
-/// Whether a carriage return stands between the string and the comment.
+/// Returns whether a carriage return is between the string and the comment.
 fn has_return_after(line: &[u8], raw: &str) -> bool
     ensures { result ≡ list_any (λ b. b == 13) (words.tail line.now raw.now) }
 {
@@ -157,7 +158,7 @@ fn has_return_after(line: &[u8], raw: &str) -> bool
         .any(|byte| *byte == b'\r')
 }
 
-/// Whether a carriage return stands outside of the string and the comment. O(bytes).
+/// Returns whether a carriage return is outside of the string and the comment. O(bytes).
 pub(crate) fn has_return(line: &[u8], written: &Written<'_>) -> bool
     ensures { result ≡ words.has_return line.now written.now }
 {
@@ -167,7 +168,7 @@ pub(crate) fn has_return(line: &[u8], written: &Written<'_>) -> bool
     }
 }
 
-/// The same of a line that may have a carriage return.
+/// Does the work of `has_return` for a line that may have a carriage return.
 fn has_return_outside(line: &[u8], written: &Written<'_>) -> bool
     ensures { result ≡ words.has_return line.now written.now }
 {
@@ -180,7 +181,7 @@ fn has_return_outside(line: &[u8], written: &Written<'_>) -> bool
     }
 }
 
-/// Whether the line is an include with a carriage return before its string. O(bytes).
+/// Returns whether the line is an include with a carriage return before its string. O(bytes).
 pub(crate) fn has_return_in_include(line: &[u8]) -> bool
     ensures { result ≡ words.has_return_in_include line.now }
 {
@@ -190,28 +191,28 @@ pub(crate) fn has_return_in_include(line: &[u8]) -> bool
     }
 }
 
-/// Whether these bytes are `<` and a blank, or a blank and `>`.
+/// Returns whether these bytes are `<` and a blank, or a blank and `>`.
 fn is_spaced(first: u8, second: u8) -> bool
     ensures { result ≡ words.is_spaced (first, second) }
 {
     (first == b'<' && is_blank(second)) || (is_blank(first) && second == b'>')
 }
 
-/// Whether the byte is a blank.
+/// Returns whether the byte is a blank.
 pub(crate) fn is_blank(byte: u8) -> bool
     ensures { result ≡ is_blank byte }
 {
     matches!(byte, b' ' | b'\t' | b'\r')
 }
 
-/// Whether a blank stands beside the name of a key. O(bytes).
+/// Returns whether a blank is next to a key name, inside the `<` and `>`. O(bytes).
 pub(crate) fn has_spaced_name(line: &[u8]) -> bool
     ensures { result ≡ words.has_spaced_name line.now }
 {
     has_spaced_name_after(b':', line)
 }
 
-/// Whether a blank stands beside the name of a key in these bytes, which follow this one.
+/// Returns whether a blank is next to a key name in `first` and then `line`.
 fn has_spaced_name_after(first: u8, line: &[u8]) -> bool
     ensures { result ≡ words.has_spaced_name_after first line.now }
 {

@@ -1,4 +1,4 @@
-//! The lines that a source includes.
+//! The lines of the files that a source includes.
 ghost use Rattle.std.specs.Prelude.{◌≡◌, ◌==◌, not, map, filter, take, IfOk};
 ghost use Rattle.compose_read.specs.Lines.{Visit};
 ghost use Rattle.compose_read.specs.Read.{max_lines};
@@ -10,11 +10,11 @@ use compose_read::{Sources, VisitedLine, Visits};
 use keysym_core::Names;
 use std::alloc::{AllocError, Global};
 
-/// How many lines are read of a source and all that it includes.
+/// The greatest number of lines read from a source and all that it includes.
 const MAX_LINES: usize = 1000000;
 
-/// The lines of other sources that are read from the source with this index, in order: of 1,000,000
-/// lines at most. O(bytes of the lines that are read).
+/// Returns the lines of other sources that are read from the source with this index, in order:
+/// those among the first 1,000,000 lines. O(bytes of the lines that are read).
 pub(crate) fn included_lines<'a>(
     alloc: Global,
     names: &Names,
@@ -32,7 +32,7 @@ pub(crate) fn included_lines<'a>(
     }
 }
 
-/// Those of these lines that are not of the source with this index.
+/// Returns those of these lines that are not of the source with this index.
 fn others_in<'a>(
     alloc: Global,
     names: &Names,
@@ -59,7 +59,7 @@ fn others_in<'a>(
     Ok(others)
 }
 
-/// The line with the definition that it gives, and the comment beside its string. O(bytes).
+/// Returns the line with its definition and its comment. O(bytes).
 fn visited_line<'a>(
     alloc: Global,
     names: &Names,

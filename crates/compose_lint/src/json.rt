@@ -10,9 +10,11 @@ use compose_diff::push_json_string;
 use std::alloc::{AllocError, Global};
 use std::fmt::Write;
 
-/// An object in a line for each of the findings that are left: `file`, `line`, `column`, `kind`, `message`, `other`, the `file` and the
-/// `line` of the other line that the message names, and `reader`, each of these two `null` where there is none. Then one object more, whose
-/// member `counts` has how many of them are of each kind, and how many of all are `accepted`. O(bytes).
+/// Returns a line with a JSON object for each of the findings that are left, and one more with
+/// their counts. The members of a finding are `file`, `line`, `column`, `kind`, `message`, `other`
+/// (the `file` and the `line` of the other line that the message names, or `null`) and `reader` (or
+/// `null`). In the last object, `counts` has the number of findings of each kind, and `accepted`
+/// the number of accepted ones. O(bytes).
 pub(crate) fn json_answer(
     alloc: Global,
     rows: &[Row<'_>],
@@ -49,7 +51,7 @@ fn push_row(alloc: Global, text: &mut String, row: &Row<'_>) -> Result<(), Alloc
     text.push_str("}\n")
 }
 
-/// Adds where the finding stands.
+/// Adds the place of the finding.
 fn push_head(text: &mut String, row: &Row<'_>) -> Result<(), AllocError>
     ensures { OnOk result
         (string_bytes text.new ≡ string_bytes text.old ++ words.json_head row.now) }
@@ -75,7 +77,7 @@ fn push_place(text: &mut String, paths: &[&str], place: LinePlace) -> Result<(),
     Ok(())
 }
 
-/// Adds what is found.
+/// Adds the kind and the message.
 fn push_kind(alloc: Global, text: &mut String, row: &Row<'_>) -> Result<(), AllocError>
     ensures { OnOk result
         (string_bytes text.new ≡ string_bytes text.old ++ words.json_kind row.now) }
@@ -88,7 +90,7 @@ fn push_kind(alloc: Global, text: &mut String, row: &Row<'_>) -> Result<(), Allo
     push_json_string(text, &sentence)
 }
 
-/// The other line that is named, if one is.
+/// Returns the place of the other line that the finding names, if there is one.
 fn other_of(row: &Row<'_>) -> Option<LinePlace>
     ensures { result ≡ words.other_of row.now }
 {
@@ -100,7 +102,7 @@ fn other_of(row: &Row<'_>) -> Option<LinePlace>
     }
 }
 
-/// Adds the other line that is named, or null.
+/// Adds the place of the other line, or `null`.
 fn push_other(text: &mut String, paths: &[&str], other: Option<LinePlace>) -> Result<(), AllocError>
     ensures { OnOk result
         (string_bytes text.new
@@ -114,7 +116,7 @@ fn push_other(text: &mut String, paths: &[&str], other: Option<LinePlace>) -> Re
     text.push_str("}")
 }
 
-/// The reader that a kind names, if it names one.
+/// Returns the reader that a kind names, if there is one.
 fn reader_of(kind: Kind) -> Option<Reader>
     ensures { result ≡ words.reader_of kind }
 {
@@ -124,7 +126,7 @@ fn reader_of(kind: Kind) -> Option<Reader>
     }
 }
 
-/// Adds the reader, or null.
+/// Adds the reader, or `null`.
 fn push_reader(text: &mut String, reader: Option<Reader>) -> Result<(), AllocError>
     ensures { OnOk result
         (string_bytes text.new ≡ string_bytes text.old ++ words.json_reader reader) }
@@ -137,7 +139,7 @@ fn push_reader(text: &mut String, reader: Option<Reader>) -> Result<(), AllocErr
     text.push_str("\"")
 }
 
-/// Adds the object of the counts, and a newline.
+/// Adds the object with the counts, and a newline.
 fn push_counts(text: &mut String, rows: &[Row<'_>], accepted: usize) -> Result<(), AllocError>
     ensures { OnOk result
         (string_bytes text.new
@@ -151,7 +153,7 @@ fn push_counts(text: &mut String, rows: &[Row<'_>], accepted: usize) -> Result<(
     Ok(())
 }
 
-/// Adds how many findings are about the lines of the files themselves.
+/// Adds the counts of the kinds about the lines of a file.
 fn push_file_counts(text: &mut String, rows: &[Row<'_>]) -> Result<(), AllocError>
     ensures { OnOk result
         (string_bytes text.new ≡ string_bytes text.old ++ words.json_file_counts rows.now) }
@@ -160,7 +162,7 @@ fn push_file_counts(text: &mut String, rows: &[Row<'_>]) -> Result<(), AllocErro
     push_line_counts(text, rows)
 }
 
-/// Adds how many are about lines without a fault.
+/// Adds the counts of the kinds about lines without a fault.
 fn push_line_counts(text: &mut String, rows: &[Row<'_>]) -> Result<(), AllocError>
     ensures { OnOk result
         (string_bytes text.new ≡ string_bytes text.old ++ words.json_line_counts rows.now) }
@@ -171,7 +173,7 @@ fn push_line_counts(text: &mut String, rows: &[Row<'_>]) -> Result<(), AllocErro
     push_count(text, rows, "keysym")
 }
 
-/// Adds how many are about texts and comments.
+/// Adds the counts of the kinds about texts and comments.
 fn push_text_counts(text: &mut String, rows: &[Row<'_>]) -> Result<(), AllocError>
     ensures { OnOk result
         (string_bytes text.new ≡ string_bytes text.old ++ words.json_text_counts rows.now) }
@@ -182,7 +184,7 @@ fn push_text_counts(text: &mut String, rows: &[Row<'_>]) -> Result<(), AllocErro
     push_count(text, rows, "redundant")
 }
 
-/// Adds how many are about other readers.
+/// Adds the counts of the kinds about other readers.
 fn push_reader_counts(text: &mut String, rows: &[Row<'_>]) -> Result<(), AllocError>
     ensures { OnOk result
         (string_bytes text.new ≡ string_bytes text.old ++ words.json_reader_counts rows.now) }
@@ -193,7 +195,7 @@ fn push_reader_counts(text: &mut String, rows: &[Row<'_>]) -> Result<(), AllocEr
     push_count(text, rows, "gtk4")
 }
 
-/// Adds how many findings are of the kind with this word.
+/// Adds the number of findings of the kind with this word.
 fn push_count(text: &mut String, rows: &[Row<'_>], word: &str) -> Result<(), AllocError>
     ensures { OnOk result
         (string_bytes text.new
@@ -204,7 +206,7 @@ fn push_count(text: &mut String, rows: &[Row<'_>], word: &str) -> Result<(), All
     Ok(())
 }
 
-/// How many findings are of the kind with this word.
+/// Counts the findings of the kind with this word.
 fn count_of(rows: &[Row<'_>], word: &str) -> usize
     ensures { result ≡ words.count_of word.now rows.now }
 {

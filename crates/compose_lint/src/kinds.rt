@@ -1,4 +1,4 @@
-//! What is found in the lines of a file.
+//! The findings in the lines of a file.
 ghost use Rattle.std.specs.Prelude.{◌≡◌, ◌++◌, ℕ, List, IfOk, OnOk, bytes_eq, slice_get, option_copied, map};
 ghost use Rattle.std.specs.Borrow.{Bor};
 ghost use Rattle.std.specs.Option.{option_and_then};
@@ -36,7 +36,7 @@ use compose_read::ReadFault;
 use keysym_core::{Keysym, Names};
 use std::alloc::{AllocError, Global};
 
-/// Adds this kind, where it is so.
+/// Adds this kind if `is_so` is true.
 fn push_when(kinds: &mut Vec<Kind>, is_so: bool, kind: Kind) -> Result<(), AllocError>
     ensures { OnOk result (kinds.new.items ≡ kinds.old.items ++ words.when is_so kind) }
 {
@@ -46,7 +46,7 @@ fn push_when(kinds: &mut Vec<Kind>, is_so: bool, kind: Kind) -> Result<(), Alloc
     Ok(())
 }
 
-/// Whether the definition of a line has this text.
+/// Returns whether the line has a definition with this text.
 fn gives_text(text: &str, line: &LintLine<'_>) -> bool
     ensures { result ≡ words.gives_text text.now line.now }
 {
@@ -56,7 +56,7 @@ fn gives_text(text: &str, line: &LintLine<'_>) -> bool
     }
 }
 
-/// Adds that a later line of the file counts for the sequence, if so.
+/// Adds `Overridden` or `Repeated` if a later line of the file defines the sequence again.
 fn push_defined_again(
     kinds: &mut Vec<Kind>,
     lines: &[LintLine<'_>],
@@ -77,7 +77,7 @@ fn push_defined_again(
     }
 }
 
-/// The line that counts for a sequence, if there is one.
+/// Returns the line that counts for a sequence, which is the last one, if there is one.
 fn counting_line<'b, 'a>(
     lines: &'b [LintLine<'a>],
     last: &LastLines<'_>,
@@ -91,7 +91,7 @@ fn counting_line<'b, 'a>(
     lines.get(*last.get(sequence)?)
 }
 
-/// Adds what a definition of the line is beside the line that counts.
+/// Adds `Overridden` or `Repeated` if the line that counts is a later one.
 fn push_beside(
     kinds: &mut Vec<Kind>,
     line: &LintLine<'_>,
@@ -114,7 +114,7 @@ fn push_beside(
     Ok(())
 }
 
-/// Adds what is wrong with the text by itself.
+/// Adds the findings in the text alone.
 fn push_text_kinds(
     names: &Names,
     kinds: &mut Vec<Kind>,
@@ -130,7 +130,7 @@ fn push_text_kinds(
     push_when(kinds, repeats_mark(definition.text()), Kind::Mark)
 }
 
-/// Adds what libX11 doesn't take.
+/// Adds the findings about libX11.
 fn push_libx11_kinds(
     kinds: &mut Vec<Kind>,
     readers: Readers,
@@ -148,7 +148,7 @@ fn push_libx11_kinds(
     push_when(kinds, nul, Kind::Reader(reader, Class::Nul))
 }
 
-/// Adds what libxkbcommon doesn't take.
+/// Adds the findings about libxkbcommon.
 fn push_libxkbcommon_kinds(
     kinds: &mut Vec<Kind>,
     readers: Readers,
@@ -175,7 +175,7 @@ fn push_libxkbcommon_kinds(
     push_when(kinds, letter, Kind::Reader(reader, Class::LetterEscape))
 }
 
-/// Adds what GTK doesn't take.
+/// Adds the findings about GTK.
 fn push_gtk_kinds(
     kinds: &mut Vec<Kind>,
     readers: Readers,
@@ -201,7 +201,7 @@ fn push_gtk_kinds(
     )
 }
 
-/// Adds what other readers make of how the file is written.
+/// Adds the findings of other readers about the form of the file.
 fn push_file_kinds(
     kinds: &mut Vec<Kind>,
     readers: Readers,
@@ -238,7 +238,7 @@ fn push_file_kinds(
     )
 }
 
-/// Adds what other readers make of blanks in a production.
+/// Adds the findings of other readers about blanks in a production.
 fn push_blank_kinds(
     kinds: &mut Vec<Kind>,
     readers: Readers,
@@ -263,8 +263,7 @@ fn push_blank_kinds(
     )
 }
 
-/// The names, the readers that are asked for, the faults that are read, and a file: its bytes and
-/// its lines.
+/// The names, the wanted readers, the faults of the table, and a file: its bytes and its lines.
 #[derive(Clone, Copy)]
 pub(crate) struct LintFile<'b, 'a> {
     pub(crate) names: &'b Names,
@@ -274,7 +273,7 @@ pub(crate) struct LintFile<'b, 'a> {
     pub(crate) lines: &'b [LintLine<'a>],
 }
 
-/// Adds what is found in a line of the file with this definition, which what it writes gives.
+/// Adds the findings in a line of the file with this definition, made from `written`.
 fn push_kinds_of(
     kinds: &mut Vec<Kind>,
     file: LintFile<'_, '_>,
@@ -300,7 +299,7 @@ fn push_kinds_of(
     push_gtk_kinds(kinds, file.readers, written, definition)
 }
 
-/// Adds what is found in a line of the file for the definition that it gives, if it gives one.
+/// Adds the findings in the definition of a line of the file, if it has one.
 fn push_kinds_if(
     kinds: &mut Vec<Kind>,
     file: LintFile<'_, '_>,
@@ -324,7 +323,7 @@ fn push_kinds_if(
     }
 }
 
-/// What is found in a line of the file by that file alone.
+/// Returns the kinds of the findings in a line that depend on its file alone.
 pub(crate) fn own_kinds(
     alloc: Global,
     file: LintFile<'_, '_>,
@@ -346,7 +345,7 @@ pub(crate) fn own_kinds(
     Ok(kinds)
 }
 
-/// Adds that these kinds are found in the line.
+/// Adds a finding of each of these kinds in the line.
 fn push_kinds(
     findings: &mut Vec<Finding>,
     line: &LintLine<'_>,
@@ -369,8 +368,8 @@ fn push_kinds(
     Ok(())
 }
 
-/// Adds that the text of the line is not in normal form C, or that it is, and a line of any file
-/// gives another text that looks like it, if so.
+/// Adds `Form` if the text of the line is not in normal form C. If it is, adds `Alike` if a line of
+/// any file produces another text with this normal form C.
 fn push_form_kinds(
     alloc: Global,
     kinds: &mut Vec<Kind>,
@@ -388,7 +387,7 @@ fn push_form_kinds(
     }
 }
 
-/// The same of a text.
+/// Does the work of `push_form_kinds` for a text.
 fn push_form_of(
     alloc: Global,
     kinds: &mut Vec<Kind>,
@@ -408,7 +407,8 @@ fn push_form_of(
     Ok(())
 }
 
-/// Adds that a line of any file defines a longer sequence that begins with that of the line, if so.
+/// Adds `Prefix` if a line of any file defines a longer sequence that begins with the one of the
+/// line.
 fn push_prefix_kinds(
     kinds: &mut Vec<Kind>,
     files: &[SourceLines<'_>],
@@ -428,7 +428,7 @@ fn push_prefix_kinds(
     Ok(())
 }
 
-/// Adds that the line says again what the included files say, if so.
+/// Adds `Redundant` if the included files define the sequence of the line with the same text.
 fn push_redundant_kinds(
     kinds: &mut Vec<Kind>,
     included: &[LintLine<'_>],
@@ -450,7 +450,7 @@ fn push_redundant_kinds(
     }
 }
 
-/// Adds that the line says the same again as this line of an included file, if so.
+/// Adds `Redundant` if this line of an included file has the same text.
 fn push_again(
     kinds: &mut Vec<Kind>,
     definition: &LineDefinition,
@@ -463,8 +463,9 @@ fn push_again(
     push_when(kinds, is_same, Kind::Redundant(counting.place()))
 }
 
-/// What the lines of all files say of a line: the places of texts that look like others, those of
-/// longer sequences, and what stands most often beside each comment and beside each text.
+/// What the lines of all files contribute to the findings in a line: the places of texts that look
+/// like others, those of longer sequences, and what occurs most often with each comment and with
+/// each text.
 #[derive(Clone, Copy)]
 pub(crate) struct AllFiles<'c, 'b, 'a> {
     pub(crate) files: &'b [SourceLines<'a>],
@@ -474,7 +475,7 @@ pub(crate) struct AllFiles<'c, 'b, 'a> {
     pub(crate) by_text: &'c Leaders<'b>,
 }
 
-/// Adds what is found in the lines of a file, in order. O(bytes).
+/// Adds the findings in the lines of a file, in order. O(bytes).
 pub(crate) fn push_findings(
     alloc: Global,
     findings: &mut Vec<Finding>,

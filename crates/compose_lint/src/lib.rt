@@ -1,4 +1,5 @@
-//! What is wrong in a table, and which readers of Compose files don't take it.
+//! Mistakes in a table, and lines of it that other readers of Compose files skip or treat
+//! differently.
 #![tactic(auto)]
 
 ghost use Rattle.std.specs.Prelude.{◌≡◌, ℕ, List, [], ◌∷◌, ◌++◌, IsTrue};
@@ -41,12 +42,13 @@ pub use lint::find_findings;
 pub use lost::lost_count;
 pub use reader::{Class, Reader, Readers};
 
-/// The list that accepts findings, as [`lint_tables`] writes it, is read again and accepts them: no line of it is stale, and no finding is left.
+/// The list that accepts findings, as [`lint_tables`] writes it, can be read again and accepts
+/// them: no line of it is stale, and no finding is left.
 pub fn law_accept_text()
     ensures { (rows : List Row) → AcceptsAll (accept_lines rows) rows }
 {}
 
-/// A blank at the end of a line, a carriage return too, says nothing in a list of accepted findings.
+/// A blank at the end of a line in a list of accepted findings is ignored, a carriage return too.
 pub fn law_blank_at_end()
     ensures { (line : List ℕ) (b : ℕ) → IsTrue (is_blank b)
         → listed_line (line ++ b ∷ []) ≡ listed_line line }

@@ -1,4 +1,4 @@
-//! The lines of a source, and the definition that each gives.
+//! The lines of a source, and their definitions.
 ghost use Rattle.std.specs.Prelude.{◌≡◌, ◌<◌, length, map, IfOk, option_copied};
 ghost use Rattle.std.specs.Option.{option_map};
 ghost use Rattle.compose_read.specs.Lines.{own_lines, without_mark};
@@ -14,7 +14,7 @@ use keysym_core::Names;
 use std::alloc::{AllocError, Global};
 use std::marker::Model;
 
-/// A line of a source, and the definition that it gives; a faulty line gives none.
+/// A line of a source, and its definition; a faulty line has none.
 #[derive(Drop)]
 pub(crate) struct LintLine<'a> {
     /// The index of its source, from 0.
@@ -23,10 +23,11 @@ pub(crate) struct LintLine<'a> {
     pub(crate) line: usize,
     /// Its bytes, without the newline.
     pub(crate) bytes: &'a [u8],
-    /// What it writes for a text, if it reads as a production.
+    /// Its string and result name, if it is a production.
     pub(crate) written: Option<Written<'a>>,
+    /// Its definition.
     pub(crate) definition: Option<LineDefinition>,
-    /// The comment beside its string.
+    /// The comment after its string.
     pub(crate) comment: Option<&'a str>,
 }
 
@@ -50,28 +51,28 @@ impl<'a> LintLine<'a> {
     ghost use Rattle.std.specs.Prelude.{◌≡◌, option_copied};
     ghost use Rattle.compose_lint.specs.Longer.{place_of};
 
-    /// The definition that it gives.
+    /// Returns its definition, if it has one.
     pub(crate) fn definition(&self) -> Option<&LineDefinition>
         ensures { option_copied result ≡ self.now.definition }
     {
         self.definition.as_ref()
     }
 
-    /// The index of its source, from 0.
+    /// Returns the index of its source, from 0.
     pub(crate) fn source(&self) -> usize
         ensures { result ≡ self.now.source }
     {
         self.source
     }
 
-    /// Its number in the source, from 1.
+    /// Returns its number in the source, from 1.
     pub(crate) fn line(&self) -> usize
         ensures { result ≡ self.now.line }
     {
         self.line
     }
 
-    /// Where it stands.
+    /// Returns its place.
     pub(crate) fn place(&self) -> LinePlace
         ensures { result ≡ place_of self.now }
     {
@@ -81,21 +82,21 @@ impl<'a> LintLine<'a> {
         }
     }
 
-    /// Its bytes, without the newline.
+    /// Returns its bytes, without the newline.
     pub(crate) fn bytes(&self) -> &'a [u8]
         ensures { result.now ≡ self.now.bytes }
     {
         self.bytes
     }
 
-    /// The comment beside its string, if it has both.
+    /// Returns the comment after its string, if it has both.
     pub(crate) fn comment(&self) -> Option<&'a str>
         ensures { option_copied result ≡ self.now.comment }
     {
         self.comment
     }
 
-    /// What it writes for a text, if it reads as a production.
+    /// Returns its string and result name, if it is a production.
     pub(crate) fn written(&self) -> Option<&Written<'a>>
         ensures { option_copied result ≡ self.now.written }
     {
@@ -103,7 +104,7 @@ impl<'a> LintLine<'a> {
     }
 }
 
-/// The lines of the source with this index. O(bytes).
+/// Returns the lines of the source with this index. O(bytes).
 pub(crate) fn lines_in<'a>(
     alloc: Global,
     names: &Names,
@@ -125,7 +126,7 @@ pub(crate) fn lines_in<'a>(
     Ok(lines)
 }
 
-/// The line with these bytes, under this number in the source with this index. O(bytes).
+/// Returns the line with these bytes and this number in the source with this index. O(bytes).
 pub(crate) fn line_read<'a>(
     alloc: Global,
     names: &Names,
@@ -149,7 +150,7 @@ pub(crate) fn line_read<'a>(
     })
 }
 
-/// What a production writes for a text.
+/// Returns the string and the result name of a production.
 fn written_in<'a>(production: Option<&Production<'a>>) -> Option<Written<'a>>
     ensures { result ≡ option_map (λ p. p.written) (option_copied production.entry) }
 {
@@ -162,7 +163,7 @@ fn written_in<'a>(production: Option<&Production<'a>>) -> Option<Written<'a>>
     }
 }
 
-/// The bytes without a UTF-8 byte order mark at their beginning.
+/// Returns the bytes without the UTF-8 byte order mark at their beginning.
 fn without_mark(bytes: &[u8]) -> &[u8]
     ensures { result.now ≡ without_mark bytes.now }
 {

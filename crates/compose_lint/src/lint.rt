@@ -1,4 +1,4 @@
-//! What is found in a table.
+//! The findings in a table.
 ghost use Rattle.std.specs.Prelude.{◌≡◌, ℕ, List, map, IfOk, bytes_eq};
 ghost use Rattle.std.specs.Borrow.{Bor};
 ghost use Rattle.indexmap.specs.IndexMap.{get_by, get_by_text};
@@ -21,12 +21,13 @@ use compose_read::{ReadFault, Sources};
 use keysym_core::Names;
 use std::alloc::{AllocError, Global};
 
-/// What is found in the lines of the sources, each line once: by source, by line, and in a line by
-/// kind. Of the given faults, those of these sources, a line has the first one that stands in it. A
-/// faulty line defines nothing. Of other readers only those that are asked for are found, and what
-/// included files say too only where all is asked for. O(bytes + lines × faults) time, and memory
-/// for the lines of all sources and the findings; where all is asked for, the lines that a source
+/// Returns the findings in the lines of the sources, each line once: by source, then by line, and
+/// within a line by kind. `faults` are faults of these sources; of the faults in a line only the
+/// first one is a finding. A faulty line defines nothing. Only the wanted readers are considered,
+/// and lines are compared with included files only if `is_all`. O(bytes + lines × faults) time, and
+/// memory for the lines of all sources and the findings; if `is_all`, the lines that a source
 /// includes are read and kept for each source.
+/// Errors: `AllocError` if memory runs out.
 pub fn find_findings(
     alloc: Global,
     names: &Names,
@@ -42,7 +43,7 @@ pub fn find_findings(
     findings_of(alloc, names, readers, faults, &files)
 }
 
-/// What is found in the lines of these files.
+/// Returns the findings in the lines of these files.
 pub(crate) fn findings_of(
     alloc: Global,
     names: &Names,
@@ -69,7 +70,7 @@ pub(crate) fn findings_of(
     findings_by(alloc, names, readers, faults, all)
 }
 
-/// The same by what the lines of all files say of a line.
+/// Returns the findings in the lines of all files, given what the files contribute together.
 fn findings_by(
     alloc: Global,
     names: &Names,

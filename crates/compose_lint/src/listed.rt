@@ -1,4 +1,4 @@
-//! What a line of a list has to be to accept a finding.
+//! The line of a list that accepts a finding.
 ghost use Rattle.std.specs.Prelude.{◌≡◌, ◌++◌, IfOk, OnOk, string_bytes};
 ghost use Rattle.compose_shown.specs.Shown as shown;
 ghost use Rattle.compose_lint.specs.Accepted as words;
@@ -11,8 +11,8 @@ use compose_text::blank_len;
 use std::alloc::{AllocError, Global};
 use std::fmt::Write;
 
-/// The word of the kind, a colon and a blank, and the line in which the finding stands, without the blanks at its ends. O(bytes of the
-/// line).
+/// Returns the word of the kind, a colon and a blank, and the line of the finding, without blanks
+/// at its ends. O(bytes of the line).
 pub(crate) fn listed_text(alloc: Global, row: &Row<'_>) -> Result<String, AllocError>
     ensures { IfOk result (λ text. string_bytes text ≡ words.listed_text row.now) }
 {
@@ -23,14 +23,14 @@ pub(crate) fn listed_text(alloc: Global, row: &Row<'_>) -> Result<String, AllocE
     Ok(text)
 }
 
-/// The line without the blanks at its ends.
+/// Returns the line without blanks at its ends.
 fn without_blanks(line: &[u8]) -> &[u8]
     ensures { result.now ≡ words.without_blanks line.now }
 {
     without_last_blanks(behind(line, blank_len(line)))
 }
 
-/// The line without the blanks at its end.
+/// Returns the line without blanks at its end.
 fn without_last_blanks(line: &[u8]) -> &[u8]
     ensures { result.now ≡ words.without_last_blanks line.now }
 {
@@ -65,7 +65,7 @@ fn push_character(text: &mut String, character: char) -> Result<(), AllocError>
     text.push(character)
 }
 
-/// Whether a terminal may take the character for an instruction.
+/// Returns whether a terminal may interpret the character as a control.
 fn is_unsafe(number: u32) -> bool
     ensures { result ≡ shown.is_unsafe number }
 {

@@ -14,11 +14,11 @@ use indexmap::IndexMap;
 use keysym_core::Keysym;
 use std::alloc::{AllocError, Global};
 
-/// For each proper prefix of a sequence where the last line stands that defines a longer sequence.
+/// For each proper prefix of a sequence, the place of the last line that defines a longer sequence.
 pub(crate) type LongerPlaces<'a> = IndexMap<&'a [Keysym], LinePlace>;
 
-/// For each proper prefix of a sequence of these lines where the last line stands that defines a
-/// longer sequence. O(keysyms²), of which a sequence has 32 at most.
+/// Returns, for each proper prefix of a sequence of these lines, the place of the last line that
+/// defines a longer sequence. O(keysyms²) for each sequence, which has 32 keysyms at most.
 pub(crate) fn longer_places<'a>(
     alloc: Global,
     files: &'a [SourceLines<'_>],
@@ -34,7 +34,7 @@ pub(crate) fn longer_places<'a>(
     Ok(places)
 }
 
-/// Adds the places of these lines, which follow the others.
+/// Adds the places of these lines, which follow the lines added before.
 fn add_lines<'a>(places: &mut LongerPlaces<'a>, lines: &'a [LintLine<'_>]) -> Result<(), AllocError>
     ensures { OnOk result
         ((q : Bor (List ℕ))
@@ -50,7 +50,7 @@ fn add_lines<'a>(places: &mut LongerPlaces<'a>, lines: &'a [LintLine<'_>]) -> Re
     Ok(())
 }
 
-/// Puts the place at each proper prefix of the sequence.
+/// Sets the place for each proper prefix of the sequence.
 fn add_prefixes<'a>(
     places: &mut LongerPlaces<'a>,
     sequence: &'a [Keysym],

@@ -1,4 +1,4 @@
-//! What a production writes.
+//! The parts of a production.
 ghost use Rattle.std.specs.Prelude.{◌≡◌};
 ghost use Rattle.compose_lint.specs.Productions.{production_of};
 
@@ -6,8 +6,8 @@ use arrayvec::ArrayVec;
 use compose_lex::{Said, lex_line_into};
 use std::marker::Model;
 
-/// What a production writes for the text of its keys: what stands between the quotes of its string,
-/// and the name of its result keysym.
+/// The right-hand side of a production: what is between the quotes of its string, and the name of
+/// its result keysym.
 #[derive(Drop)]
 pub(crate) struct Written<'a> {
     pub(crate) raw_text: Option<&'a str>,
@@ -26,7 +26,7 @@ impl<'a> Model for Written<'a> {
     } };
 }
 
-/// What a production writes: the names of its keys, and what stands for their text.
+/// A production: the names of its keys, and its string and result name.
 #[derive(Drop)]
 pub(crate) struct Production<'a> {
     pub(crate) events: ArrayVec<&'a str, 32>,
@@ -48,14 +48,14 @@ impl<'a> Model for Production<'a> {
 impl<'a> Written<'a> {
     ghost use Rattle.std.specs.Prelude.{◌≡◌, option_copied};
 
-    /// What stands between the quotes of the string, if there is one.
+    /// Returns what is between the quotes of the string, if there is one.
     pub(crate) fn raw_text(&self) -> Option<&'a str>
         ensures { option_copied result ≡ self.now.raw }
     {
         self.raw_text
     }
 
-    /// The name of the result keysym, if there is one.
+    /// Returns the name of the result keysym, if there is one.
     pub(crate) fn result_name(&self) -> Option<&'a str>
         ensures { option_copied result ≡ self.now.name }
     {
@@ -63,7 +63,7 @@ impl<'a> Written<'a> {
     }
 }
 
-/// What the line writes, if it reads as a production. O(bytes).
+/// Returns the production on the line, if it is one. O(bytes).
 pub(crate) fn production_of(line: &[u8]) -> Option<Production<'_>>
     ensures { result ≡ production_of line.now }
 {

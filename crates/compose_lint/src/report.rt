@@ -1,4 +1,4 @@
-//! How findings are printed.
+//! Findings as printed text.
 ghost use Rattle.std.specs.Prelude.{◌≡◌, ◌++◌, map, IfOk, OnOk, string_bytes};
 ghost use Rattle.compose_lint.specs.Report as words;
 
@@ -10,7 +10,7 @@ use compose_shown::Shown;
 use std::alloc::{AllocError, Global};
 use std::fmt::Write;
 
-/// The word of a reader.
+/// Returns the word of a reader.
 pub(crate) fn reader_word(reader: Reader) -> &'static str
     ensures { result.now ≡ words.reader_word reader }
 {
@@ -22,7 +22,7 @@ pub(crate) fn reader_word(reader: Reader) -> &'static str
     }
 }
 
-/// What a reader makes of the lines of a class.
+/// Returns the sentence about a class: what a reader does with its lines.
 fn class_sentence(class: Class) -> &'static str
     ensures { result.now ≡ words.class_said class }
 {
@@ -45,7 +45,7 @@ fn class_sentence(class: Class) -> &'static str
     }
 }
 
-/// The word of a kind.
+/// Returns the word of a kind.
 pub(crate) fn kind_word(kind: Kind) -> &'static str
     ensures { result.now ≡ words.kind_word kind }
 {
@@ -63,7 +63,7 @@ pub(crate) fn kind_word(kind: Kind) -> &'static str
     }
 }
 
-/// The path of the source with this index; nothing where there is none.
+/// Returns the path of the source with this index; an empty text if there is none.
 pub(crate) fn path_of<'a>(paths: &[&'a str], source: usize) -> &'a str
     ensures { result.now ≡ words.path_of (map (λ path. path.now) paths.now) source }
 {
@@ -108,7 +108,7 @@ pub(crate) fn push_sentence(text: &mut String, row: &Row<'_>) -> Result<(), Allo
     }
 }
 
-/// The sentence of a kind that names no other line.
+/// Returns the sentence of a kind that names no other line.
 fn own_sentence(kind: Kind) -> &'static str
     ensures { result.now ≡ words.own_sentence kind }
 {
@@ -124,7 +124,7 @@ fn own_sentence(kind: Kind) -> &'static str
     }
 }
 
-/// Adds the sentence of the fault with this index.
+/// Adds the message of the fault with this index.
 fn push_fault_sentence(text: &mut String, row: &Row<'_>, index: usize) -> Result<(), AllocError>
     ensures { OnOk result
         (string_bytes text.new
@@ -138,7 +138,7 @@ fn push_fault_sentence(text: &mut String, row: &Row<'_>, index: usize) -> Result
     Ok(())
 }
 
-/// Adds a sentence on the line with this number.
+/// Adds a sentence that names the line with this number.
 fn push_line_sentence(text: &mut String, line: usize, sentence: &str) -> Result<(), AllocError>
     ensures { OnOk result
         (string_bytes text.new
@@ -148,7 +148,7 @@ fn push_line_sentence(text: &mut String, line: usize, sentence: &str) -> Result<
     Ok(())
 }
 
-/// Adds a sentence on the line at this place.
+/// Adds a sentence that names the line at this place.
 fn push_place_sentence(
     text: &mut String,
     paths: &[&str],
@@ -165,7 +165,8 @@ fn push_place_sentence(
     Ok(())
 }
 
-/// The column of a finding: of a fault its own, and else 1. O(bytes of the source).
+/// Returns the column of a finding, from 1: that of the fault, or 1 if it is not a fault. O(bytes
+/// of the source).
 pub(crate) fn column_of(row: &Row<'_>) -> usize
     ensures { result ≡ words.column_of row.now }
 {
@@ -175,7 +176,7 @@ pub(crate) fn column_of(row: &Row<'_>) -> usize
     }
 }
 
-/// The column of the fault with this index.
+/// Returns the column of the fault with this index, from 1.
 fn fault_column(row: &Row<'_>, index: usize) -> usize
     ensures { result ≡ words.fault_column row.now index }
 {
@@ -188,7 +189,7 @@ fn fault_column(row: &Row<'_>, index: usize) -> usize
     }
 }
 
-/// The findings as text, a line for each. O(findings + faults × bytes of a source).
+/// Returns the findings as text, a line for each. O(findings + faults × bytes of a source).
 pub(crate) fn rows_text(alloc: Global, rows: &[Row<'_>]) -> Result<String, AllocError>
     ensures { IfOk result (λ text. string_bytes text ≡ words.rows_text rows.now) }
 {
@@ -209,7 +210,7 @@ fn push_line(text: &mut String, row: &Row<'_>) -> Result<(), AllocError>
     text.push_str("\n")
 }
 
-/// Adds where a finding stands, and the word of its kind.
+/// Adds the place of a finding, and the word of its kind.
 fn push_head(text: &mut String, row: &Row<'_>) -> Result<(), AllocError>
     ensures { OnOk result
         (string_bytes text.new ≡ string_bytes text.old ++ words.row_head row.now) }

@@ -1,4 +1,4 @@
-//! What is found in tables, each finding with what its table says of it.
+//! The findings in tables, each with the table's data that its row needs.
 ghost use Rattle.std.specs.Prelude.{◌≡◌, map, flat_map, IfOk};
 ghost use Rattle.compose_messages.specs.Places.{line_at};
 ghost use Rattle.compose_lint.specs.Answers.{table_given};
@@ -15,10 +15,10 @@ use keysym_core::Names;
 use std::alloc::{AllocError, Global};
 use std::marker::Model;
 
-/// How many faults of a table are looked at.
+/// The greatest number of faults of a table that are reported.
 const MOST_FAULTS: usize = 1000;
 
-/// A finding, the sources, the paths and the first faults of its table, and the bytes of the line in which it stands.
+/// A finding, the sources, the paths and the first faults of its table, and the bytes of its line.
 #[derive(Drop)]
 pub(crate) struct Row<'a> {
     pub(crate) sources: &'a Sources,
@@ -46,7 +46,7 @@ impl<'a> Model for Row<'a> {
 impl<'a> Row<'a> {
     ghost use Rattle.std.specs.Prelude.{◌≡◌};
 
-    /// The same once more.
+    /// Returns a copy.
     pub(crate) fn again(&self) -> Row<'a>
         ensures { result ≡ self.now }
     {
@@ -59,14 +59,14 @@ impl<'a> Row<'a> {
         }
     }
 
-    /// What is found.
+    /// Returns the finding.
     pub(crate) fn finding(&self) -> Finding
         ensures { result ≡ self.now.finding }
     {
         self.finding
     }
 
-    /// The bytes of the line in which it stands.
+    /// Returns the bytes of the line of the finding.
     pub(crate) fn bytes(&self) -> &'a [u8]
         ensures { result.now ≡ self.now.bytes }
     {
@@ -90,7 +90,7 @@ impl<'a> Model for FaultyTable<'a> {
     ghost view = { λ t. record { table = table_given t.table; faults = t.faults.items } };
 }
 
-/// The tables, each with its first faults. At the cost of `read_faults` for each.
+/// Returns the tables, each with its first faults. Takes the time of `read_faults` for each.
 pub(crate) fn with_faults<'a>(
     alloc: Global,
     names: &Names,
@@ -108,7 +108,7 @@ pub(crate) fn with_faults<'a>(
     Ok(faulty)
 }
 
-/// The table with its first faults.
+/// Returns the table with its first faults.
 fn faulty_table<'a>(
     alloc: Global,
     names: &Names,
@@ -122,7 +122,7 @@ fn faulty_table<'a>(
     Ok(FaultyTable { table, faults })
 }
 
-/// The faults, but for those of lines that are left out.
+/// Returns the faults, except those of skipped lines.
 fn left_faults(
     alloc: Global,
     skip_faulty: bool,
@@ -142,7 +142,7 @@ fn left_faults(
     Ok(left)
 }
 
-/// Whether the fault is that of an include, which is in no line by itself.
+/// Returns whether the fault is that of an include, whose line is valid by itself.
 fn is_of_include(fault: &ReadFault) -> bool
     ensures { result ≡ words.is_of_include fault.now }
 {
@@ -152,7 +152,7 @@ fn is_of_include(fault: &ReadFault) -> bool
     )
 }
 
-/// The first faults of a table.
+/// Returns the first faults of a table.
 fn first_faults(
     alloc: Global,
     names: &Names,
@@ -163,14 +163,15 @@ fn first_faults(
     read_faults(alloc, names, sources, root_of(sources), MOST_FAULTS)
 }
 
-/// The name of the first source, from which a table is read; nothing where there is none.
+/// Returns the name of the first source, from which a table is read; an empty text if there is
+/// none.
 fn root_of(sources: &Sources) -> &str
     ensures { result.now ≡ words.root_of sources.now }
 {
     sources.name(0).unwrap_or("")
 }
 
-/// What is found in the tables, in their order.
+/// Returns the findings in the tables, in the order of the tables.
 pub(crate) fn rows_in<'a>(
     alloc: Global,
     names: &Names,
@@ -189,7 +190,7 @@ pub(crate) fn rows_in<'a>(
     Ok(rows)
 }
 
-/// What is found in a table, in order.
+/// Returns the findings in a table, in order.
 fn faulty_rows<'a>(
     alloc: Global,
     names: &Names,
@@ -203,7 +204,7 @@ fn faulty_rows<'a>(
     rows_by(alloc, names, readers, is_all, table.table, &table.faults)
 }
 
-/// What is found in a table, in order, where these are the faults that are read.
+/// Returns the findings in a table, in order, if these are its faults.
 fn rows_by<'a>(
     alloc: Global,
     names: &Names,
@@ -221,7 +222,7 @@ fn rows_by<'a>(
     rows_of(alloc, table, faults, &files, &found)
 }
 
-/// These findings with what their table says of them.
+/// Returns these findings with the data of their table.
 fn rows_of<'a>(
     alloc: Global,
     table: LintTable<'a>,
@@ -240,7 +241,7 @@ fn rows_of<'a>(
     Ok(rows)
 }
 
-/// A finding with what its table says of it.
+/// Returns a finding with the data of its table.
 fn row_of<'a>(
     table: LintTable<'a>,
     faults: &'a [ReadFault],
@@ -258,7 +259,7 @@ fn row_of<'a>(
     }
 }
 
-/// The bytes of the line of these files in which the finding stands; nothing where there is none.
+/// Returns the bytes of the line of the finding in these files; nothing if there is no such line.
 fn line_bytes<'a>(files: &[SourceLines<'a>], finding: Finding) -> &'a [u8]
     ensures { result.now ≡ words.bytes_in files.now finding }
 {

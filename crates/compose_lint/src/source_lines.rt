@@ -9,7 +9,7 @@ use keysym_core::Names;
 use std::alloc::{AllocError, Global};
 use std::marker::Model;
 
-/// A source: its bytes, its lines, and the lines that it includes, where these are asked for.
+/// A source: its bytes, its lines, and the lines that it includes, if these are wanted.
 #[derive(Drop)]
 pub(crate) struct SourceLines<'a> {
     pub(crate) bytes: &'a [u8],
@@ -51,8 +51,8 @@ impl<'a> SourceLines<'a> {
     }
 }
 
-/// The lines of all sources, by source, with the lines that each includes where all is asked for.
-/// O(bytes); where all is asked for, O(bytes of the lines that are read from each source).
+/// Returns the lines of all sources, by source, and with `is_all` the lines that each includes.
+/// O(bytes); with `is_all`, O(bytes of the lines that are read from each source).
 pub(crate) fn all_sources<'a>(
     alloc: Global,
     names: &Names,
@@ -75,7 +75,7 @@ pub(crate) fn all_sources<'a>(
     Ok(files)
 }
 
-/// The lines that the source with this index includes, where all is asked for.
+/// Returns the lines that the source with this index includes if `is_all`, and otherwise none.
 fn included_if<'a>(
     alloc: Global,
     names: &Names,

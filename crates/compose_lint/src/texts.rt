@@ -1,4 +1,4 @@
-//! What is wrong with a text by itself.
+//! Findings in a text alone.
 ghost use Rattle.std.specs.Prelude.{◌≡◌, IfOk, bytes_eq, encode_utf8, option_copied, string_bytes};
 ghost use Rattle.std.specs.Option.{option_and_then};
 ghost use Rattle.keysym_core.specs.Names.{value, character_of};
@@ -11,7 +11,7 @@ use std::alloc::{AllocError, Global};
 use unicode_normalization::char::canonical_combining_class;
 use unicode_normalization::{is_nfc, to_nfc};
 
-/// Whether the text has one combining mark twice in a row. O(characters).
+/// Returns whether the text has one combining mark twice in a row. O(characters).
 pub(crate) fn repeats_mark(text: &str) -> bool
     ensures { result ≡ words.repeats_mark text.now }
 {
@@ -20,28 +20,28 @@ pub(crate) fn repeats_mark(text: &str) -> bool
         .any(|pair| pair.0 == pair.1 && is_mark(pair.0))
 }
 
-/// Whether the character combines with the one before it.
+/// Returns whether the character combines with the one before it.
 fn is_mark(character: char) -> bool
     ensures { result ≡ words.is_mark character }
 {
     canonical_combining_class(character) != 0
 }
 
-/// Whether the text is in normal form C. O(characters).
+/// Returns whether the text is in normal form C. O(characters).
 pub(crate) fn is_normal(alloc: Global, text: &str) -> Result<bool, AllocError>
     ensures { IfOk result (λ is. is ≡ words.is_normal text.now) }
 {
     is_nfc(alloc, text)
 }
 
-/// The text in normal form C. O(characters).
+/// Returns the text in normal form C. O(characters).
 pub(crate) fn normal_form(alloc: Global, text: &str) -> Result<String, AllocError>
     ensures { IfOk result (λ form. string_bytes form ≡ words.normal_form text.now) }
 {
     to_nfc(alloc, text)
 }
 
-/// Whether a string has the name of a keysym beside it that has another character.
+/// Returns whether the line has a string, and after it the name of a keysym with another character.
 pub(crate) fn has_other_character(
     names: &Names,
     written: &Written<'_>,
@@ -58,7 +58,7 @@ pub(crate) fn has_other_character(
     }
 }
 
-/// The character of the keysym of this name, if both are there.
+/// Returns the character of the keysym with this name, if both exist.
 fn named_character(names: &Names, name: Option<&str>) -> Option<char>
     ensures { result
         ≡ option_and_then
@@ -68,7 +68,7 @@ fn named_character(names: &Names, name: Option<&str>) -> Option<char>
     names.text_of(names.lookup(name?)?)
 }
 
-/// Whether the text is the character alone.
+/// Returns whether the text is this character alone.
 fn is_text_of(character: char, text: &str) -> bool
     ensures { result ≡ bytes_eq (encode_utf8 character) text.now }
 {

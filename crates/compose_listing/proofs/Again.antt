@@ -1,4 +1,4 @@
--- Reading what is listed gives the table again.
+-- A listing is read as the same table.
 use Rattle.std.proofs.Common.{◌≡◌, ℕ, suc, ◌+◌, ◌-◌, ◌≤◌, ◌<◌, List, [], ◌∷◌, ◌++◌, Bool, true, false, not, ◌&&◌, ◌||◌, cond, ◌/◌, ◌%◌, length, get_or, map, take, drop, refl, sym, ◌∙◌, ap, ap₂, subst, inl, inr, arith, append_assoc, nat_lt, nat_le, lit≤, leb-true, le-leb, eqb-true, ltb-true, ltb-false, ne_eqb}
 use Rattle.std.specs.Prelude.{◌==◌, nat_eq, Option, Some, None, Result, Ok, Err, IsOk, flat_map, codes, unwrap_or, option_to_list}
 use Rattle.std.specs.Fmt.{decimal}
@@ -121,7 +121,7 @@ sequence_given names v index (key ∷ keys) s e h = by_value (λ t f g. sequence
         not_true true h = cc
         not_true false h = refl
 
--- ---- each line gives the definition of its sequence
+-- ---- each line defines its sequence
 
 module _ (names : KeysymNames) (sources : List Source) (paths : List (List ℕ)) (lines : List Visit) (table : List Definition) where
   abbrev pub text_for : List ℕ → List ℕ

@@ -24,7 +24,7 @@ use Rattle.compose_listing.specs.declared.form.ListForm.{ListForm}
 use Rattle.compose_listing.specs.declared.form.ListForm.TheVariants.{Lines, Json}
 use Rattle.compose_listing.proofs.Lines.{tested}
 
--- the list of the first keys is a proper prefix of what goes on from all of them
+-- the list of the first keys is a proper prefix of every list that goes on from all keys
 begun : (i k : ℕ) (keys : List ℕ) → i ≤ length keys → is_proper_prefix (take i keys) (keys ++ k ∷ []) ≡ true
 begun i k [] h = none i
   where
@@ -46,7 +46,7 @@ further (i ∷ p) (j ∷ q) (k ∷ s) g h =
     and_from (i == k) (is_proper_prefix p s) (eq-eqb i k (eqb-true i j first.0 ∙ eqb-true j k second.0)) (further p q s first.1 second.1)
 
 module _ (table : List Definition) (settled : IsSettled table) (keys : List ℕ) where
-  -- where nothing goes on from the first of the keys, nothing follows all of them
+  -- if no sequence goes on from the first of the keys, none goes on from all of them
   pub none_follow : (i : ℕ) → i ≤ length keys → is_extended table (take i keys) ≡ false → edges table keys ≡ []
   none_follow i h e = none_kept (keysyms table)
     where
@@ -73,14 +73,14 @@ module _ (table : List Definition) (settled : IsSettled table) (keys : List ℕ)
     led : (t : Option Target) → t ≡ target_of table (node table n) k → Leads table (node table n) k t
     led t e = subst (Leads table (node table n) k) (sym e) (leads table (node table n) k)
 
-    -- where a key leads nowhere, or to a leaf
+    -- if a key leads nowhere, or to a leaf
     pub follow_nowhere : None ≡ target_of table (node table n) k → edges table keys ≡ []
     follow_nowhere e = none_follow (i + 1) (omega arith) (ap (is_extended table) (sym taken) ∙ (led None e).extended)
 
     pub follow_no_leaf : (l : LeafId) → Some (Leaf l) ≡ target_of table (node table n) k → edges table keys ≡ []
     follow_no_leaf l e = none_follow (i + 1) (omega arith) (ap (is_extended table) (sym taken) ∙ (led (Some (Leaf l)) e).extended)
 
-    -- where it leads to a node
+    -- if it leads to a node
     pub to_next : (m : NodeId) → Some (Node m) ≡ target_of table (node table n) k → (m.0 < length (nodes table)) × (node table m.0 ≡ take (i + 1) keys)
     to_next m e =
         let t = led (Some (Node m)) e in (t.in_range, ap (node table) (sym t.number) ∙ node_at_number table (node table n ++ k ∷ []) t.is_node ∙ taken)
@@ -120,7 +120,7 @@ any_count Json key text n m = refl
 
 -- ---- a line for each edge
 
--- one line more
+-- one more line
 pub line_more : (f : ℕ → List ℕ) (ks : List ℕ) (i k : ℕ) (lines more : List ℕ) → slice_get ks i ≡ Some k → lines ≡ flat_map f (take i ks) → more ≡ lines ++ f k → more ≡ flat_map f (take (i + 1) ks)
 line_more f ks i k lines more at so_far e =
     e ∙ ap (λ t. t ++ f k) so_far

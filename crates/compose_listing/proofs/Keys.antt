@@ -33,7 +33,7 @@ module _ (names : KeysymNames) where
       ap₂ (λ a b. a && b) (ap (λ o. option_map_or (is_key repertoire) o false) first.value_is) (typable_keys repertoire keys first.others first.named)
       ∙ ap (list_all (is_key repertoire)) (sym first.is)
 
--- a test of keys that are lent is one of the keys
+-- a test of borrowed keys is one of the keys
 pub all_lent : (f : List ℕ → Bool) (keys : List (Bor (List ℕ))) → list_all (λ key. f key.now) keys ≡ list_all f (map (λ key. key.now) keys)
 all_lent f [] = refl
 all_lent f (key ∷ keys) = ap (λ b. f key.now && b) (all_lent f keys)

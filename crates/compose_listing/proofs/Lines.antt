@@ -1,4 +1,4 @@
--- What is printed of leaves is that of their sequences.
+-- What is printed of leaves is what is printed of their sequences.
 use Rattle.std.proofs.Common.{◌≡◌, ℕ, ◌+◌, ◌<◌, arith, List, [], ◌∷◌, ◌++◌, Bool, true, false, cond, ◌&&◌, length, get_or, map, take, refl, sym, ◌∙◌, ap, ap₂, subst, Option, Some, None, lt-ltb}
 use Rattle.std.specs.Prelude.{nat_lt, flat_map, filter, unwrap_or, slice_get, option_map}
 use Rattle.std.specs.List.{All}
@@ -43,7 +43,7 @@ pub first_root : (sources : List Source) (root : List ℕ) → Some root ≡ opt
 first_root [] root h = cc
 first_root (s ∷ sources) root h = same_Some root s.name h
 
--- one leaf more, of those that pass a test
+-- one more leaf, of those that pass a test
 numbered_more : (f : LeafId → Bool) (i : ℕ) (b : Bool) → f (leaf_id i) ≡ b → filter f (leaf_ids (i + 1)) ≡ filter f (leaf_ids i) ++ cond b (leaf_id i ∷ []) []
 numbered_more f i b passes =
     let here : 0 + i ≡ i = omega arith in
@@ -55,7 +55,7 @@ numbered_yes f i xs ys so_far passes e = e ∙ ap (λ t. t ++ leaf_id i ∷ []) 
 pub numbered_no : (f : LeafId → Bool) (i : ℕ) (xs ys : List LeafId) → xs ≡ filter f (leaf_ids i) → f (leaf_id i) ≡ false → ys ≡ xs → ys ≡ filter f (leaf_ids (i + 1))
 numbered_no f i xs ys so_far passes e = e ∙ so_far ∙ sym (append-nil (filter f (leaf_ids i))) ∙ sym (numbered_more f i false passes)
 
--- the same of a list
+-- the same for a list
 listed_more : (f : LeafId → Bool) (ls : List LeafId) (i : ℕ) (b : Bool) (l : LeafId) → i < length ls → l ≡ get_or ls i l → f l ≡ b → filter f (take (i + 1) ls) ≡ filter f (take i ls) ++ cond b (l ∷ []) []
 listed_more f ls i b l below is passes =
     filter_more f ls i l below ∙ ap (λ m. filter f (take i ls) ++ cond (f m) (m ∷ []) []) (sym is) ∙ ap (λ c. filter f (take i ls) ++ cond c (l ∷ []) []) passes
@@ -68,7 +68,7 @@ pub listed_no : (f : LeafId → Bool) (ls : List LeafId) (i : ℕ) (l : LeafId) 
     → ys ≡ filter f (take (i + 1) ls)
 listed_no f ls i l xs ys below is so_far passes e = e ∙ so_far ∙ sym (append-nil (filter f (take i ls))) ∙ sym (listed_more f ls i false l below is passes)
 
--- those that pass a test of what each is of
+-- the values of those elements whose values pass a test are those values that pass it
 pub filter_of_map : {X Y : Type 0} (f : X → Y) (p : X → Bool) (q : Y → Bool) (xs : List X) → All (λ x. p x ≡ q (f x)) xs → map f (filter p xs) ≡ filter q (map f xs)
 filter_of_map f p q [] h = refl
 filter_of_map f p q (x ∷ xs) h = go (p x) (q (f x)) (All-head (λ x. p x ≡ q (f x)) x xs h) (filter_of_map f p q xs (All-tail (λ x. p x ≡ q (f x)) x xs h))
@@ -86,7 +86,7 @@ typed_are table repertoire text ls e =
     filter_of_map (sequence_at table) (λ leaf. is_typable repertoire (sequence_at table leaf)) (is_typable repertoire) ls (λ k d h. refl)
     ∙ ap (filter (is_typable repertoire)) e
 
--- the leaves that are chosen have the sequences that are
+-- the leaves that are chosen have the sequences that are chosen
 pub chosen_are : (table : List Definition) → IsSettled table → (keys : List ℕ) (text : Option (List ℕ)) (n : ℕ) → n ≡ length (leaves table)
     → map (sequence_at table) (filter (is_chosen table keys text) (leaf_ids n)) ≡ chosen table keys text
 chosen_are table settled keys text n e =
@@ -100,7 +100,7 @@ chosen_are table settled keys text n e =
     asked None leaf below = refl
     asked (Some t) leaf below = text_given table settled leaf below t
 
--- the leaves that are chosen are the table's
+-- the leaves that are chosen are leaves of the table
 pub chosen_within : (table : List Definition) (keys : List ℕ) (text : Option (List ℕ)) (n : ℕ) → n ≡ length (leaves table) → All (IsLeaf table) (filter (is_chosen table keys text) (leaf_ids n))
 chosen_within table keys text n e =
     subst (λ m. All (IsLeaf table) (filter (is_chosen table keys text) (leaf_ids m))) (sym e)
@@ -136,7 +136,7 @@ module _ (form : ListForm) (names : KeysymNames) (visits : List Visit) (paths : 
       ∙ ap (flat_map (sequence_line form names visits paths table))
       (first_of_map (sequence_at table) first ts ∙ ap (shown_of first) (ap (map (sequence_at table)) are_typable ∙ typed_are table repertoire text ls e))
 
--- one text more
+-- one more text
 pub text_after : {X S : Type 0} (now : S → List ℕ) (f : List ℕ → List X) (texts : List S) (i : ℕ) (t : S) → i < length texts → t ≡ get_or texts i t
     → (all more : List X) → all ≡ flat_map f (map now (take i texts)) → more ≡ all ++ f (now t) → more ≡ flat_map f (map now (take (i + 1) texts))
 text_after now f texts i t below is all more so_far e =

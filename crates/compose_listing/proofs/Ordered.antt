@@ -22,7 +22,7 @@ use Rattle.compose_listing.specs.Chosen.{text_for, place_of, place_for, place_cm
 use Rattle.compose_listing.specs.Leaves.{place_at}
 use Rattle.compose_listing.proofs.Lines.{tested, filter_of_map}
 
--- what ascends by keys that are those of what each is of
+-- if elements are sorted by the keys of their values, their values are sorted by these keys
 sorted_map : {X Y K : Type 0} (f : X → Y) (a : X → K) (b : Y → K) (cmp : K → K → Ordering) (xs : List X) → All (λ x. a x ≡ b (f x)) xs → IsSortedByKey a cmp xs → IsSortedByKey b cmp (map f xs)
 sorted_map f a b cmp [] same rise k d low high = absurd (omega arith)
 sorted_map f a b cmp (x ∷ xs) same rise k d low high =

@@ -48,12 +48,12 @@ module _ (header : List ℕ) (given : TableSources) (repertoire : Option (List �
   typed_refused refusal h = step_refused refusal (type_parts header [] given) with_typed h
 
   module _ (p : TypedParts) (typed : type_parts header [] given ≡ Ok p) where
-    -- and else a refusal of the repertoire
+    -- and otherwise a refusal of the repertoire
     pub repertoire_refused : (refusal : Refusal) → IsRefused refusal (given_repertoire repertoire) → IsRefused refusal (how_parts header given repertoire)
     repertoire_refused refusal h =
         subst (λ (s : Result HowParts NoAnswer). IsRefused refusal s) (sym (ap (λ r. r >>= with_typed) typed))
         (step_refused refusal (given_repertoire repertoire) (λ r. Ok (record { typed = p; repertoire = r })) h)
 
-    -- where all is read, these are the parts
+    -- if all parts are read, these are the parts
     pub all_read : (r : Option Repertoire) → IsRead (given_repertoire repertoire) r → how_parts header given repertoire ≡ Ok (record { typed = p; repertoire = r })
     all_read r h = ap (λ q. q >>= with_typed) typed ∙ ap (λ q. q >>= (λ r. let x : Result HowParts NoAnswer = Ok (record { typed = p; repertoire = r }) in x)) (is_read (given_repertoire repertoire) r h)

@@ -1,4 +1,4 @@
--- A listed line says the production of its keys and its text.
+-- A listed line is read as the production of its keys and its text.
 use Rattle.std.proofs.Common.{◌≡◌, ℕ, ◌+◌, ◌/◌, ◌%◌, ◌≤◌, ◌<◌, List, [], ◌∷◌, ◌++◌, Bool, true, false, not, ◌&&◌, ◌||◌, cond, length, refl, sym, ◌∙◌, ap, subst, inl, inr, arith, append_assoc, nat_lt, nat_le}
 use Rattle.std.specs.Prelude.{◌==◌, Option, Some, None, Result, Ok, Err, flat_map, codes, unwrap_or}
 use Rattle.std.specs.Fmt.{decimal}
@@ -22,7 +22,7 @@ use Rattle.compose_places.specs.Counting.{WrittenLine, written_line, sequence_na
 use Rattle.compose_shown.specs.Shown.{shown_text}
 use Rattle.compose_listing.specs.Line.{keys_text, place_comment, listed_line}
 
--- ---- what stands between the quotes
+-- ---- the characters between the quotes
 
 inside_octal : (b : ℕ) (rest : List ℕ) → is_inside_from false (octal_escape b ++ rest) ≡ is_inside_from false rest
 inside_octal b rest =

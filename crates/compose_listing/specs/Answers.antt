@@ -1,4 +1,4 @@
--- What `how` and `list` answer on a table in its sources (this project's profile).
+-- What `how` and `list` answer on the sources of a table (this project's profile).
 use Rattle.std.specs.Prelude.{◌≡◌, ℕ, Bool, nat_lt, if◌then◌else◌, List, [], ◌∷◌, map, take, filter, flat_map, length, Option, Some, None, Result, Ok, string_bytes}
 use Rattle.compose_text.specs.Results.{◌>>=◌}
 use Rattle.keysym_core.specs.Names.{KeysymNames}
@@ -20,18 +20,19 @@ use Rattle.compose_listing.specs.declared.form.ListForm.{ListForm}
 use Rattle.compose_listing.specs.declared.form.ListOrder.{ListOrder}
 use Rattle.compose_listing.specs.declared.how.Ways.{Ways}
 
--- the name of the first source, which is the root; without sources an empty one
+-- the name of the first source, which is the root; empty without sources
 abbrev pub root_of : List Source → List ℕ
 root_of [] = []
 root_of (s ∷ sources) = s.name
 
--- the lines that are read of sources, of which the first is the root
+-- the lines that are read from sources; the first of them is the root
 abbrev pub lines_of_sources : List Source → List Visit
 lines_of_sources sources = read_lines sources (root_of sources)
 
 -- ---- list
 
--- the lines of exactly the sequences that begin with these keys, and give the text if one is asked for, each once and in the order that is asked for
+-- the lines of exactly the sequences that begin with these keys, and give the text if one is asked for, each once and
+-- in the order that is asked for
 pub record IsListing (names : KeysymNames) (visits : List Visit) (paths : List (List ℕ)) (table : List Definition) (keys : List ℕ) (text : Option (List ℕ))
     (order : ListOrder) (form : ListForm) (printed : List ℕ) : Type 0 where
   pub sequences : List (List ℕ)
@@ -44,7 +45,7 @@ IsListed sources paths text order form p (No printed) = ⊥
 IsListed sources paths text order form p (Invalid fault) = ⊥
 IsListed sources paths text order form p (FreshNotAllowed keysym) = ⊥
 
--- a line for each key with which some sequence goes on after the keys
+-- a line for each key with which a sequence goes on after the keys
 abbrev pub IsNext : ListForm → TypedParts → Answer → Type 0
 IsNext form p (Yes printed) = string_bytes printed ≡ next_lines form p.names p.table p.keys
 IsNext form p (No printed) = ⊥
@@ -69,11 +70,11 @@ how_parts header given repertoire = do
   r ← given_repertoire repertoire
   Ok (record { typed = p; repertoire = r })
 
--- all of them, or the first alone
+-- all of them, or only the first
 abbrev pub shown_of : {X : Type 0} → Bool → List X → List X
 shown_of first xs = if first then take 1 xs else xs
 
--- the sequences that give a text and have keys of the repertoire alone, if one is given: the shortest first
+-- the sequences that give a text and have only keys of the repertoire, if one is given: the shortest first
 abbrev pub typed_by : List Definition → Option Repertoire → List ℕ → List (List ℕ)
 typed_by table repertoire text = filter (is_typable repertoire) (shortest_first (giving table text))
 
@@ -85,7 +86,7 @@ ways form names visits paths table repertoire first text = flat_map (sequence_li
 abbrev pub is_given : List Definition → Option Repertoire → List ℕ → Bool
 is_given table repertoire text = nat_lt 0 (length (typed_by table repertoire text))
 
--- for each text in turn its lines, and whether there are any
+-- for one text after another its lines, and whether there are any
 pub record AreWays (sources : List Source) (paths texts : List (List ℕ)) (first : Bool) (form : ListForm) (p : HowParts) (answer : Ways) : Type 0 where
   pub lines : string_bytes answer.lines ≡ flat_map (ways form p.typed.names (lines_of_sources sources) paths p.typed.table p.repertoire first) texts
   pub found : answer.found.items ≡ map (is_given p.typed.table p.repertoire) texts

@@ -1,4 +1,4 @@
--- Which sequences of a table are asked for, and in which order (this project's profile).
+-- The sequences of a table that are asked for, and their order (this project's profile).
 use Rattle.std.specs.Prelude.{◌≡◌, ℕ, Bool, true, ◌&&◌, nat_eq, List, [], filter, unwrap_or, Option, Some, None}
 use Rattle.std.specs.List.{starts_with, list_all}
 use Rattle.std.specs.List.Sorted.{IsPermutation, IsSortedByKey}
@@ -16,7 +16,7 @@ use Rattle.compose_lookup.specs.Lookup.{gives}
 use Rattle.compose_listing.specs.declared.form.ListOrder.{ListOrder}
 use Rattle.compose_listing.specs.declared.form.ListOrder.TheVariants.{Keys, Text, File}
 
--- ---- which
+-- ---- the sequences
 
 -- the sequence begins with these keys
 abbrev pub begins_with : List ℕ → List ℕ → Bool
@@ -26,7 +26,8 @@ begins_with keys s = starts_with nat_eq s keys
 abbrev pub gives_asked : List Definition → Option (List ℕ) → List ℕ → Bool
 gives_asked table text s = option_map_or (λ t. gives table t s) text true
 
--- the sequences of a table that begin with these keys, and give the text if one is asked for, in the order of their keysyms
+-- the sequences of a table that begin with these keys, and give the text if one is asked for, in the order of their
+-- keysyms
 abbrev pub chosen : List Definition → List ℕ → Option (List ℕ) → List (List ℕ)
 chosen table keys text = filter (λ s. begins_with keys s && gives_asked table text s) (leaves table)
 
@@ -35,13 +36,13 @@ abbrev pub is_typable : Option Repertoire → List ℕ → Bool
 is_typable None s = true
 is_typable (Some repertoire) s = list_all (is_key repertoire) s
 
--- ---- in which order
+-- ---- their order
 
 -- the text of a sequence
 abbrev pub text_for : List Definition → List ℕ → List ℕ
 text_for table s = unwrap_or (text_at table s) []
 
--- the index of the source and the number of the line where a sequence is defined that counts
+-- the index of the source and the number of the line of the definition that counts for a sequence
 abbrev pub place_of : Option WrittenLine → ℕ × ℕ
 place_of None = (0, 0)
 place_of (Some line) = (line.place.source, line.place.line)
@@ -53,7 +54,7 @@ place_for names visits s = place_of (counting_line names visits s)
 abbrev pub place_cmp : ℕ × ℕ → ℕ × ℕ → Ordering
 place_cmp a b = ordering_then (nat_cmp a.0 b.0) (nat_cmp a.1 b.1)
 
--- each of these sequences once, by their texts, and those of one text as they were
+-- each of these sequences once, by their texts, and those with the same text in the order that they had
 pub record AreByText (table : List Definition) (sequences ordered : List (List ℕ)) : Type 0 where
   pub each : IsPermutation sequences ordered
   pub rise : IsSortedByKey (text_for table) (slice_cmp nat_cmp) ordered
@@ -64,7 +65,7 @@ pub record AreByPlace (names : KeysymNames) (visits : List Visit) (sequences ord
   pub each : IsPermutation sequences ordered
   pub rise : IsSortedByKey (place_for names visits) place_cmp ordered
 
--- these sequences, which stand in the order of their keysyms, in the order that is asked for
+-- these sequences, which are in the order of their keysyms, in the order that is asked for
 abbrev pub AreInOrder : ListOrder → KeysymNames → List Visit → List Definition → List (List ℕ) → List (List ℕ) → Type 0
 AreInOrder Keys names visits table sequences ordered = ordered ≡ sequences
 AreInOrder Text names visits table sequences ordered = AreByText table sequences ordered

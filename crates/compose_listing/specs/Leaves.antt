@@ -1,4 +1,4 @@
--- The leaves of a table that is listed. Words for private functions.
+-- The leaves of a table that is listed; definitions for private functions.
 use Rattle.std.specs.Prelude.{ℕ, Bool, true, false, ◌&&◌, List, [], get_or, filter, Option, None}
 use Rattle.std.specs.Option.{option_map_or}
 use Rattle.keysym_core.specs.Names.{KeysymNames, value}
@@ -11,7 +11,7 @@ use Rattle.compose_listing.specs.Chosen.{begins_with, is_typable, place_of}
 use Rattle.compose_listing.specs.Listing.{line_of}
 use Rattle.compose_listing.specs.declared.form.ListForm.{ListForm}
 
--- what is printed of a leaf's sequence, where these are the lines that count for the leaves
+-- what is printed of a leaf's sequence, if these are the lines that count for the leaves
 abbrev pub leaf_line : ListForm → List Definition → List (Option WrittenLine) → List (List ℕ) → LeafId → List ℕ
 leaf_line form table lines paths leaf = option_map_or (line_of form paths (text_of table leaf)) (get_or lines leaf.0 None) []
 
@@ -23,7 +23,7 @@ has_asked table text leaf = option_map_or (λ t. has_text table t leaf) text tru
 abbrev pub is_chosen : List Definition → List ℕ → Option (List ℕ) → LeafId → Bool
 is_chosen table keys text leaf = begins_with keys (sequence_at table leaf) && has_asked table text leaf
 
--- those of leaves whose sequences the repertoire's keys can type
+-- those of the leaves whose sequences the repertoire's keys can type
 abbrev pub typable_leaves : List Definition → Option Repertoire → List LeafId → List LeafId
 typable_leaves table repertoire leaves = filter (λ leaf. is_typable repertoire (sequence_at table leaf)) leaves
 

@@ -1,4 +1,5 @@
--- The line of a sequence in the form of a Compose file (Compose(5), "FILE DESCRIPTION"), with its place as a comment; or a JSON object (RFC 8259).
+-- The line of a sequence in the form of a Compose file (Compose(5), "FILE DESCRIPTION"), with its place as a comment;
+-- or a JSON object (RFC 8259).
 use Rattle.std.specs.Prelude.{ℕ, ◌==◌, if◌then◌else◌, List, ◌++◌, length, flat_map, codes}
 use Rattle.std.specs.Fmt.{decimal}
 use Rattle.compose_lex.specs.Escape.{quote}
@@ -11,19 +12,19 @@ use Rattle.compose_listing.specs.declared.form.ListForm.TheVariants.{Lines, Json
 abbrev pub keys_text : List (List ℕ) → List ℕ
 keys_text keys = flat_map (λ key. codes "<" ++ (key ++ codes "> ")) keys
 
--- the text in quotes; where it is empty, the name of the keysym without a text (no string of a Compose file is empty)
+-- the text in quotes, or if it is empty, the name of the keysym without a text (no string of a Compose file is empty)
 abbrev pub result_text : List ℕ → List ℕ
 result_text text = if length text == 0 then codes "VoidSymbol" else quote text
 
--- the path, made harmless for a terminal, and the line, as a comment
+-- the path, escaped for a terminal, and the line number, as a comment
 abbrev pub place_comment : List ℕ → ℕ → List ℕ
 place_comment path line = codes "  # " ++ (shown_text path ++ (codes ":" ++ decimal line))
 
--- as `<Multi_key> <e> : "é"  # en_US.UTF-8/Compose:123`
+-- for example `<Multi_key> <e> : "é"  # en_US.UTF-8/Compose:123`
 abbrev pub listed_line : List (List ℕ) → List ℕ → List ℕ → ℕ → List ℕ
 listed_line keys text path line = keys_text keys ++ (codes ": " ++ (result_text text ++ place_comment path line))
 
--- as `{"keys":["Multi_key","e"],"text":"é","file":"en_US.UTF-8/Compose","line":123}`
+-- for example `{"keys":["Multi_key","e"],"text":"é","file":"en_US.UTF-8/Compose","line":123}`
 abbrev pub listed_object : List (List ℕ) → List ℕ → List ℕ → ℕ → List ℕ
 listed_object keys text path line =
     codes "{\"keys\":" ++ (json_strings keys ++ (codes ",\"text\":" ++ (json_string text ++ (codes ",\"file\":" ++ (json_string path ++ (codes ",\"line\":" ++ (decimal line ++ codes "}")))))))

@@ -11,7 +11,7 @@ use Rattle.compose_listing.specs.Line.{result_text}
 use Rattle.compose_listing.specs.declared.form.ListForm.{ListForm}
 use Rattle.compose_listing.specs.declared.form.ListForm.TheVariants.{Lines, Json}
 
--- one is a sequence
+-- singular for one
 abbrev pub sequences_word : ℕ → List ℕ
 sequences_word n = if nat_eq n 1 then codes " sequence" else codes " sequences"
 
@@ -19,7 +19,7 @@ sequences_word n = if nat_eq n 1 then codes " sequence" else codes " sequences"
 abbrev pub key_text : List ℕ → List ℕ → List ℕ
 key_text key behind = codes "<" ++ (key ++ behind)
 
--- as `<e> : "é"` where the key ends a sequence, and else as `<apostrophe> .. 61 sequences`
+-- for example `<e> : "é"` if the key ends a sequence, and otherwise `<apostrophe> .. 61 sequences`
 abbrev pub leads_line : List ℕ → Option (List ℕ) → ℕ → List ℕ
 leads_line key (Some text) n = key_text key (codes "> : ") ++ result_text text
 leads_line key None n = key_text key (codes "> .. ") ++ (decimal n ++ sequences_word n)
@@ -28,7 +28,7 @@ leads_line key None n = key_text key (codes "> .. ") ++ (decimal n ++ sequences_
 abbrev pub key_member : List ℕ → List ℕ
 key_member key = codes "{\"key\":" ++ json_string key
 
--- as `{"key":"e","text":"é","sequences":null}`, or as `{"key":"apostrophe","text":null,"sequences":61}`
+-- for example `{"key":"e","text":"é","sequences":null}`, or `{"key":"apostrophe","text":null,"sequences":61}`
 abbrev pub leads_object : List ℕ → Option (List ℕ) → ℕ → List ℕ
 leads_object key (Some text) n = key_member key ++ (codes ",\"text\":" ++ (json_string text ++ codes ",\"sequences\":null}"))
 leads_object key None n = key_member key ++ (codes ",\"text\":null,\"sequences\":" ++ (decimal n ++ codes "}"))
@@ -37,10 +37,10 @@ abbrev pub leads : ListForm → List ℕ → Option (List ℕ) → ℕ → List 
 leads Lines = leads_line
 leads Json = leads_object
 
--- what the key k leads to after these keys, and a newline (code 10): a text, or so many sequences that go on
+-- what the key k leads to after these keys, and a newline (code 10): a text, or the number of sequences that go on
 abbrev pub next_line : ListForm → KeysymNames → List Definition → List ℕ → ℕ → List ℕ
 next_line form names table keys k = leads form (printed names k) (text_at table (keys ++ k ∷ [])) (count_after table (keys ++ k ∷ [])) ++ 10 ∷ []
 
--- of each key with which some sequence goes on, in rising order
+-- a line for each key with which a sequence goes on, in rising order
 abbrev pub next_lines : ListForm → KeysymNames → List Definition → List ℕ → List ℕ
 next_lines form names table keys = flat_map (next_line form names table keys) (edges table keys)

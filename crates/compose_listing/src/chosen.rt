@@ -1,4 +1,4 @@
-//! Which sequences of a table are asked for.
+//! The sequences of a table that are asked for.
 ghost use Rattle.std.specs.Prelude.{◌≡◌, ℕ, List, Some, get_or, None, map, option_copied, IfOk};
 ghost use Rattle.std.specs.List.{All, list_all};
 ghost use Rattle.std.specs.Option.{option_map_or};
@@ -17,7 +17,8 @@ use compose_tree::{ComposeTable, LeafId};
 use keysym_core::{Keysym, Names};
 use std::alloc::{AllocError, Global};
 
-/// The leaves of the sequences that begin with these keys, and give the text if one is asked for, in order. O(keys of all sequences).
+/// Returns the leaves of the sequences that begin with these keys, and that give the text if one is
+/// asked for, in order. O(keys of all sequences).
 pub(crate) fn chosen_leaves<T: ComposeTable>(
     alloc: Global,
     listed: &ListedTable<'_, T>,
@@ -32,7 +33,7 @@ pub(crate) fn chosen_leaves<T: ComposeTable>(
     ensures in_table { IfOk result
         (λ chosen. All (IsLeaf (T.definitions listed.now.table.now)) chosen.items) }
 {
-    // The contract of this call says that the table is settled.
+    // This call's contract states that the table is settled.
     let _ = listed.table.node_count();
     let mut chosen = Vec::new(alloc);
     for number in 0..listed.table.leaf_count() {
@@ -43,7 +44,8 @@ pub(crate) fn chosen_leaves<T: ComposeTable>(
     Ok(chosen)
 }
 
-/// Whether the leaf's sequence begins with these keys, and has the text if one is asked for.
+/// Returns whether the leaf's sequence begins with these keys, and has the text if one is asked
+/// for.
 fn is_chosen<T: ComposeTable>(
     listed: &ListedTable<'_, T>,
     leaf: LeafId,
@@ -60,7 +62,7 @@ fn is_chosen<T: ComposeTable>(
     leaf_begins(listed, leaf, prefix) && has_asked(listed.table, leaf, text)
 }
 
-/// Whether the leaf has the text, if one is asked for.
+/// Returns whether the leaf has the text, if one is asked for.
 fn has_asked<T: ComposeTable>(table: &T, leaf: LeafId, text: Option<&str>) -> bool
     ensures { result
         ≡ leaf_words.has_asked (T.definitions table.now) (option_copied text.entry) leaf }
@@ -71,7 +73,7 @@ fn has_asked<T: ComposeTable>(table: &T, leaf: LeafId, text: Option<&str>) -> bo
     }
 }
 
-/// Whether the leaf's sequence begins with these keys.
+/// Returns whether the leaf's sequence begins with these keys.
 fn leaf_begins<T: ComposeTable>(
     listed: &ListedTable<'_, T>,
     leaf: LeafId,
@@ -89,7 +91,7 @@ fn leaf_begins<T: ComposeTable>(
     }
 }
 
-/// Whether the keysyms of these keys, of which each has one, begin with those.
+/// Returns whether the keysyms of these keys, each of which has one, begin with the prefix.
 fn keys_begin(names: &Names, keys: &[&str], prefix: &[Keysym]) -> bool
     ensures { (s : List ℕ) → sequence_named names.now (map (λ key. key.now) keys.now) ≡ Some s
         → result ≡ begins_with prefix.now s }
@@ -106,7 +108,8 @@ fn keys_begin(names: &Names, keys: &[&str], prefix: &[Keysym]) -> bool
     keys_begin(names, rest, others)
 }
 
-/// Those of these leaves whose sequences have keys of the repertoire alone, if one is given, in order. O(keys of these sequences × log ranges).
+/// Returns those of these leaves whose sequences have only keys of the repertoire, if one is given,
+/// in order. O(keys of these sequences × log ranges).
 pub(crate) fn typable_leaves<T: ComposeTable>(
     alloc: Global,
     listed: &ListedTable<'_, T>,
@@ -130,7 +133,7 @@ pub(crate) fn typable_leaves<T: ComposeTable>(
     Ok(typable)
 }
 
-/// Whether the leaf's sequence has keys of the repertoire alone, if one is given.
+/// Returns whether the leaf's sequence has only keys of the repertoire, if one is given.
 fn is_leaf_typable<T: ComposeTable>(
     listed: &ListedTable<'_, T>,
     repertoire: Option<&Repertoire>,
@@ -149,7 +152,7 @@ fn is_leaf_typable<T: ComposeTable>(
     }
 }
 
-/// Whether the leaf's sequence has keys of the repertoire alone.
+/// Returns whether the leaf's sequence has only keys of the repertoire.
 fn has_typable_keys<T: ComposeTable>(
     listed: &ListedTable<'_, T>,
     repertoire: &Repertoire,
@@ -168,7 +171,7 @@ fn has_typable_keys<T: ComposeTable>(
     }
 }
 
-/// Whether each of the keys is one of the repertoire's.
+/// Returns whether each of the keys is one of the repertoire's.
 fn are_typable(names: &Names, repertoire: &Repertoire, keys: &[&str]) -> bool
     ensures { result
         ≡ list_all (λ key. leaf_words.is_typable_key names.now repertoire.now key.now) keys.now }
@@ -177,7 +180,7 @@ fn are_typable(names: &Names, repertoire: &Repertoire, keys: &[&str]) -> bool
         .all(|key| is_typable_key(names, repertoire, key))
 }
 
-/// Whether the key is one of the repertoire's.
+/// Returns whether the key is one of the repertoire's.
 fn is_typable_key(names: &Names, repertoire: &Repertoire, key: &str) -> bool
     ensures { result ≡ leaf_words.is_typable_key names.now repertoire.now key.now }
 {

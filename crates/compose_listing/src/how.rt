@@ -21,29 +21,36 @@ use compose_places::PlacedTable;
 use compose_tree::{ComposeTable, LeafId};
 use std::alloc::{AllocError, Global};
 
-/// Which texts are asked for, and how their sequences are printed.
+/// The texts that are asked for, and how their sequences are printed.
 #[derive(Clone, Copy, Debug)]
 pub struct HowWanted<'a> {
+    /// The texts that are asked for.
     pub texts: &'a [&'a str],
-    /// The bytes of the repertoire whose keys alone can be typed, if one is given.
+    /// The bytes of the repertoire, if one is given; only its keys can be typed.
     pub repertoire: Option<&'a [u8]>,
-    /// Whether the first sequence of each text is printed alone.
+    /// Whether only the first sequence of each text is printed.
     pub first: bool,
+    /// The form in which the sequences are printed.
     pub form: ListForm,
 }
 
 /// How texts can be typed.
 #[derive(Drop)]
 pub struct Ways {
-    /// For each text in turn what is printed of the sequences that give it.
+    /// The lines of the sequences that give each of the texts and can be typed, one text after
+    /// another.
     pub lines: String,
-    /// For each text whether some sequence gives it.
+    /// For each of the texts, whether there are such sequences.
     pub found: Vec<bool>,
 }
 
-/// All sequences of a table that give these texts, or for each text the first alone: the shortest first, and those of one length in order; where a
-/// repertoire is given, those that its keys can type. The names, the table and the repertoire are read in this order, and the first that is refused
-/// decides. O(bytes of the sources + n log n) in the number n of the sequences, and for each text O(log n) beside its sequences.
+/// Returns the sequences of a table that give these texts, all or for each text only the first. The
+/// shortest come first, and those of the same length are in order. If a repertoire is given, only
+/// those are returned that its keys can type. O(bytes of the sources + n log n) for n sequences,
+/// and O(log n) for each text, besides its sequences.
+///
+/// Errors: that of the first part that is refused, in the order names, table, repertoire, or
+/// `NoMemory` if memory runs out.
 pub fn how_to_type<T: ComposeTable>(
     alloc: Global,
     header: &[u8],
@@ -76,7 +83,7 @@ pub fn how_to_type<T: ComposeTable>(
     Ok(ways_of(alloc, &listed, &index, wanted.texts, asked)?)
 }
 
-/// The repertoire of these bytes, if they are given.
+/// Reads the repertoire with these bytes, if they are given.
 fn read_given(alloc: Global, bytes: Option<&[u8]>) -> Result<Option<Repertoire>, Refusal>
     ensures { Gives (λ said read. said ≡ read) result
         (given_repertoire (option_copied bytes.entry)) }
@@ -87,17 +94,17 @@ fn read_given(alloc: Global, bytes: Option<&[u8]>) -> Result<Option<Repertoire>,
     }
 }
 
-/// Which sequences of a text are printed, and how.
+/// The sequences of a text that are printed, and how.
 #[derive(Clone, Copy)]
 struct AskedWays<'a> {
-    /// Those that these keys can type, if a repertoire is given.
+    /// The repertoire whose keys can type them, if one is given.
     repertoire: Option<&'a Repertoire>,
-    /// The first alone.
+    /// Whether only the first is printed.
     first: bool,
     form: ListForm,
 }
 
-/// How these texts can be typed with this table.
+/// Returns how these texts can be typed with this table.
 fn ways_of<T: ComposeTable>(
     alloc: Global,
     listed: &ListedTable<'_, T>,
@@ -132,7 +139,8 @@ fn ways_of<T: ComposeTable>(
     Ok(Ways { lines, found })
 }
 
-/// Appends what is printed of the sequences that give this text to the lines. It answers whether there are any.
+/// Appends what is printed of the sequences that give this text to the lines, and returns whether
+/// there are any.
 fn push_ways<T: ComposeTable>(
     alloc: Global,
     lines: &mut String,
@@ -170,14 +178,14 @@ fn push_ways<T: ComposeTable>(
     Ok(has_some(&leaves))
 }
 
-/// Whether there are any.
+/// Returns whether there are any leaves.
 fn has_some(leaves: &[LeafId]) -> bool
     ensures { result ≡ nat_lt 0 (length leaves.now) }
 {
     !leaves.is_empty()
 }
 
-/// All of them, or the first alone.
+/// Returns all of the leaves, or only the first.
 fn shown_of(leaves: &[LeafId], first: bool) -> &[LeafId]
     ensures { result.now ≡ words.shown_of first leaves.now }
 {

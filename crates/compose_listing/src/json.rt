@@ -44,7 +44,7 @@ pub(crate) fn push_json_string(text: &mut String, inside: &str) -> Result<(), Al
     text.push_str("\"")
 }
 
-/// Appends what stands between the quotes to the text.
+/// Appends the characters between the quotes to the text.
 fn push_characters(text: &mut String, inside: &str) -> Result<(), AllocError>
     ensures { OnOk result
         (string_bytes text.new ≡ string_bytes text.old ++ words.json_characters inside.now) }
@@ -72,7 +72,7 @@ fn push_character(text: &mut String, character: char) -> Result<(), AllocError>
     text.push(character)
 }
 
-/// Whether a terminal may take the character for an instruction.
+/// Returns whether the character could control a terminal.
 fn is_unsafe(number: u32) -> bool
     ensures { result ≡ shown.is_unsafe number }
 {

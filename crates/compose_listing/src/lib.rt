@@ -1,8 +1,10 @@
-//! The sequences of a table as lines of a Compose file, or as JSON: those that give a text, and those that begin with some keys.
+//! The sequences of a table as lines of a Compose file, or as JSON: those that give a text, and
+//! those that begin with some keys.
 //!
-//! [`how_to_type`] gives the lines of the sequences that give a text, the shortest first, and [`list_table`] those of all sequences of a table, as
-//! they count, or of some of them. What it gives of all is a Compose file without includes, which is read as the same table ([`law_listing`]).
-//! [`list_next`] gives the keys that can follow some keys.
+//! [`how_to_type`] returns the lines of the sequences that give a text, the shortest first.
+//! [`list_table`] returns those of all sequences of a table, or of some of them, by the definitions
+//! that count. The lines of all sequences are a Compose file without includes, which is read as the
+//! same table ([`law_listing`]). [`list_next`] returns the keys that can follow some keys.
 //!
 //! ```text
 //! let wanted = HowWanted { texts: &["≠"], repertoire: None, first: true, form: ListForm::Lines };
@@ -42,9 +44,11 @@ pub use list::{ListWanted, list_table};
 pub use next::list_next;
 pub use wanted::wanted_text;
 
-/// What is listed of a table is read as the same table, by either rule of overlaps and under any name: of a table that is built, of which each
-/// sequence has a line that counts, as it has in a table that is read, and whose texts are such as the string of a Compose file can write. What
-/// is printed is a text, as a `String` always is. Where no keys and no text are asked for, the sequences of a list are all of the table.
+/// The listing of a table is read as the same table, by either rule for overlaps and under any
+/// name. This holds for a table that is built, each of whose sequences has a line that counts, as
+/// in a table that is read, and whose texts the string of a Compose file can write. What is printed
+/// has to be UTF-8, as a `String` always is. If no keys and no text are asked for, the listed
+/// sequences are all of the table.
 pub fn law_listing()
     ensures whole { (table : List Definition) → chosen table [] None ≡ leaves table }
     ensures again { (names : KeysymNames) (lines : List Visit) (paths : List (List ℕ))

@@ -9,7 +9,7 @@ use compose_shown::Shown;
 use std::alloc::{AllocError, Global};
 use std::fmt::Write;
 
-/// What a line of the list tells of a sequence.
+/// What is printed of a sequence.
 #[derive(Clone, Copy)]
 pub(crate) struct ListedSequence<'a> {
     /// The names of its keys.
@@ -17,7 +17,7 @@ pub(crate) struct ListedSequence<'a> {
     pub(crate) text: &'a str,
     /// The path of the file in which it is defined.
     pub(crate) path: &'a str,
-    /// The line in it, from 1.
+    /// The line number in the file, from 1.
     pub(crate) line: usize,
 }
 
@@ -42,7 +42,8 @@ pub(crate) fn push_sequence(
     lines.push('\n')
 }
 
-/// Appends the line of a sequence to the lines: its keys, its text, and the path and the line of its place as a comment.
+/// Appends the line of a sequence to the lines: its keys, its text, and the path and the line
+/// number of its definition as a comment.
 fn push_line(
     alloc: Global,
     lines: &mut String,
@@ -74,7 +75,7 @@ fn push_keys(lines: &mut String, keys: &[&str]) -> Result<(), AllocError>
     Ok(())
 }
 
-/// Appends the text in quotes, or the name of the keysym without a text where it is empty.
+/// Appends the text in quotes, or the name of the keysym without a text if it is empty.
 pub(crate) fn push_result(alloc: Global, lines: &mut String, text: &str) -> Result<(), AllocError>
     ensures { OnOk result
         (string_bytes lines.new ≡ string_bytes lines.old ++ words.result_text text.now) }

@@ -20,20 +20,26 @@ use compose_tree::ComposeTable;
 use keysym_core::Keysym;
 use std::alloc::{AllocError, Global};
 
-/// Which sequences of a table are printed, and how.
+/// The sequences of a table that are printed, and how.
 #[derive(Clone, Copy, Debug)]
 pub struct ListWanted<'a> {
     /// The names of the keys with which they begin.
     pub prefix: &'a [&'a str],
     /// The text that they give, if one is asked for.
     pub text: Option<&'a str>,
+    /// The order in which they are printed.
     pub order: ListOrder,
+    /// The form in which they are printed.
     pub form: ListForm,
 }
 
-/// The sequences of the table that are asked for, as they count, each once and in the order that is asked for. Where all are asked for in the order
-/// of their keys, as lines, they are a Compose file that gives the same table. The names, the keysyms of the prefix and the table are read in this
-/// order, and the first that is refused decides. O(bytes of the sources + n log n) for n sequences.
+/// Returns the sequences of the table that are asked for, by the definitions that count, each once
+/// and in the order that is asked for. If all are asked for as lines in the order of their keys,
+/// they are a Compose file that defines the same table. O(bytes of the sources + n log n) for n
+/// sequences.
+///
+/// Errors: that of the first part that is refused, in the order names, keysyms of the prefix,
+/// table, or `NoMemory` if memory runs out.
 pub fn list_table<T: ComposeTable>(
     alloc: Global,
     header: &[u8],
@@ -58,7 +64,8 @@ pub fn list_table<T: ComposeTable>(
     Ok(Answer::Yes(lines_of(alloc, &listed, &named.keys, wanted)?))
 }
 
-/// What is printed of the sequences that begin with these keys, and that are asked for otherwise.
+/// Returns what is printed of the sequences that begin with these keys, and that match the other
+/// conditions.
 fn lines_of<T: ComposeTable>(
     alloc: Global,
     listed: &ListedTable<'_, T>,

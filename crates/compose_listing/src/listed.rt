@@ -10,12 +10,14 @@ use compose_tree::{ComposeTable, LeafId};
 use keysym_core::Names;
 use std::alloc::{AllocError, Global};
 
-/// A table, the names with which it is read, the lines of its sequences that count, and the paths of its sources.
+/// A table, the names with which it is read, the lines that count for its sequences, and the paths
+/// of its sources.
 #[derive(Drop)]
 pub(crate) struct ListedTable<'a, T> {
     pub(crate) names: &'a Names,
     pub(crate) table: &'a T,
-    /// For each leaf, by its number, the line that counts for its sequence, as `read_placed_table` gives them.
+    /// For each leaf, by its number, the line that counts for its sequence, as `read_placed_table`
+    /// returns them.
     pub(crate) lines: &'a [Option<CountingLine<'a>>],
     /// The path of each source, by its index.
     pub(crate) paths: &'a [&'a str],
@@ -48,7 +50,7 @@ fn push_leaf<T: ComposeTable>(
     push_sequence(alloc, lines, form, sequence)
 }
 
-/// The line that counts for a leaf, if it is there.
+/// Returns the line that counts for a leaf, if there is one.
 pub(crate) fn line_at<'a, 'l>(
     lines: &'l [Option<CountingLine<'a>>],
     leaf: LeafId,
@@ -61,7 +63,7 @@ pub(crate) fn line_at<'a, 'l>(
     }
 }
 
-/// The path at this index; none after the last one.
+/// Returns the path at this index, or an empty one after the last.
 fn path_at<'a>(paths: &[&'a str], index: usize) -> &'a str
     ensures { result.now ≡ get_or (map (λ path. path.now) paths.now) index [] }
 {

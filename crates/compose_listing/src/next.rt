@@ -22,9 +22,12 @@ use keysym_core::{Keysym, Names};
 use std::alloc::{AllocError, Global};
 use std::fmt::Write;
 
-/// The keys with which sequences of the table go on after these keys, by their keysyms, and what each leads to: a text, or how many sequences. The
-/// names, the keysyms of the keys and the table are read in this order, and the first that is refused decides. O(bytes of the sources + n log n)
-/// for n sequences.
+/// Returns the keys with which sequences of the table go on after these keys, by their keysyms, and
+/// what each leads to: a text, or a number of sequences. O(bytes of the sources + n log n) for n
+/// sequences.
+///
+/// Errors: that of the first part that is refused, in the order names, keysyms of the keys, table,
+/// or `NoMemory` if memory runs out.
 pub fn list_next<T: ComposeTable>(
     alloc: Global,
     header: &[u8],
@@ -41,7 +44,7 @@ pub fn list_next<T: ComposeTable>(
     Ok(Answer::Yes(lines))
 }
 
-/// A line for each key with which some sequence goes on after these keys.
+/// Returns a line for each key with which a sequence goes on after these keys.
 fn next_lines<T: ComposeTable>(
     alloc: Global,
     names: &Names,
@@ -59,13 +62,14 @@ fn next_lines<T: ComposeTable>(
     }
 }
 
-/// The node to which these keys lead from the root, if they lead to one. O(keys × log edges of a node).
+/// Returns the node to which these keys lead from the root, if they lead to one. O(keys × log edges
+/// of a node).
 fn node_with<T: ComposeTable>(table: &T, keys: &[Keysym]) -> Option<NodeId>
     ensures { MatchOption result (edges (T.definitions table.now) keys.now ≡ [])
         (λ node. (node.0 < length (nodes (T.definitions table.now)))
         × (nodes_words.node (T.definitions table.now) node.0 ≡ keys.now)) }
 {
-    // The contract of this call says that the table is settled.
+    // This call's contract states that the table is settled.
     let _ = table.node_count();
     let mut node = NodeId::ROOT;
     for keysym in keys {
@@ -77,7 +81,7 @@ fn node_with<T: ComposeTable>(table: &T, keys: &[Keysym]) -> Option<NodeId>
     Some(node)
 }
 
-/// A line for each key with which some sequence goes on from the node.
+/// Returns a line for each key with which a sequence goes on from the node.
 fn lines_from<T: ComposeTable>(
     alloc: Global,
     names: &Names,
@@ -91,7 +95,7 @@ fn lines_from<T: ComposeTable>(
         ≡ words.next_lines form names.now (T.definitions table.now)
         (nodes_words.node (T.definitions table.now) node.0)) }
 {
-    // The contract of this call says that the table is settled.
+    // This call's contract states that the table is settled.
     let _ = table.node_count();
     let mut lines = String::new(alloc);
     for index in 0..table.edge_count(node) {
@@ -109,7 +113,7 @@ fn lines_from<T: ComposeTable>(
     Ok(lines)
 }
 
-/// The key as it is printed.
+/// Returns the key as it is printed.
 fn printed_key(alloc: Global, names: &Names, keysym: Keysym) -> Result<String, AllocError>
     ensures { IfOk result (λ key. string_bytes key ≡ printed names.now keysym) }
 {
@@ -146,7 +150,7 @@ fn push_text(
     lines.push('\n')
 }
 
-/// Appends a key with which so many sequences go on.
+/// Appends a key and the number of sequences that go on with it.
 fn push_count(lines: &mut String, form: ListForm, key: &str, count: u32) -> Result<(), AllocError>
     ensures { OnOk result
         (string_bytes lines.new
@@ -185,7 +189,7 @@ fn push_key_member(lines: &mut String, key: &str) -> Result<(), AllocError>
     push_json_string(lines, key)
 }
 
-/// A blank and the word for so many sequences.
+/// Returns a blank and the word after a number of sequences.
 fn sequences_word(count: u32) -> &'static str
     ensures { result.now ≡ words.sequences_word count }
 {

@@ -16,7 +16,8 @@ use compose_places::CountingLine;
 use compose_tree::{ComposeTable, LeafId};
 use std::alloc::AllocError;
 
-/// Puts leaves, which are in the order of their keysyms, in the order that is asked for. O(n log n) comparisons for n leaves.
+/// Puts leaves, which are in the order of their keysyms, into the order that is asked for. O(n log
+/// n) comparisons for n leaves.
 pub(crate) fn put_in_order<T: ComposeTable>(
     listed: &ListedTable<'_, T>,
     leaves: &mut Vec<LeafId>,
@@ -32,7 +33,7 @@ pub(crate) fn put_in_order<T: ComposeTable>(
         (map (sequence_at (T.definitions listed.now.table.now)) leaves.old.items)
         (map (sequence_at (T.definitions listed.now.table.now)) leaves.new.items)) }
 {
-    // The contract of this call says that the table is settled.
+    // This call's contract states that the table is settled.
     let _ = listed.table.node_count();
     match order {
         ListOrder::Keys => Ok(()),
@@ -41,7 +42,8 @@ pub(crate) fn put_in_order<T: ComposeTable>(
     }
 }
 
-/// Puts leaves in the order of the places of the lines that count for them. O(n log n) for n leaves.
+/// Puts leaves into the order of the places of the lines that count for them. O(n log n) for n
+/// leaves.
 fn sort_by_place(
     lines: &[Option<CountingLine<'_>>],
     leaves: &mut Vec<LeafId>,
@@ -53,7 +55,8 @@ fn sort_by_place(
     leaves.sort_by_key(|leaf| place_at(lines, *leaf))
 }
 
-/// The index of the source and the number of the line that counts for a leaf; twice 0 where there is none.
+/// Returns the index of the source and the number of the line that counts for a leaf; both are 0 if
+/// there is none.
 fn place_at(lines: &[Option<CountingLine<'_>>], leaf: LeafId) -> (usize, usize)
     ensures { result ≡ words.place_at lines.now leaf }
 {

@@ -1,4 +1,4 @@
-//! What `list` and `how` are given, read part by part.
+//! The input of `list` and `how`, read part by part.
 ghost use Rattle.std.specs.Prelude.{◌≡◌, map, IfOk};
 ghost use Rattle.compose_model.specs.Nodes.{leaves};
 ghost use Rattle.compose_places.specs.Counting.{counting_line, read_lines, AreLines};
@@ -21,7 +21,7 @@ use compose_tree::{ComposeTable, TableFault};
 use keysym_core::Names;
 use std::alloc::Global;
 
-/// The names of a header, and the keysyms of key names.
+/// Reads the names of a header, and the keysyms of key names.
 pub(crate) fn read_names(alloc: Global, header: &[u8], key_names: &[&str]) -> Result<Named, Refusal>
     ensures { Gives (λ said read. said ≡ named_parts read) result
         (given_key_names header.now (map (λ name. name.now) key_names.now)) }
@@ -32,7 +32,7 @@ pub(crate) fn read_names(alloc: Global, header: &[u8], key_names: &[&str]) -> Re
     }
 }
 
-/// The characters that people need, and the keys that they have.
+/// Reads the characters that people need, and the keys that they have.
 pub(crate) fn read_repertoire(alloc: Global, bytes: &[u8]) -> Result<Repertoire, Refusal>
     ensures { Gives (λ said repertoire. said ≡ repertoire) result
         (or_because (λ why. unread (no_repertoire why)) (repertoire_of bytes.now)) }
@@ -44,7 +44,8 @@ pub(crate) fn read_repertoire(alloc: Global, bytes: &[u8]) -> Result<Repertoire,
     }
 }
 
-/// The one table that is given, and the lines that count for its sequences, whose keys these sequences are.
+/// Reads the one table that is given, and the lines that count for its sequences; the keys of these
+/// lines are the sequences.
 pub(crate) fn read_placed<'a, T: ComposeTable>(
     alloc: Global,
     names: &Names,
@@ -69,7 +70,8 @@ pub(crate) fn read_placed<'a, T: ComposeTable>(
     }
 }
 
-/// The table whose root is the first source, and the lines that count for its sequences. Without a source, the root is missing.
+/// Reads the table whose root is the first source, and the lines that count for its sequences.
+/// Without sources, the root is missing.
 fn read_first<'a, T: ComposeTable>(
     alloc: Global,
     names: &Names,

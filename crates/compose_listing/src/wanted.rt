@@ -5,7 +5,10 @@ ghost use Rattle.compose_listing.specs.Wanted as words;
 use compose_text::hexadecimal_number;
 use std::alloc::{AllocError, Global};
 
-/// The text that a word stands for: a character by its number, as `U+2260`, and any other word itself. O(bytes).
+/// Returns the text that a word stands for: a character by its number, such as `U+2260`, and any
+/// other word itself. O(bytes).
+///
+/// Errors: `AllocError` if memory runs out.
 pub fn wanted_text(alloc: Global, word: &str) -> Result<String, AllocError>
     ensures { IfOk result (λ text. string_bytes text ≡ words.wanted_text word.now) }
 {
@@ -15,7 +18,7 @@ pub fn wanted_text(alloc: Global, word: &str) -> Result<String, AllocError>
     }
 }
 
-/// The character of this number, if the word is `U+` and four to six hexadecimal digits.
+/// Returns the character of this number, if the word is `U+` and four to six hexadecimal digits.
 fn numbered_character(word: &[u8]) -> Option<char>
     ensures { result ≡ words.numbered_character word.now }
 {
@@ -25,7 +28,7 @@ fn numbered_character(word: &[u8]) -> Option<char>
     character_of(hexadecimal_number(4, 6, &word[2..])?)
 }
 
-/// The character of a number; none for surrogates and numbers above 10FFFF.
+/// Returns the character of a number; `None` for surrogates and numbers above 10FFFF.
 fn character_of(number: u32) -> Option<char>
     ensures { result ≡ (if words.is_scalar number then Some number else None) }
 {

@@ -1,4 +1,4 @@
--- How many sequences go on from a node, counted by its edges.
+-- The number of sequences that go on from a node, counted by its edges.
 use Rattle.std.proofs.Common.{◌≡◌, ℕ, zero, suc, ◌+◌, ◌<◌, ◌≤◌, List, [], ◌∷◌, ◌++◌, Bool, true, false, cond, ◌||◌, length, get_or, take, refl, sym, ◌∙◌, ap, ap₂, subst, inl, inr, arith, eqb-true, Less, Equal, nat_cmp}
 use Rattle.std.specs.Prelude.{◌==◌, slice_get, Some, filter}
 use Rattle.std.specs.List.{list_any, All, AllByRecursion}
@@ -43,7 +43,7 @@ same_count f g [] h = refl
 same_count f g (x ∷ xs) h =
     counted f x xs (g x) (All-head (λ x. f x ≡ g x) x xs h) ∙ ap (λ n. cond (g x) 1 0 + n) (same_count f g xs (All-tail (λ x. f x ≡ g x) x xs h)) ∙ sym (counted g x xs (g x) refl)
 
--- what passes one of two tests that nothing passes both of
+-- elements that pass one of two tests, if none passes both
 either_count : {X : Type 0} (f g : X → Bool) → ((x : X) → f x ≡ true → g x ≡ true → ⊥) → (xs : List X) → count (λ x. f x || g x) xs ≡ count f xs + count g xs
 either_count f g apart [] = refl
 either_count f g apart (x ∷ xs) = go (f x) (g x) refl refl (either_count f g apart xs)
@@ -75,7 +75,7 @@ others s (x ∷ xs) h = (other s x (later_other s x h.0), others s xs h.1)
       | inr f ↦ f
     ]
 
--- each list stands once in a strictly rising one
+-- each list occurs once in a strictly rising one
 pub one_count : (s : List ℕ) (xs : List (List ℕ)) → IsStrictlySortedBy (slice_cmp nat_cmp) xs → list_any (same s) xs ≡ true → count (same s) xs ≡ 1
 unfolding IsStrictlySortedBy
 one_count s [] rise h = cc
@@ -126,7 +126,7 @@ not_earlier f (x ∷ xs) (suc i) rise below one h = elim (or_cases (f x) (list_a
   | inr e ↦ not_earlier f xs i rise.1 (omega arith) one e
 ]
 
--- how many sequences go on from p by some keys
+-- the number of sequences that go on from p by some keys
 abbrev pub count_through : List Definition → List ℕ → List ℕ → ℕ
 count_through table p ks = count (is_through p ks) (leaves table)
 
@@ -153,7 +153,7 @@ module _ (table : List Definition) (settled : IsSettled table) (p : List ℕ) wh
             any_more (λ j. begins (p ++ j ∷ []) s) (edges table p) i 0 (slice_get_within (edges table p) i k at)
             ∙ ap (λ j. is_through p (take i (edges table p)) s || begins (p ++ j ∷ []) s) (get_or_from_slice_get (edges table p) i k 0 at)
 
-    -- where the key leads to a node
+    -- if the key leads to a node
     pub node_counted : is_extended table (p ++ k ∷ []) ≡ true → count_through table p (take (i + 1) (edges table p)) ≡ count_through table p (take i (edges table p)) + count_after table (p ++ k ∷ [])
     node_counted x =
         more ∙ ap (λ n. count_through table p (take i (edges table p)) + n)
@@ -166,7 +166,7 @@ module _ (table : List Definition) (settled : IsSettled table) (p : List ℕ) wh
           | inr e ↦ ap (λ b. b || is_proper_prefix (p ++ k ∷ []) s) e
         ]
 
-    -- where it completes a sequence
+    -- if it completes a sequence
     pub leaf_counted : is_sequence table (p ++ k ∷ []) ≡ true → is_extended table (p ++ k ∷ []) ≡ false
         → count_through table p (take (i + 1) (edges table p)) ≡ count_through table p (take i (edges table p)) + 1
     leaf_counted x e =

@@ -1,4 +1,5 @@
--- The first of the shortest sequences that pass a test: no other one is shorter, and none of its length comes before it.
+-- The first of the shortest sequences that pass a test: no other one is shorter, and none of its length comes before
+-- it.
 use Rattle.std.proofs.Common.{◌≡◌, ℕ, zero, suc, ◌+◌, ◌<◌, ◌≤◌, List, [], ◌∷◌, ◌++◌, Bool, true, false, cond, not, ◌&&◌, ◌||◌, length, map, flat_map, refl, sym, ◌∙◌, ap, subst, ◌⊎◌, inl, inr, Less, Equal, Greater, nat_cmp, arith}
 use Rattle.std.specs.declared.cmp.Ordering.{Ordering}
 use Rattle.std.specs.Ordering.{is_lt}
@@ -155,7 +156,7 @@ module _ (table : List Definition) (t_table : is_table table ≡ true) (p : List
   abbrev part : ℕ → List (List ℕ)
   part n = filter (λ s. nat_eq (length s) n) (filter p (leaves table))
 
-  -- it passes, and has so many keys
+  -- it passes, and has this number of keys
   abbrev fits : ℕ → List ℕ → Bool
   fits n s = p s && nat_eq (length s) n
 

@@ -23,7 +23,7 @@ use Rattle.compose_lookup.proofs.Shortest.{of_each}
 
 -- ---- numbers in a row
 
--- what stands at the numbers in a row is the rest of the list
+-- the elements at consecutive numbers are the rest of the list
 module _ (xs : List (List ℕ)) where
   in_a_row : (ys : List (List ℕ)) (a : ℕ) → ((i : ℕ) (d : List ℕ) → get_or xs (a + i) d ≡ get_or ys i d)
       → map (λ (leaf : LeafId). get_or xs leaf.0 []) (map leaf_id (range_with_len a (length ys))) ≡ ys
@@ -88,7 +88,7 @@ module _ (table : List Definition) (settled : IsSettled table) where
       tested : (a b : ℕ) → a < b → nat_lt a b ≡ true
       tested a b h = search rules
 
-  -- the leaves in the order of their lengths, of which a text is given
+  -- the leaves in the order of their lengths that have a given text
   pub shortest : (lengths : List ℕ) → lengths ≡ map length (leaves table) → (text : List ℕ)
       → map (sequence_at table) (filter (has_text table text) (by_length lengths)) ≡ shortest_first (giving table text)
   shortest lengths e text = subst (λ ls. map (sequence_at table) (filter (has_text table text) (by_length ls)) ≡ shortest_first (giving table text)) (sym e) here

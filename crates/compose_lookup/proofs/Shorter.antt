@@ -42,7 +42,7 @@ leaves_at (x ∷ xs) zero (suc j) s h below = at xs j s.0 (omega arith)
 leaves_at (x ∷ xs) (suc i) (suc j) s h below = leaves_at xs i j s.1 (omega arith) (omega arith)
 
 module _ (table : List Definition) where
-  -- what is reached, told by another test
+  -- the leaves that are reached, by another test
   pub same_reached : (p q : List ℕ → Bool) → ((s : List ℕ) → is_sequence table s ≡ true → p s ≡ q s) → (found : Option FoundLeaf) → FindsShortest table p found → FindsShortest table q found
   same_reached p q same None f = λ t is h. f t is (same t is ∙ h)
   same_reached p q same (Some found) f = record {
@@ -55,7 +55,7 @@ module _ (table : List Definition) where
     first = λ t is h as_long. f.first t is (same t is ∙ h) as_long;
   }
 
-  -- two leaves of which the first is no later
+  -- two leaves, the first of which is no later
   abbrev NoLater : FoundLeaf → FoundLeaf → Type 0
   NoLater one other = (one.keys ≤ other.keys) × (one.keys ≡ other.keys → one.leaf.0 ≤ other.leaf.0)
 
@@ -84,7 +84,7 @@ module _ (table : List Definition) where
       second true b e f = e
       second false b e f = cc
 
-  -- of two that are shortest, each by a test, the one that is no later is the shortest by either
+  -- of two leaves that are the shortest, each by a test, the one that is no later is the shortest by either
   winner : (p q : List ℕ → Bool) (one other : FoundLeaf) → IsShortest table p one → IsShortest table q other → NoLater one other → IsShortest table (λ s. p s || q s) one
   winner p q one other f g order = record {
     sequence = f.sequence;

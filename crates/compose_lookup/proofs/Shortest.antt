@@ -1,4 +1,4 @@
--- Elements that stand for sequences, by the lengths of these.
+-- Elements that represent sequences, by the lengths of these.
 use Rattle.std.proofs.Common.{◌≡◌, ℕ, zero, suc, ◌+◌, ◌-◌, ◌≤◌, arith, append_assoc, append-nil, List, [], ◌∷◌, ◌++◌, Bool, cond, length, map, refl, sym, ◌∙◌, ap, ap₂, inl, inr}
 use Rattle.std.specs.Prelude.{nat_eq, filter, flat_map}
 use Rattle.std.specs.List.{All, range_with_len}
@@ -47,7 +47,7 @@ one_more_number f a (suc n) =
     ap (λ t. f a ++ t) (one_more_number f (a + 1) n) ∙ sym (append_assoc (f a) (flat_map f (range_with_len (a + 1) n)) (f (a + 1 + n)))
     ∙ ap (λ m. (f a ++ flat_map f (range_with_len (a + 1) n)) ++ f m) last
 
--- the numbers from one to k, of which those below k were there
+-- the numbers from one to k; those below k were handled
 pub up_to : {X : Type 0} (f : ℕ → List X) (k : ℕ) (xs ys : List X) → 1 ≤ k → xs ≡ flat_map f (range_with_len 1 (k - 1)) → ys ≡ xs ++ f k → ys ≡ flat_map f (range_with_len 1 (k + 1 - 1))
 up_to f k xs ys some e g =
     let last : k ≡ 1 + (k - 1) = omega arith in

@@ -1,4 +1,4 @@
--- Elements in the order of their texts: a stable sort keeps those of each text as they were, and they stand together.
+-- Elements in the order of their texts: a stable sort keeps those of each text in order, and they are adjacent.
 use Rattle.std.proofs.Common.{◌≡◌, ℕ, ◌+◌, ◌<◌, ◌≤◌, List, [], ◌∷◌, ◌++◌, Bool, true, false, not, ◌&&◌, ◌||◌, length, get_or, take, drop, refl, sym, ◌∙◌, ap, ap₂, subst, inl, inr, arith}
 use Rattle.std.specs.Prelude.{filter}
 use Rattle.std.specs.List.{All, AllWithin, list_any}
@@ -34,13 +34,13 @@ no_greater Less = refl
 no_greater Equal = refl
 no_greater Greater = refl
 
--- two texts are the same where neither comes before the other
+-- two texts are the same if neither comes before the other
 same_tied : (s t : List ℕ) → same s t ≡ not (is_less s t) && not (is_less t s)
 same_tied s t =
     sym (is_eq-slice_cmp s t) ∙ by_order (slice_cmp nat_cmp s t)
     ∙ ap (λ o. not (is_less s t) && not (is_lt o)) (sym (nat_list_cmp_total.antisymm t s))
 
--- a text is no greater than another one where that doesn't come before it
+-- a text is no greater than another one if that doesn't come before it
 pub at_most : (s t : List ℕ) → is_le (slice_cmp nat_cmp s t) ≡ not (is_less t s)
 at_most s t = no_greater (slice_cmp nat_cmp s t) ∙ ap (λ o. not (is_lt o)) (sym (nat_list_cmp_total.antisymm t s))
 
@@ -127,7 +127,7 @@ module _ {X : Type 0} (key : X → List ℕ) where
         not_true true h = absurd (let clash : false ≡ true = h in cc)
         not_true false h = refl
 
-  -- those with the text stand between those before it and those after it
+  -- those with the text are between those before it and those after it
   pub between : (xs : List X) (text : List ℕ) (i j : ℕ)
       → IsPartitionPoint (λ x. is_less (key x) text ≡ true) (λ x. is_less (key x) text ≡ false) xs i
       → IsPartitionPoint (λ x. not (is_less text (key x)) ≡ true) (λ x. not (is_less text (key x)) ≡ false) (drop i xs) j

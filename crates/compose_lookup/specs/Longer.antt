@@ -1,4 +1,4 @@
--- The sequences of a table that begin with another one, and which of them people come to first (this project's profile).
+-- The sequences of a table that begin with another one, and which of them comes first (this project's profile).
 use Rattle.std.specs.Prelude.{◌≡◌, ℕ, Bool, true, nat_eq, nat_lt, ◌&&◌, ◌||◌, ◌≤◌, if◌then◌else◌, List, length, filter, slice_get, Option, Some, None}
 use Rattle.compose_model.specs.Table.{Definition, is_sequence, is_proper_prefix}
 use Rattle.compose_model.specs.Nodes.{leaves}
@@ -35,7 +35,7 @@ pub record IsShortest (table : List Definition) (reached : List ℕ → Bool) (f
   pub shortest : (t : List ℕ) → is_sequence table t ≡ true → reached t ≡ true → found.keys ≤ length t
   pub first : (t : List ℕ) → is_sequence table t ≡ true → reached t ≡ true → length t ≡ found.keys → found.leaf.0 ≤ leaf_number table t
 
--- such a leaf, or none where no sequence is reached
+-- such a leaf, or none if no sequence is reached
 abbrev pub FindsShortest : List Definition → (List ℕ → Bool) → Option FoundLeaf → Type 0
 FindsShortest table reached None = (t : List ℕ) → is_sequence table t ≡ true → reached t ≡ true → ⊥
 FindsShortest table reached (Some found) = IsShortest table reached found

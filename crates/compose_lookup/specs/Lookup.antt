@@ -1,4 +1,4 @@
--- Which sequences of a table give a text, and in which order people want them (this project's profile).
+-- The sequences of a table that give a text, and the order in which people want them (this project's profile).
 use Rattle.std.specs.Prelude.{ℕ, Bool, false, nat_eq, List, length, filter, flat_map}
 use Rattle.std.specs.Option.{option_map_or}
 use Rattle.std.specs.List.{range_with_len}
@@ -13,14 +13,14 @@ gives table text s = option_map_or (same text) (text_at table s) false
 abbrev pub giving : List Definition → List ℕ → List (List ℕ)
 giving table text = filter (gives table text) (leaves table)
 
--- how many keys a sequence may have: one to 32
+-- the numbers of keys that a sequence may have: one to 32
 unfoldable pub key_counts : List ℕ
 key_counts = range_with_len 1 32
 
--- those of one key, then those of two, and so on up to 32; of one length as they were
+-- those of one key, then those of two, and so on up to 32; those of the same length as they were
 abbrev pub shortest_first : List (List ℕ) → List (List ℕ)
 shortest_first sequences = flat_map (λ n. filter (λ s. nat_eq (length s) n) sequences) key_counts
 
--- how many sequences of a table go on from these keys
+-- the number of sequences of a table that go on from these keys
 abbrev pub count_after : List Definition → List ℕ → ℕ
 count_after table keys = length (filter (is_proper_prefix keys) (leaves table))

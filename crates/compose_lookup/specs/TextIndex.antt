@@ -18,29 +18,29 @@ sequence_at table leaf = get_or (leaves table) leaf.0 []
 abbrev pub IsLeaf : List Definition → LeafId → Type 0
 IsLeaf table leaf = leaf.0 < length (leaves table)
 
--- the text of a leaf; nothing of a leaf that the table doesn't have
+-- the text of a leaf; nothing for a leaf that the table doesn't have
 abbrev pub text_of : List Definition → LeafId → List ℕ
 text_of table leaf = if nat_lt leaf.0 (length (leaves table)) then unwrap_or (leaf_text table leaf.0) [] else []
 
 abbrev pub has_text : List Definition → List ℕ → LeafId → Bool
 has_text table text leaf = same text (text_of table leaf)
 
--- leaves in the order of their texts, of which those of each text are the sequences that give it, shortest first
+-- leaves in the order of their texts; those of the same text are the sequences that give it, shortest first
 pub record IsTextIndex (table : List Definition) (index : List LeafId) : Type 0 where
   pub in_table : All (IsLeaf table) index
   pub rise : IsSortedByKey (text_of table) (slice_cmp nat_cmp) index
   pub each : (text : List ℕ) → map (sequence_at table) (filter (has_text table text) index) ≡ shortest_first (giving table text)
 
--- ---- words for private functions
+-- ---- definitions for private functions
 
 abbrev pub leaf_id : ℕ → LeafId
 leaf_id n = record { 0 = n }
 
--- so many leaves, by their numbers
+-- this number of leaves, by their numbers
 abbrev pub leaf_ids : ℕ → List LeafId
 leaf_ids n = map leaf_id (range_with_len 0 n)
 
--- the leaves that have sequences of n keys, where these are the lengths of all
+-- the leaves that have sequences of n keys, if these are the lengths of all
 abbrev pub of_length : List ℕ → ℕ → List LeafId
 of_length lengths n = filter (λ leaf. nat_eq (get_or lengths leaf.0 0) n) (leaf_ids (length lengths))
 

@@ -1,4 +1,4 @@
-//! How many sequences go on from a node.
+//! The number of sequences that go on from a node.
 ghost use Rattle.std.specs.Prelude.{◌≡◌, ◌<◌, ◌^◌, length};
 ghost use Rattle.compose_model.specs.Nodes as words;
 ghost use Rattle.compose_model.specs.Nodes.{nodes, leaves};
@@ -7,7 +7,8 @@ ghost use Rattle.compose_lookup.specs.Lookup.{count_after};
 
 use compose_tree::{ComposeTable, NodeId, Target};
 
-/// How many sequences of the table go on from the node. O(edges from the node on).
+/// Returns the number of sequences of the table that go on from the node. O(edges from the node
+/// on).
 pub fn sequences_after<T: ComposeTable>(table: &T, node: NodeId) -> u32
     requires { node.0 < length (nodes (T.definitions table.now)) }
     ensures { result
@@ -19,7 +20,7 @@ pub fn sequences_after<T: ComposeTable>(table: &T, node: NodeId) -> u32
     count_from(table, node)
 }
 
-/// How many sequences go on from the node.
+/// Returns the number of sequences that go on from the node.
 fn count_from<T: ComposeTable>(table: &T, node: NodeId) -> u32
     requires settled { IsSettled (T.definitions table.now) }
     requires few { length (leaves (T.definitions table.now)) < 2 ^ 32 }

@@ -1,4 +1,4 @@
-//! How many keys each sequence of a table has.
+//! The number of keys of each sequence of a table.
 ghost use Rattle.std.specs.Prelude.{◌≡◌, ◌<◌, ◌^◌, length, map, IfOk};
 ghost use Rattle.compose_model.specs.Table.{is_proper_prefix};
 ghost use Rattle.compose_model.specs.Nodes as words;
@@ -9,7 +9,8 @@ ghost use Rattle.compose_compare.specs.Passes.{IsWritten};
 use compose_tree::{ComposeTable, NodeId, Target};
 use std::alloc::{AllocError, Global};
 
-/// How many keys each sequence of the table has, by the numbers of its leaves. O(edges).
+/// Returns the number of keys of each sequence of the table, by the numbers of its leaves.
+/// `Err(AllocError)` if memory runs out. O(edges).
 pub fn sequence_lengths<T: ComposeTable>(alloc: Global, table: &T) -> Result<Vec<u32>, AllocError>
     ensures lengths { IfOk result
         (λ lengths. lengths.items ≡ map length (leaves (T.definitions table.now))) }

@@ -1,8 +1,9 @@
-//! Which sequences of a table give a text, and how many go on from a node.
+//! The sequences of a table that give a text, and the number of those that go on from a node.
 //!
-//! A [`TextIndex`] is made of a table once. It then finds the leaves of all sequences that give a text, the shortest first, and those
-//! of one length in order: the first of them is the shortest way to type the text. [`first_longer`] is the shortest sequence that goes on
-//! from a node.
+//! A [`TextIndex`] is built from a table once. It then finds the leaves of all sequences that give
+//! a text, the shortest first, and those of the same length in order: the first of them is the
+//! shortest way to type the text. [`first_longer`] returns the shortest sequence that goes on from
+//! a node.
 //!
 //! ```text
 //! <Multi_key> <x> <y> : "é"     leaf 0
@@ -12,7 +13,8 @@
 //! index.leaves_with(&table, "é")    // [LeafId(1), LeafId(0)]
 //! ```
 //!
-//! [`sort_by_text`] puts any leaves in the order of their texts, and [`sequences_after`] counts the sequences that go on from a node.
+//! [`sort_by_text`] puts any leaves in the order of their texts, and [`sequences_after`] counts the
+//! sequences that go on from a node.
 #![tactic(auto)]
 
 mod counts;

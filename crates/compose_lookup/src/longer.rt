@@ -11,15 +11,15 @@ ghost use Rattle.compose_lookup.specs.TextIndex.{sequence_at, IsLeaf};
 
 use compose_tree::{ComposeTable, LeafId, NodeId, Target};
 
-/// A leaf, and how many keys its sequence has.
+/// A leaf, and the number of keys of its sequence.
 #[derive(Clone, Copy)]
 pub(crate) struct FoundLeaf {
     pub(crate) keys: u32,
     pub(crate) leaf: LeafId,
 }
 
-/// Of the sequences that go on from the node's keys the leaf of the shortest one, and of several of that length the first.
-/// O(edges from the node on).
+/// Returns the leaf of the shortest sequence that goes on from the node's keys, and of several of
+/// that length the first. O(edges from the node on).
 pub fn first_longer<T: ComposeTable>(table: &T, node: NodeId) -> Option<LeafId>
     requires { node.0 < length (nodes (T.definitions table.now)) }
     ensures sequence { option_map (sequence_at (T.definitions table.now)) result
@@ -35,7 +35,7 @@ pub fn first_longer<T: ComposeTable>(table: &T, node: NodeId) -> Option<LeafId>
     }
 }
 
-/// The same, with how many keys it has.
+/// Returns the same leaf, with the number of its keys.
 fn shortest_from<T: ComposeTable>(table: &T, node: NodeId) -> Option<FoundLeaf>
     requires settled { IsSettled (T.definitions table.now) }
     requires in_range { node.0 < length (nodes (T.definitions table.now)) }
@@ -55,7 +55,7 @@ fn shortest_from<T: ComposeTable>(table: &T, node: NodeId) -> Option<FoundLeaf>
     best
 }
 
-/// Of two leaves that of the shorter sequence, and of two of one length the first.
+/// Returns the leaf of the shorter sequence, and of two of the same length the first.
 fn sooner(one: Option<FoundLeaf>, other: Option<FoundLeaf>) -> Option<FoundLeaf>
     ensures { result ≡ words.sooner one other }
 {

@@ -10,10 +10,11 @@ use compose_tree::{ComposeTable, LeafId};
 use std::alloc::{AllocError, Global};
 use std::marker::Model;
 
-/// The most keys that a sequence has.
+/// The greatest number of keys in a sequence.
 const MAX_KEYS: u32 = 32;
 
-/// The leaves of a table in the order of their texts, those of one text by the lengths of their sequences and then in order: 4 bytes a leaf.
+/// The leaves of a table in the order of their texts, those of the same text by the lengths of
+/// their sequences and then in order: 4 bytes per leaf.
 #[derive(Drop)]
 pub struct TextIndex {
     leaves: Vec<LeafId>,
@@ -34,7 +35,8 @@ impl TextIndex {
     ghost use Rattle.compose_lookup.specs.Lookup.{giving, shortest_first};
     ghost use Rattle.compose_lookup.specs.TextIndex.{sequence_at, IsLeaf, IsTextIndex};
 
-    /// The index of this table. O(edges + n log n) comparisons of texts in the number n of the sequences.
+    /// Builds the index of this table. `Err(AllocError)` if memory runs out. O(edges + n log n)
+    /// comparisons of texts for n sequences.
     pub fn new<T: ComposeTable>(alloc: Global, table: &T) -> Result<TextIndex, AllocError>
         ensures { IfOk result (IsTextIndex (T.definitions table.now)) }
     {
@@ -46,8 +48,9 @@ impl TextIndex {
         Ok(TextIndex { leaves })
     }
 
-    /// The leaves of all sequences that give the text in the table of which the index was made: the shortest first, and those of one length in
-    /// order. O(log n) comparisons of texts in the number n of the sequences.
+    /// Returns the leaves of all sequences that give the text in the table from which the index was
+    /// built: the shortest first, and those of the same length in order. O(log n) comparisons of
+    /// texts for n sequences.
     pub fn leaves_with<T: ComposeTable>(&self, table: &T, text: &str) -> &[LeafId]
         requires { IsTextIndex (T.definitions table.now) self.now }
         ensures sequences { map (sequence_at (T.definitions table.now)) result.now
@@ -58,7 +61,7 @@ impl TextIndex {
     }
 }
 
-/// Puts the leaves of sequences of this many keys after the others. O(leaves).
+/// Appends the leaves of sequences with this number of keys. O(leaves).
 fn push_of_length(leaves: &mut Vec<LeafId>, lengths: &[u32], keys: u32) -> Result<(), AllocError>
     requires { length lengths.now < 2 ^ 32 }
     ensures { OnOk result (leaves.new.items ≡ leaves.old.items ++ of_length lengths.now keys) }
@@ -71,7 +74,7 @@ fn push_of_length(leaves: &mut Vec<LeafId>, lengths: &[u32], keys: u32) -> Resul
     Ok(())
 }
 
-/// The leaves of sequences of these lengths, the shortest first. O(leaves).
+/// Returns the leaves of sequences of these lengths, the shortest first. O(leaves).
 fn leaves_by_length(alloc: Global, lengths: &[u32]) -> Result<Vec<LeafId>, AllocError>
     requires { length lengths.now < 2 ^ 32 }
     ensures { IfOk result (λ leaves. leaves.items ≡ by_length lengths.now) }
@@ -83,7 +86,7 @@ fn leaves_by_length(alloc: Global, lengths: &[u32]) -> Result<Vec<LeafId>, Alloc
     Ok(leaves)
 }
 
-/// The text of the leaf, if the table has it, and else none. O(1).
+/// Returns the text of the leaf, or nothing if the table doesn't have it. O(1).
 pub fn text_of<'t, T: ComposeTable>(table: &'t T, leaf: LeafId) -> &'t str
     ensures { result.now ≡ text_of (T.definitions table.now) leaf }
 {
@@ -94,8 +97,8 @@ pub fn text_of<'t, T: ComposeTable>(table: &'t T, leaf: LeafId) -> &'t str
     }
 }
 
-/// Puts leaves in the order of their texts, those of one text as they were. Where memory is refused they are in any order. O(n log n) comparisons of
-/// texts.
+/// Sorts leaves by their texts; those of the same text keep their order. `Err(AllocError)` if
+/// memory runs out; the leaves may then be in any order. O(n log n) comparisons of texts.
 pub fn sort_by_text<T: ComposeTable>(table: &T, leaves: &mut Vec<LeafId>) -> Result<(), AllocError>
     ensures permutation { IsPermutation leaves.old.items leaves.new.items }
     ensures sorted { OnOk result
@@ -106,7 +109,8 @@ pub fn sort_by_text<T: ComposeTable>(table: &T, leaves: &mut Vec<LeafId>) -> Res
     leaves.sort_by(|a, b| text_of(table, *a).cmp(text_of(table, *b)))
 }
 
-/// Those of leaves in the order of their texts that have this one. O(log n) comparisons of texts.
+/// Returns those of the leaves, which are sorted by their texts, that have this text. O(log n)
+/// comparisons of texts.
 fn with_text<'a, T: ComposeTable>(table: &T, leaves: &'a [LeafId], text: &str) -> &'a [LeafId]
     requires { IsSortedByKey (text_of (T.definitions table.now)) (slice_cmp nat_cmp) leaves.now }
     ensures { result.now ≡ filter (has_text (T.definitions table.now) text.now) leaves.now }

@@ -5,14 +5,14 @@ use Rattle.compose_machine.specs.Machine.{ServiceState, Reading, Run}
 use Rattle.compose_machine.specs.Laws.{Exchange, IsHistory}
 
 module _ (reading : Reading) where
-  -- two runs, of which the second begins where the first ends, are one run
+  -- two runs, the second of which begins where the first ends, are one run
   pub joined : (old mid new : ServiceState) (p q : List Request) (r s : List Reply) → Run reading old p r mid → Run reading mid q s new → Run reading old (p ++ q) (r ++ s) new
   joined old mid new [] q [] s a b = subst (λ (o : ServiceState). Run reading o q s new) a b
   joined old mid new [] q (y ∷ r) s a b = absurd a
   joined old mid new (x ∷ p) q [] s a b = absurd a
   joined old mid new (x ∷ p) q (y ∷ r) s a b = (a.0, a.1, joined a.0 mid new p q r s a.2 b)
 
-  -- a run that is parted after these requests
+  -- a run that is divided after these requests
   pub record Parted (old : ServiceState) (p q : List Request) (replies : List Reply) (new : ServiceState) : Type 0 where
     pub mid : ServiceState
     pub first : List Reply
@@ -21,7 +21,7 @@ module _ (reading : Reading) where
     pub before : Run reading old p first mid
     pub after : Run reading mid q second new
 
-  -- a run of two lists of requests is parted behind the first of them
+  -- a run of two lists of requests is divided after the first of them
   pub parted : (old new : ServiceState) (p q : List Request) (replies : List Reply) → Run reading old (p ++ q) replies new → Parted old p q replies new
   parted old new [] q replies h = record { mid = old; first = []; second = replies; both = refl; before = refl; after = h }
   parted old new (x ∷ p) q [] h = absurd h
@@ -29,7 +29,7 @@ module _ (reading : Reading) where
       let rest = parted h.0 new p q replies h.2 in
       record { mid = rest.mid; first = y ∷ rest.first; second = rest.second; both = ap (λ rs. y ∷ rs) rest.both; before = (h.0, h.1, rest.before); after = rest.after }
 
-  -- a run with each request beside its reply
+  -- a run whose requests have their replies beside them
   pub record Told (old : ServiceState) (requests : List Request) (replies : List Reply) (new : ServiceState) : Type 0 where
     pub history : List Exchange
     pub asked : map (λ x. x.request) history ≡ requests

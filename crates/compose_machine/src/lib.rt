@@ -1,11 +1,14 @@
-//! The service as a machine: which reply it may give to a request, which state it goes on to, and the laws of its runs.
+//! The service as a state machine: the replies that it may give to a request, its next state, and
+//! the laws of its runs.
 //!
-//! A law is a function without parameters whose contract states it, for all states and all lists of requests: sessions don't disturb one
-//! another, and what a session types after a load is what it would have typed without it.
+//! A law is a function without parameters whose contract states it, for all states and all lists of
+//! requests: sessions don't disturb each other, and a load doesn't change what a session types.
 //!
 //! ```text
-//! law_isolation();     // the replies to one session's requests are those of a run of its requests alone
-//! law_kept_texts();    // a load by a valid certificate changes no text that is typed
+//! // the replies to one session's requests are those of a run of its requests alone
+//! law_isolation();
+//! // a load with a valid certificate changes no text that a session types
+//! law_kept_texts();
 //! ```
 #![tactic(auto)]
 
@@ -15,25 +18,31 @@ ghost use Rattle.compose_machine.specs.Machine.{ServiceState, Reading, Run};
 ghost use Rattle.compose_machine.specs.Laws.{Exchange, IsHistory, Isolation, KeptTexts, LoadsTypeNothing, StandingPromise, TableStays};
 ghost use Rattle.compose_machine.specs.Late.{seen, AreKept, LateAnswers, IsLateHistory, Stands, SeenAtNodes, LateLoadsTypeNothing};
 
-/// What a session is told follows from what it asks, from the loads that are accepted and from how its Opens are answered.
+/// The replies to a session's requests depend only on these requests, on the loads that are
+/// accepted, and on the replies to its Opens.
 pub fn law_isolation()
     ensures { Isolation }
 {}
 
-/// What a session types is what its opening table types, whatever is loaded meanwhile.
+/// While a session stays open, it types what the table types with which it was opened, whatever is
+/// loaded in the meantime, as long as that table would not cancel and none of the session's keys
+/// was fresh in a load.
 pub fn law_kept_texts()
     ensures { KeptTexts }
 {}
 
-/// A load types nothing, and what its certificate promises holds from then on.
+/// A load types nothing, and the promises of its certificate hold from then on. Only an accepted
+/// load changes the table.
 pub fn law_loads()
     ensures silent { LoadsTypeNothing }
     ensures promise { StandingPromise }
     ensures stays { TableStays }
 {}
 
-/// A service that refeeds a session when it is named, and all of them before a table with fresh keysyms comes, is the machine. What is
-/// pending in a session that is seen is a node of the current table, and an accepted load types nothing in it, whatever came before.
+/// A service may refeed a session only when a request names it, and all sessions before a table
+/// with fresh keysyms comes: it still behaves as the machine. The pending keysyms of a session, as
+/// requests see it, are a node of the current table, and an accepted load types nothing in it,
+/// whatever came before.
 pub fn law_late_service()
     ensures step { (reading : Reading) (old new : ServiceState) (n : ℕ) (body : Body)
         (answer : Answer) → AreKept old.table old.sessions
@@ -45,7 +54,8 @@ pub fn law_late_service()
     ensures silent { LateLoadsTypeNothing }
 {}
 
-/// A run over some requests and then over others is a run over all of them, and each run over all of them is two such runs.
+/// A run over some requests, followed by a run over others, is a run over all of them, and each run
+/// over all of them is two such runs.
 pub fn law_run_append()
     ensures joined { (reading : Reading) (old mid new : ServiceState)
         (first second : List Request) (first_replies second_replies : List Reply)
@@ -58,7 +68,8 @@ pub fn law_run_append()
         × Run reading old first first_replies mid × Run reading mid second second_replies new }
 {}
 
-/// The runs of the machine are its histories: the other laws, which speak of requests with their replies, hold of each run.
+/// The runs of the machine are its histories. So the other laws, which are about requests with
+/// their replies, hold for each run.
 pub fn law_run_history()
     ensures history { (reading : Reading) (old new : ServiceState) (requests : List Request)
         (replies : List Reply) → Run reading old requests replies new

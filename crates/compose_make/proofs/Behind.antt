@@ -1,4 +1,4 @@
--- What the pass has looked at: the sequences that go on from a node by some of its keys, and in the end all of them.
+-- What the pass has visited: the sequences that go on from a node by some of its keys, and in the end all of them.
 use Rattle.std.proofs.Common.{◌≡◌, ℕ, ◌+◌, ◌≤◌, List, [], ◌∷◌, ◌++◌, Bool, true, false, ◌&&◌, ◌||◌, length, map, take, refl, sym, ◌∙◌, ap, inl, inr, eqb-true}
 use Rattle.std.specs.Prelude.{Some, ◌==◌, encode_utf8, slice_get}
 use Rattle.std.specs.List.{list_any, list_all}
@@ -78,7 +78,7 @@ module _ (names : KeysymNames) (table : List Definition) (repertoire : Repertoir
     | inr e ↦ e
   ]
 
-  -- a node is no sequence
+  -- a node is not a sequence
   pub by_node : (c k : ℕ) (v : List ℕ) → is_extended table (p ++ k ∷ []) ≡ true → is_behind table repertoire c (p ++ k ∷ []) v ≡ is_by c k v
   by_node c k v x = same_test (is_behind table repertoire c (p ++ k ∷ []) v) (is_by c k v)
       (λ h. (let parts = and_parts (is_proper_prefix (p ++ k ∷ []) v) (is_whole table repertoire c v) h in
@@ -139,7 +139,7 @@ module _ (names : KeysymNames) (table : List Definition) (repertoire : Repertoir
             (λ d f. ap (is_proper_prefix (p ++ k ∷ [])) (sym (same_is v d.sequence f)) ∙ e) table q)
       ]
 
-  -- ---- the rows, once the sequences by these keys were looked at
+  -- ---- the rows, once the sequences by these keys were offered
 
   -- the rows are the least of what they were before and of the sequences by these keys
   abbrev pub HasSeen : List ℕ → List WantedCharacter → List WantedCharacter → Type 0
@@ -149,7 +149,7 @@ module _ (names : KeysymNames) (table : List Definition) (repertoire : Repertoir
   or_none true = refl
   or_none false = refl
 
-  -- past an edge that is no key of the repertoire, the rows have seen one edge more
+  -- after an edge whose key is not in the repertoire, the rows have seen one more edge
   pub seen_skip : (es : List ℕ) (i k : ℕ) (before rows : List WantedCharacter) → slice_get es i ≡ Some k → is_key repertoire k ≡ false → HasSeen (take i es) before rows
       → HasSeen (take (i + 1) es) before rows
   seen_skip es i k before rows at n h passes a =
@@ -157,7 +157,7 @@ module _ (names : KeysymNames) (table : List Definition) (repertoire : Repertoir
       (λ c v. or_none (passes c v || is_through table repertoire c p (take i es) v) ∙ ap (λ b. (passes c v || is_through table repertoire c p (take i es) v) || b) (sym (not_by c k v n))
       ∙ sym (next_through (passes c v) c es i k v at)) rows (h passes a)
 
-  -- past an edge to a node, behind which the rows have seen all, they have seen one edge more
+  -- after an edge to a node from which the rows have seen all sequences, they have seen one more edge
   pub seen_node : (es : List ℕ) (i k : ℕ) (before rows next : List WantedCharacter) → slice_get es i ≡ Some k → is_extended table (p ++ k ∷ []) ≡ true → HasSeen (take i es) before rows
       → ((passes : ℕ → List ℕ → Bool) → AreLeast passes rows → AreLeast (λ c v. passes c v || is_behind table repertoire c (p ++ k ∷ []) v) next) → HasSeen (take (i + 1) es) before next
   seen_node es i k before rows next at x h more passes a =

@@ -124,6 +124,6 @@ pub pairs_few : (names : KeysymNames) (fresh : List ℕ) (old new : List Definit
 pairs_few names fresh old new pairs f l =
     let n : length pairs ≡ length (nodes old) = ap length f.pairs_are ∙ length-map (nodes old) (λ p. (number_of old p, number_of new (pending new p))) in omega arith
 
--- what stands in an option is one thing
+-- an option holds one thing
 pub opened : {X : Type 0} (o : Option X) (x y : X) → o ≡ Some x → o ≡ Some y → x ≡ y
 opened o x y e f = let both : Some x ≡ Some y = sym e ∙ f in cc

@@ -92,7 +92,7 @@ least = (
 is_least : IsLeastTyping core ways (with_keys five_keys) 0xe9 (0xfe51 ∷ 0x63 ∷ [])
 is_least = least_typing core ways (with_keys five_keys) refl refl 0xe9 (0xfe51 ∷ 0x63 ∷ []) least
 
--- a longer one is not, nor one of as many keys that comes later
+-- a longer one is not, nor is one of as many keys that comes later
 another : (v w : List ℕ) (i : ℕ) → (get_or v i 0 ≡ get_or w i 0 → ⊥) → comes_first v w ≡ false → (v ≡ w) ⊎ (comes_first v w ≡ true) → ⊥
 another v w i apart late (inl e) = apart (ap (λ xs. get_or xs i 0) e)
 another v w i apart late (inr e) = let clash : true ≡ false = sym e ∙ late in cc

@@ -107,7 +107,7 @@ are_untypable names table repertoire s rows rise e a = record {
     not_true false n = refl
     not_true true n = cc
 
--- what is told of the rows is the answer
+-- the result of the rows is the answer
 pub missing_told : {A E : Type 0} (characters : A → List ℕ) (names : KeysymNames) (table : List Definition) (repertoire : Repertoire) → IsSettled table → (rows : List WantedCharacter) (r : Result A E)
     → keys_rise repertoire.characters ≡ true
     → characters_of rows ≡ repertoire.characters → AreLeast (is_candidate names table repertoire) rows → IfOk r (λ a. characters a ≡ all_missing rows)

@@ -21,7 +21,7 @@ use Rattle.compose_walk.proofs.FirstOrder.{first_by_order}
 use Rattle.compose_make.proofs.Reduction.{never_silent}
 use Rattle.compose_make.proofs.Rows.{encodes_one}
 
--- a key has a target exactly where it has an edge
+-- a key has a target exactly if it has an edge
 pub some_target : (table : List Definition) (p : List ℕ) (k : ℕ) → is_some (target_of table p k) ≡ has_edge table p k
 some_target table p k = go (is_node table (p ++ k ∷ [])) (is_sequence table (p ++ k ∷ []))
   where
@@ -30,7 +30,8 @@ some_target table p k = go (is_node table (p ++ k ∷ [])) (is_sequence table (p
     go false true = refl
     go false false = refl
 
--- where the first of three tests holds and the second fails, the first without the other two holds exactly where the third fails
+-- if the first of three tests holds and the second fails, the first without the other two holds exactly if the third
+-- fails
 pub plain_test : (a b e r : Bool) → a ≡ true → b ≡ false → e ≡ not r → r ≡ a && not b && not e
 plain_test true false true true ha hb hr = cc
 plain_test true false true false ha hb hr = refl
@@ -60,7 +61,7 @@ module _ (names : KeysymNames) (table : List Definition) (repertoire : Repertoir
   plain_character : (k : ℕ) → is_plain_key names table repertoire c k ≡ true → character_of names k ≡ Some c
   plain_character k h = spelled_by k (and_parts (is_key repertoire k && not (is_ignored k) && not (has_edge table [] k)) (spells c (text names k)) h).1
 
-  -- where no keysym of the character is left, none is plain
+  -- if no keysym of the character is left, none is plain
   pub none_plain : (after : Option ℕ) → IsNextOf names c after None → ((k : ℕ) → k < from_above after → is_plain_key names table repertoire c k ≡ false)
       → IsLeastOf (is_plain names table repertoire c) None
   none_plain after n passed [] h = cc
@@ -70,7 +71,7 @@ module _ (names : KeysymNames) (table : List Definition) (repertoire : Repertoir
   ]
   none_plain after n passed (k ∷ j ∷ v) h = cc
 
-  -- the next one, where it is plain, is the least
+  -- the next one, if it is plain, is the least
   pub next_plain : (after : Option ℕ) (k : ℕ) → IsNextOf names c after (Some k) → ((j : ℕ) → j < from_above after → is_plain_key names table repertoire c j ≡ false)
       → (is_key repertoire k && not (is_ignored k) && not (has_edge table [] k)) ≡ true
       → IsLeastOf (is_plain names table repertoire c) (Some (k ∷ []))
@@ -87,7 +88,7 @@ module _ (names : KeysymNames) (table : List Definition) (repertoire : Repertoir
       ]
       first (j ∷ i ∷ v) e = cc
 
-  -- the next one, where it is not plain, is passed
+  -- the next one, if it is not plain, is skipped
   pub next_passed : (after : Option ℕ) (k : ℕ) → IsNextOf names c after (Some k) → ((j : ℕ) → j < from_above after → is_plain_key names table repertoire c j ≡ false)
       → (is_key repertoire k && not (is_ignored k) && not (has_edge table [] k)) ≡ false
       → (j : ℕ) → j < from_above (Some k) → is_plain_key names table repertoire c j ≡ false

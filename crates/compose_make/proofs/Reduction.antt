@@ -26,9 +26,9 @@ use Rattle.compose_walk.proofs.FirstOrder.{first_by_length, first_then}
 use Rattle.compose_make.specs.Least.{are_keys, IsLeastTyping}
 use Rattle.compose_make.specs.Candidates.{spells, is_plain, is_plain_key, is_whole, IsLeastOf}
 
--- ---- the lists that need looking at
+-- ---- the lists that need to be checked
 
--- keys that are looked at for a character: one plain key, or a whole sequence by keys of the repertoire
+-- keys that are checked for a character: one plain key, or a whole sequence by keys of the repertoire
 abbrev pub is_candidate : KeysymNames → List Definition → Repertoire → ℕ → List ℕ → Bool
 is_candidate names table repertoire c w = is_plain names table repertoire c w || is_whole table repertoire c w
 
@@ -48,7 +48,7 @@ last_of P v k h =
     let parts = and_parts (list_all P v) (list_all P (k ∷ [])) (sym (list_all-append P v (k ∷ [])) ∙ h) in
     (parts.0, (and_parts (P k) true parts.1).0)
 
--- a list whose elements all pass still does with one more that passes behind it
+-- a list whose elements all pass still does with one more that passes at its end
 pub with_last : (P : ℕ → Bool) (v : List ℕ) (k : ℕ) → list_all P v ≡ true → P k ≡ true → list_all P (v ++ k ∷ []) ≡ true
 with_last P v k a b = list_all-append P v (k ∷ []) ∙ and_from (list_all P v) (list_all P (k ∷ [])) a (and_from (P k) true b refl)
 

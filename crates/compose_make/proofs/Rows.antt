@@ -14,14 +14,14 @@ use Rattle.compose_make.proofs.Order.{least_same, least_more}
 
 -- ---- rising characters
 
--- where the character at m is less, each up to m is less
+-- if the character at m is less, each up to m is less
 pub below_from : (xs : List ℕ) (c m : ℕ) → keys_rise xs ≡ true → m < length xs → get_or xs m 0 < c → (k : ℕ) → k < m + 1 → get_or xs k 0 < c
 below_from xs c m r fits less k le = elim (cases_lt k m) [
   | inl l ↦ (let a : get_or xs k 0 < get_or xs m 0 = rises xs r k m l fits in omega arith)
   | inr l ↦ (let e : k ≡ m = omega arith in let P : ℕ → Type 0 = λ n. get_or xs n 0 < c in subst P (sym e) less)
 ]
 
--- where the character at m is greater, each from m on is greater
+-- if the character at m is greater, each from m on is greater
 pub above_from : (xs : List ℕ) (c m : ℕ) → keys_rise xs ≡ true → c < get_or xs m 0 → (k : ℕ) → m ≤ k → k < length xs → c < get_or xs k 0
 above_from xs c m r more k le fits = elim (cases_lt m k) [
   | inl l ↦ (let a : get_or xs m 0 < get_or xs k 0 = rises xs r m k l fits in omega arith)
@@ -44,7 +44,7 @@ passed_over t w (row ∷ rows) n = ap₂ (λ r rs. r ∷ rs) (go (spells row.cha
     go true e = cc
     go false e = refl
 
--- a text that is no character changes nothing
+-- a text that is not a character changes nothing
 pub no_character : (t w : List ℕ) (rows : List WantedCharacter) → ((c : ℕ) → t ≡ encode_utf8 c → ⊥) → rows ≡ map (offered t w) rows
 no_character t w rows n = passed_over t w rows (λ k h. other (get_or (characters_of rows) k 0))
   where
@@ -54,7 +54,7 @@ no_character t w rows n = passed_over t w rows (λ k h. other (get_or (character
 spells_other : (c d : ℕ) (t : List ℕ) → t ≡ encode_utf8 d → (c ≡ d → ⊥) → spells c t ≡ false
 spells_other c d t e n = elim (cases_Bool (spells c t)) [ inl h ↦ absurd (n (encodes_one c d (same_is (encode_utf8 c) t h ∙ e))) | inr h ↦ h ]
 
--- nor does a character that is not wanted
+-- a character that is not wanted changes nothing either
 pub not_wanted : (t w : List ℕ) (d : ℕ) (rows : List WantedCharacter) → t ≡ encode_utf8 d → ((k : ℕ) → k < length rows → get_or (characters_of rows) k 0 ≡ d → ⊥) → rows ≡ map (offered t w) rows
 not_wanted t w d rows e n = passed_over t w rows (λ k h. spells_other (get_or (characters_of rows) k 0) d t e (n k h))
 
@@ -96,9 +96,9 @@ offered_characters t w (row ∷ rows) = ap₂ (λ c cs. c ∷ cs) (go (spells ro
     go true = refl
     go false = refl
 
--- ---- the least of what was looked at
+-- ---- the least of what was offered
 
--- the least by one test are the least by another that says the same
+-- the least by one test are the least by another that accepts the same
 pub are_same : (p q : ℕ → List ℕ → Bool) → ((c : ℕ) (v : List ℕ) → p c v ≡ q c v) → (rows : List WantedCharacter) → AreLeast p rows → AreLeast q rows
 are_same p q alike [] a = tt
 are_same p q alike (row ∷ rows) a = (least_same (p row.character) (q row.character) (alike row.character) row.keys a.0, are_same p q alike rows a.1)

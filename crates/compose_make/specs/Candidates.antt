@@ -1,4 +1,5 @@
--- The only lists of keys that need looking at, and the first of those that pass a test. Words for private functions.
+-- The only lists of keys that need to be checked, and the first of those that pass a test. Definitions for private
+-- functions.
 use Rattle.std.specs.Prelude.{◌≡◌, ◌⊎◌, ℕ, Bool, true, false, not, ◌&&◌, List, [], ◌∷◌, Option, Some, None, encode_utf8}
 use Rattle.std.specs.Option.{option_map_or}
 use Rattle.keysym_core.specs.Keysym.{is_ignored}
@@ -28,7 +29,7 @@ is_whole table repertoire c w = is_sequence table w && are_keys repertoire w && 
 
 -- ---- the least of the lists that pass a test
 
--- none passes; or this one does, and comes before each other one that does
+-- none passes; or this one does, and comes before every other one that does
 abbrev pub IsLeastOf : (List ℕ → Bool) → Option (List ℕ) → Type 0
 IsLeastOf passes None = (v : List ℕ) → passes v ≡ true → ⊥
 IsLeastOf passes (Some w) = (passes w ≡ true) × ((v : List ℕ) → passes v ≡ true → (w ≡ v) ⊎ (comes_first w v ≡ true))

@@ -1,4 +1,5 @@
--- The characters that are wanted, each with the first of the lists of keys that were looked at. Words for private functions.
+-- The characters that are wanted, each with the first of the lists of keys that were offered so far. Definitions for
+-- private functions.
 use Rattle.std.specs.Prelude.{◌≡◌, ℕ, Bool, ◌&&◌, if◌then◌else◌, List, [], ◌∷◌, map, Option, Some, None, is_some, unwrap_or}
 use Rattle.std.specs.List.{AllByRecursion}
 use Rattle.compose_model.specs.Table.{Definition, is_proper_prefix}
@@ -8,17 +9,17 @@ use Rattle.compose_make.specs.Candidates.{spells, is_whole, IsLeastOf}
 use Rattle.compose_make.specs.declared.typings.Typings.{Typings}
 use Rattle.compose_make.specs.declared.typings.Typings.TheVariants.{Found, Unreachable}
 
--- a character, and keys that type it, where some are known
+-- a character, and keys that type it, if some are known
 pub record WantedCharacter : Type 0 where
   pub character : ℕ
   pub keys : Option (List ℕ)
 
--- the one that comes first of the keys that are known and these
+-- the keys that come first: those that are known, or these
 abbrev pub better : Option (List ℕ) → List ℕ → Option (List ℕ)
 better None w = Some w
 better (Some v) w = if comes_first w v then Some w else Some v
 
--- what is known once these keys, which give this text, were looked at
+-- what is known once these keys, which give this text, were offered
 abbrev pub offered : List ℕ → List ℕ → WantedCharacter → WantedCharacter
 offered t w row = if spells row.character t then record row { keys = better row.keys w } else row
 
@@ -29,7 +30,7 @@ characters_of rows = map (λ row. row.character) rows
 abbrev pub AreLeast : (ℕ → List ℕ → Bool) → List WantedCharacter → Type 0
 AreLeast passes rows = AllByRecursion (λ row. IsLeastOf (passes row.character) row.keys) rows
 
--- ---- what was looked at
+-- ---- what was offered
 
 -- v goes on from p to a whole sequence that types c
 abbrev pub is_behind : List Definition → Repertoire → ℕ → List ℕ → List ℕ → Bool
@@ -53,7 +54,7 @@ abbrev pub all_missing : List WantedCharacter → List ℕ
 all_missing [] = []
 all_missing (row ∷ rows) = if is_some row.keys then all_missing rows else row.character ∷ all_missing rows
 
--- these typings are what the rows say
+-- these typings are the result of the rows
 abbrev pub IsOfRows : List WantedCharacter → Typings → Type 0
 IsOfRows rows (Found typings) = (first_missing rows ≡ None) × (typings ≡ map typing_of rows)
 IsOfRows rows (Unreachable c) = first_missing rows ≡ Some c

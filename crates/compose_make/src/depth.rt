@@ -1,9 +1,9 @@
-//! How deep a table is.
+//! The depth of a table.
 ghost use Rattle.compose_make.specs.Depth.{IsGreatestDepth};
 
 use compose_tree::{ComposeTable, NodeId};
 
-/// The greatest depth of a node. O(nodes).
+/// Returns the greatest depth of a node. O(nodes).
 pub fn greatest_depth<U: ComposeTable>(new: &U) -> u32
     ensures { IsGreatestDepth (U.definitions new.now) result }
 {

@@ -20,21 +20,21 @@ impl Model for TypingList {
 }
 
 impl TypingList {
-    /// These typings. O(1).
+    /// Wraps these typings. O(1).
     pub fn new(typings: Vec<Typing>) -> TypingList
         ensures { result ≡ typings.items }
     {
         TypingList { typings }
     }
 
-    /// The typings. O(1).
+    /// Returns the typings. O(1).
     pub fn as_slice(&self) -> &[Typing]
         ensures { result.now ≡ self.now }
     {
         self.typings.as_slice()
     }
 
-    /// Gives the typings back. O(1).
+    /// Returns the typings as a vector. O(1).
     pub fn into_vec(self) -> Vec<Typing>
         ensures { result.items ≡ self }
     {

@@ -1,4 +1,4 @@
-//! Certificates made.
+//! The making of certificates.
 ghost use Rattle.std.specs.Prelude.{◌≡◌, ◌<◌, ◌≤◌, ℕ, List, Some, None, Err, length, IfErr, IfOk, MatchResult};
 ghost use Rattle.compose_model.specs.Table.{Definition};
 ghost use Rattle.compose_model.specs.Certificate.{AreFresh};
@@ -17,7 +17,7 @@ use compose_walk::{Counterexample, MakeFault, Pairs, Walk, walk};
 use keysym_core::{Keysym, Names};
 use std::alloc::Global;
 
-/// What is made of an old and a new table.
+/// What `make` made from an old and a new table.
 #[derive(Drop)]
 pub enum Made {
     /// The new table does not follow: the least of the shortest counterexamples.
@@ -28,13 +28,13 @@ pub enum Made {
     Made(Certificate),
 }
 
-/// Makes a certificate that the new table follows the old one, but for what begins with a fresh keysym, and types each character
-/// of the repertoire; or says why there is none.
+/// Makes a certificate that the new table follows the old one, except for what begins with a fresh
+/// keysym, and that it types each character of the repertoire; or returns why there is none.
 ///
-/// At the cost of `walk` and `find_typings`, and O(new nodes).
+/// It costs what `walk` and `find_typings` do, and O(new nodes).
 ///
 /// # Errors
-/// `BadFresh` and `TooManyFresh` as `walk`, and `NoMemory`.
+/// `BadFresh` and `TooManyFresh` as in `walk`, and `NoMemory` if memory runs out.
 pub fn make<T: ComposeTable, U: ComposeTable>(
     alloc: Global,
     old: &T,
@@ -54,7 +54,7 @@ pub fn make<T: ComposeTable, U: ComposeTable>(
         (IsMade names.now fresh.now (T.definitions old.now)
         (U.definitions new.now) repertoire.now) (λ e. e ≡ MakeFault.NoMemory) }
 {
-    // A call's contract says that the table is settled.
+    // The contract of this call says that the table is settled.
     let _ = old.node_count();
     match walk(alloc, old, new, names, fresh)? {
         Walk::Differs(counterexample) => Ok(Made::Differs(counterexample)),
@@ -62,7 +62,7 @@ pub fn make<T: ComposeTable, U: ComposeTable>(
     }
 }
 
-/// The certificate with these pairs, or the first character that has no typing.
+/// Makes the certificate with these pairs, or returns the first character that has no typing.
 fn certify<U: ComposeTable>(
     alloc: Global,
     new: &U,

@@ -12,8 +12,8 @@ use compose_cert::Repertoire;
 use compose_tree::{ComposeTable, NodeId, Target};
 use keysym_core::Keysym;
 
-/// Looks at each sequence that goes on from the node, to which these keys lead, by keys of the repertoire.
-/// O(edges from the node on × log n) in the number n of the rows.
+/// Offers each sequence that goes on by keys of the repertoire from the node, to which these keys
+/// lead. O(edges from the node on × log n) for n rows.
 pub fn visit<U: ComposeTable>(
     new: &U,
     repertoire: &Repertoire,

@@ -10,8 +10,8 @@ use compose_cert::Repertoire;
 use compose_tree::{ComposeTable, NodeId};
 use keysym_core::{Keysym, Names};
 
-/// The least key of the repertoire that begins no sequence and whose own text is the character. O(log names) for each keysym of
-/// the character.
+/// Returns the least key of the repertoire that begins no sequence and whose own text is the
+/// character. O(log names) for each keysym of the character.
 pub fn plain_key<U: ComposeTable>(
     new: &U,
     names: &Names,
@@ -34,7 +34,8 @@ pub fn plain_key<U: ComposeTable>(
     }
 }
 
-/// Whether the keysym is a key of the repertoire that the table neither ignores nor begins a sequence with.
+/// Whether the keysym is a key of the repertoire that is not ignored and starts no sequence of the
+/// table.
 fn is_plain_key<U: ComposeTable>(new: &U, repertoire: &Repertoire, keysym: Keysym) -> bool
     ensures { result
         ≡ (is_key repertoire.now keysym && not (keysyms.is_ignored keysym)

@@ -24,13 +24,14 @@ pub enum Typings {
     Unreachable(char),
 }
 
-/// Finds for each character of the repertoire the shortest list of its keys that types it, of these the first in the order of
-/// sequences; or the least character that none types.
+/// Finds for each character of the repertoire the shortest list of its keys that types it, and of
+/// several the first in the order of sequences; or the least character that no list types.
 ///
-/// O(edges × log characters + characters × log names) time, for each keysym of a character; 136 bytes a character.
+/// O(edges × log characters + characters × log names) time, for each keysym of a character; 136
+/// bytes per character.
 ///
 /// # Errors
-/// `NoMemory` alone.
+/// Only `NoMemory`, if memory runs out.
 pub fn find_typings<U: ComposeTable>(
     alloc: Global,
     new: &U,
@@ -48,10 +49,11 @@ pub fn find_typings<U: ComposeTable>(
     typings_of(alloc, &rows)
 }
 
-/// Finds all characters of the repertoire that no list of its keys types, in order. At the cost of `find_typings`.
+/// Finds all characters of the repertoire that no list of its keys types, in order. It costs what
+/// `find_typings` does.
 ///
 /// # Errors
-/// `NoMemory` alone.
+/// Only `NoMemory`, if memory runs out.
 pub fn untypable<U: ComposeTable>(
     alloc: Global,
     table: &U,
@@ -71,7 +73,8 @@ pub fn untypable<U: ComposeTable>(
     missing_of(alloc, &rows)
 }
 
-/// A row for each character of the repertoire, with the key that types it by itself, if there is one.
+/// Makes a row for each character of the repertoire, with the key that types it by itself, if there
+/// is one.
 fn wanted_rows<U: ComposeTable>(
     alloc: Global,
     new: &U,
@@ -93,7 +96,7 @@ fn wanted_rows<U: ComposeTable>(
     Ok(rows)
 }
 
-/// The typings of the rows, or the first character that has none.
+/// Returns the typings of the rows, or the first character that has none.
 fn typings_of(alloc: Global, rows: &[Wanted]) -> Result<Typings, MakeFault>
     ensures found { IfOk result (IsOfRows rows.now) }
     ensures err { IfErr result (λ e. e ≡ MakeFault.NoMemory) }
@@ -108,7 +111,7 @@ fn typings_of(alloc: Global, rows: &[Wanted]) -> Result<Typings, MakeFault>
     Ok(Typings::Found(TypingList::new(typings)))
 }
 
-/// The characters of the rows that have no keys.
+/// Returns the characters of the rows that have no keys.
 fn missing_of(alloc: Global, rows: &[Wanted]) -> Result<Vec<char>, MakeFault>
     ensures found { IfOk result (λ missing. missing.items ≡ all_missing rows.now) }
     ensures err { IfErr result (λ e. e ≡ MakeFault.NoMemory) }

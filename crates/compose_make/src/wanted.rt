@@ -1,4 +1,4 @@
-//! The characters that people need, each with the first keys that were found for it.
+//! The characters that people need, each with the best keys that were found for it so far.
 ghost use Rattle.std.specs.Prelude.{◌≡◌, ◌<◌, ◌≤◌, ℕ, [], ◌∷◌, ◌++◌, map, length, get_or, encode_utf8, MatchOption, IsTrue, IfOk, Some, None, is_some};
 ghost use Rattle.std.specs.Option.{option_map};
 ghost use Rattle.compose_model.specs.Certificate.{keys_rise};
@@ -12,7 +12,7 @@ use std::alloc::{AllocError, Global};
 use std::cmp::Ordering;
 use std::marker::Model;
 
-/// A character that is wanted, and keys that type it, once some were found.
+/// A character that is wanted, and keys that type it, if some were found.
 #[derive(Drop)]
 pub struct Wanted {
     character: char,
@@ -33,7 +33,7 @@ impl Model for Wanted {
 }
 
 impl Wanted {
-    /// The character with this key, if it has one.
+    /// Makes a row for the character, with this key, if it has one.
     pub fn new(character: char, key: Option<Keysym>) -> Wanted
         ensures { result ≡ record { character = character; keys = option_map (λ k. k ∷ []) key } }
     {
@@ -44,14 +44,15 @@ impl Wanted {
         Wanted { character, keys }
     }
 
-    /// The character.
+    /// Returns the character.
     pub fn character(&self) -> char
         ensures { result ≡ self.now.character }
     {
         self.character
     }
 
-    /// The typing by the keys that were found.
+    /// Returns the typing by the keys that were found, if some were. `Err(AllocError)` if memory
+    /// runs out.
     pub fn typing(&self, alloc: Global) -> Result<Option<Typing>, AllocError>
         ensures { IfOk result
             (λ typing. typing ≡ option_map (typing_by self.now.character) self.now.keys) }
@@ -69,7 +70,7 @@ impl Wanted {
         self.keys.is_some()
     }
 
-    /// Takes these keys where they come first.
+    /// Takes these keys if they come before the row's keys.
     fn offer(&mut self, keys: &[Keysym])
         requires { length keys.now ≤ 32 }
         ensures { self.new ≡ record self.old { keys = better self.old.keys keys.now } }
@@ -83,7 +84,7 @@ impl Wanted {
     }
 }
 
-/// These keys.
+/// Copies these keys.
 fn copied(keys: &[Keysym]) -> ArrayVec<Keysym, 32>
     requires { length keys.now ≤ 32 }
     ensures { result.items ≡ keys.now }
@@ -93,7 +94,7 @@ fn copied(keys: &[Keysym]) -> ArrayVec<Keysym, 32>
     copy
 }
 
-/// These keys and one more.
+/// Returns these keys and one more.
 pub fn with_key(keys: &[Keysym], key: Keysym) -> ArrayVec<Keysym, 32>
     requires { length keys.now < 32 }
     ensures { result.items ≡ keys.now ++ key ∷ [] }
@@ -113,7 +114,7 @@ fn comes_first(keys: &[Keysym], other: &[Keysym]) -> bool
     keys.len() < other.len()
 }
 
-/// The index of the character, if it is wanted. O(log n).
+/// Returns the index of the character, if it is wanted. O(log n).
 fn index_of(rows: &[Wanted], character: char) -> Option<usize>
     requires { IsTrue (keys_rise (characters_of rows.now)) }
     ensures { MatchOption result
@@ -137,7 +138,7 @@ fn index_of(rows: &[Wanted], character: char) -> Option<usize>
     None
 }
 
-/// The character that the text is, if it is one alone.
+/// Returns the character, if the text is a single one.
 fn single_character(text: &str) -> Option<char>
     ensures { MatchOption result ((c : ℕ) → text.now ≡ encode_utf8 c → ⊥)
         (λ c. text.now ≡ encode_utf8 c) }
@@ -152,7 +153,8 @@ fn single_character(text: &str) -> Option<char>
     }
 }
 
-/// Looks at these keys, which give the text. O(log n), and at most 32 keys compared.
+/// Offers these keys, which give the text, to the row of its character. O(log n), and at most 32
+/// keys compared.
 pub fn offer_text(rows: &mut [Wanted], text: &str, keys: &[Keysym])
     requires rise { IsTrue (keys_rise (characters_of rows.old)) }
     requires few { length keys.now ≤ 32 }

@@ -1,4 +1,4 @@
--- Entries that are not as many as the sources.
+-- Entries whose number differs from that of the sources.
 use Rattle.std.proofs.Common.{◌≡◌, ◌≢◌, Bool, true, false, List, [], ◌∷◌, length, refl, ap, suc}
 use Rattle.std.specs.Prelude.{◌&&◌}
 use Rattle.compose_find.specs.Found.{FoundSource}
@@ -9,7 +9,7 @@ not_both : (a b : Bool) → b ≡ false → a && b ≡ false
 not_both true b e = e
 not_both false b e = refl
 
--- entries that are not as many as the sources are not those of the sources
+-- entries whose number differs from that of the sources are not those of the sources
 pub other_count : (entries : List Entry) (sources : List FoundSource) → length entries ≢ length sources → are_entries entries sources ≡ false
 other_count [] [] h = absurd (h refl)
 other_count [] (source ∷ sources) h = refl

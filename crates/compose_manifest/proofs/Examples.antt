@@ -7,7 +7,7 @@ use Rattle.compose_model.specs.declared.Rule.TheVariants.{Longest}
 use Rattle.compose_manifest.specs.Manifest.{listing_of}
 use Rattle.compose_manifest.specs.declared.manifest.ManifestFault.TheVariants.{BadLine, Empty}
 
--- a rule, where paths go from, a comment, and two entries
+-- a rule, a line for relative paths, a comment, and two entries
 two_entries : listing_of (codes "overlap longest" ++ 10 ∷ codes "paths here" ++ 10 ∷ codes "# both"
     ++ 10 ∷ codes "root" ++ 9 ∷ codes "a.compose" ++ 10 ∷ codes "more" ++ 9 ∷ codes "b.compose" ++ 10 ∷ [])
     ≡ Ok (record { rule = Some Longest; paths_here = true; entries = record { name = codes "root"; path = codes "a.compose" } ∷ record { name = codes "more"; path = codes "b.compose" } ∷ [] })

@@ -1,4 +1,4 @@
--- One line more of a manifest: the listing goes on, or the fault is the whole manifest's.
+-- One more line of a manifest: the listing goes on, or the fault is that of the whole manifest.
 use Rattle.std.proofs.Common.{◌≡◌, ℕ, ◌+◌, List, ◌∷◌, sym, ◌∙◌, ap, arith}
 use Rattle.std.specs.Prelude.{Result, Ok, Err}
 use Rattle.compose_manifest.specs.Manifest.{Listing, with_line, lines_on, some_entries}
@@ -9,7 +9,7 @@ use Rattle.compose_manifest.specs.declared.manifest.ManifestFault.TheVariants.{B
 swapped : (n : ℕ) → 1 + n ≡ n + 1
 swapped n = omega arith
 
--- what line `number + 1` says, put before the lines behind it
+-- the content of line `number + 1`, before the lines after it
 pub line_said : (number : ℕ) (listing : Listing) (line : List ℕ) (lines : List (List ℕ)) (said : Result Listing ManifestFault) → with_line (number + 1) listing line ≡ said
     → lines_on (1 + number) (line ∷ lines) (Ok listing) ≡ lines_on (1 + (number + 1)) lines said
 line_said number listing line lines said e =

@@ -13,12 +13,12 @@ other_byte b h = go (b == 9) refl
     go true e = absurd (h (eqb-true b 9 e))
     go false e = refl
 
--- the first tab stands at this index
+-- the first tab is at this index
 pub record TabAt (text : List ℕ) (at : ℕ) : Type 0 where
   pub before : leading is_no_tab text ≡ take at text
   pub from : behind is_no_tab text ≡ 9 ∷ drop (suc at) text
 
--- an index with a tab and none before it is that of the line's first tab
+-- an index with a tab, and no tab before it, is that of the first tab
 pub first_tab : (text : List ℕ) (at : ℕ) → at < length text → get_or text at 0 ≡ 9 → ((i : ℕ) → i < at → get_or text i 0 ≢ 9) → TabAt text at
 first_tab [] at less e h = absurd (omega arith)
 first_tab (b ∷ text) zero less e h = record { before = rw e refl; from = rw e refl }
@@ -27,7 +27,7 @@ first_tab (b ∷ text) (suc at) less e h =
     let rest : TabAt text at = first_tab text at (omega arith) e (λ i less. h (suc i) (omega arith)) in
     record { before = rw passes (ap (λ t. b ∷ t) rest.before); from = rw passes rest.from }
 
--- a line without a tab has nothing behind its leading bytes that are no tabs, and all its bytes are such
+-- a line without a tab consists of its leading bytes that are no tabs, and nothing follows them
 pub no_tab : (text : List ℕ) → ((i : ℕ) → i < length text → get_or text i 0 ≢ 9) → (behind is_no_tab text ≡ []) × (list_all is_no_tab text ≡ true)
 no_tab [] h = (refl, refl)
 no_tab (b ∷ text) h =
@@ -58,11 +58,11 @@ entry_by text at tab name path n p =
 pub no_entry : (text : List ℕ) → ((i : ℕ) → i < length text → get_or text i 0 ≢ 9) → entry_of text ≡ None
 no_entry text h = ap (entry_of_parts (leading is_no_tab text)) (no_tab text h).0
 
--- a line whose name or path is empty, or whose path has a further tab, is no entry
+-- a line whose name or path is empty, or whose path has another tab, is no entry
 pub bad_entry : (text : List ℕ) (at : ℕ) → TabAt text at → (name path : List ℕ) → name ≡ take at text → path ≡ drop (at + 1) text → are_parts name path ≡ false → entry_of text ≡ None
 bad_entry text at tab name path n p bad = entry_by text at tab name path n p ∙ rw bad refl
 
--- a line whose name and path have bytes, and whose path has no further tab, is the entry of these two
+-- a line whose name and path are not empty, and whose path has no other tab, is the entry of these two
 pub good_entry : (text : List ℕ) (at : ℕ) → TabAt text at → (name path : List ℕ) → name ≡ take at text → path ≡ drop (at + 1) text → are_parts name path ≡ true
     → entry_of text ≡ Some (let e : Entry = record { name = name; path = path } in e)
 good_entry text at tab name path n p good = entry_by text at tab name path n p ∙ rw good refl

@@ -1,4 +1,4 @@
--- What reading a manifest gives, unless memory ran out.
+-- The results of reading a manifest, unless memory runs out.
 use Rattle.std.specs.Prelude.{◌≡◌, ℕ, List, Result, Ok, Err}
 use Rattle.std.proofs.Common.{Bor}
 use Rattle.compose_manifest.specs.Manifest.{Listing, Entry, with_line}
@@ -10,7 +10,7 @@ ManifestGives (Ok listing) said = said ≡ Ok listing
 ManifestGives (Err NoMemory) said = Unit {0}
 ManifestGives (Err fault) said = said ≡ Err fault
 
--- what adding a line gives, and the listing then
+-- the result of adding a line, and the listing after it
 abbrev pub SaidGives : Result Listing ManifestFault → Result (Unit {0}) ManifestFault → Listing → Type 0
 SaidGives said (Ok done) new = said ≡ Ok new
 SaidGives said (Err NoMemory) new = Unit {0}

@@ -1,4 +1,4 @@
--- The manifest of sources that were found.
+-- The manifest of the sources that were found.
 use Rattle.std.specs.Prelude.{◌≡◌, ℕ, Bool, true, false, not, ◌&&◌, if◌then◌else◌, List, [], ◌∷◌, ◌++◌, flat_map, Result, Ok, Err, unwrap_or, string_bytes, bytes_eq, IsTrue}
 use Rattle.std.specs.declared.alloc.Global.{Global}
 use Rattle.std.specs.declared.string.String.{String}
@@ -32,19 +32,19 @@ abbrev pub is_refuse : Rule → Bool
 is_refuse Refuse = true
 is_refuse Longest = false
 
--- the listing has the sources' entries, and refuses overlaps; relative paths go from the folder in which the program runs
+-- the listing has the sources' entries, and refuses overlaps; its relative paths are relative to the working directory
 abbrev pub lists : Listing → List FoundSource → Bool
 lists listing sources = not listing.paths_here && is_refuse (unwrap_or listing.rule Refuse) && are_entries listing.entries sources
 
--- the path of an entry's file, where the manifest with this listing lies at a path
+-- the path of an entry's file, for a manifest with this listing at a path
 abbrev pub file_path : Listing → List ℕ → List ℕ → List ℕ
 file_path listing manifest path = if listing.paths_here then beside manifest path else path
 
--- a manifest's bytes are read as a listing of the sources
+-- reading the bytes as a manifest lists the sources
 abbrev pub ReadsAs : List ℕ → List FoundSource → Type 0
 ReadsAs bytes sources = (listing : Listing) × (listing_of bytes ≡ Ok listing) × IsTrue (lists listing sources)
 
--- the text is the sources' manifest, which is read as a listing of them; it is refused where it would not be
+-- the text is the sources' manifest, and reading it lists them; it is unwritable if reading it would not
 abbrev pub IsWritten : List FoundSource → Result (String Global) WriteFault → Type 0
 IsWritten sources (Ok text) = (string_bytes text ≡ manifest_bytes sources) × ReadsAs (manifest_bytes sources) sources
 IsWritten sources (Err Unwritable) = ¬ (ReadsAs (manifest_bytes sources) sources)

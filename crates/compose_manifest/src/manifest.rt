@@ -1,4 +1,4 @@
-//! Manifests: the files of a table, and what is done with its overlaps.
+//! Reading manifests: the files of a table, and the rule for its overlaps.
 ghost use Rattle.std.specs.Prelude.{◌≡◌, ◌<◌, ◌+◌, ◌++◌, ◌∷◌, [], length, Some, None, Ok, Err, option_copied, slice_get, unwrap_or, OnOk, OnErr, IfOk, IfErr, string_bytes, if◌then◌else◌, not};
 ghost use Rattle.std.specs.List.{list_all};
 ghost use Rattle.std.specs.Option.{option_map};
@@ -15,16 +15,16 @@ use std::alloc::{AllocError, AllocFailed, Global};
 use std::marker::Model;
 use thiserror::Error;
 
-/// The first fault of a manifest. `line` counts from 1.
+/// The first fault of a manifest. `line` is counted from 1.
 #[derive(Clone, Copy, Debug, PartialEq, Eq, Drop, Error)]
 pub enum ManifestFault {
-    /// The line is not UTF-8, or of another form.
+    /// The line is not UTF-8, or has none of the forms, or comes twice or too late.
     #[error("1 BadLine line={line}")]
     BadLine { line: usize },
-    /// There is no entry.
+    /// The manifest has no entry.
     #[error("2 Empty")]
     Empty,
-    /// A growth was refused.
+    /// A memory allocation failed.
     #[error("3 NoMemory")]
     NoMemory,
 }
@@ -49,10 +49,12 @@ impl<T: Drop> From<AllocFailed<T>> for ManifestFault {
     }
 }
 
-/// A source's name and the path of its file.
+/// An entry of a manifest: the name of a source, and the path of its file.
 #[derive(Drop)]
 pub struct Entry {
+    /// The name of the source: the raw text of the includes that name it.
     pub name: String,
+    /// The path of its file, as it is written in the manifest.
     pub path: String,
 }
 
@@ -65,7 +67,8 @@ impl Model for Entry {
     ghost view = { λ e. record { name = string_bytes e.name; path = string_bytes e.path } };
 }
 
-/// The sources of a table in order, the root first, the rule for its overlaps, and from where relative paths go.
+/// A manifest as a value: the sources of a table in order, the root first; the rule for its
+/// overlaps; and whether relative paths are relative to the manifest.
 #[derive(Drop)]
 pub struct Manifest {
     rule: Option<Rule>,
@@ -87,21 +90,21 @@ impl Model for Manifest {
 }
 
 impl Manifest {
-    /// How many entries there are. O(1).
+    /// Returns the number of entries. O(1).
     pub fn count(&self) -> usize
         ensures { result ≡ length self.now.entries }
     {
         self.entries.len()
     }
 
-    /// The entries in order, the root first. O(1).
+    /// Returns the entries in order, the root first. O(1).
     pub fn entries(&self) -> &[Entry]
         ensures { result.now ≡ self.now.entries }
     {
         &self.entries
     }
 
-    /// The name of the source at this index. O(1).
+    /// Returns the name of the source at this index, counted from 0. O(1).
     pub fn name(&self, index: usize) -> Option<&str>
         ensures { option_copied result
             ≡ option_map (λ e. e.name) (slice_get self.now.entries index) }
@@ -110,7 +113,7 @@ impl Manifest {
         Some(entry.name.as_str())
     }
 
-    /// The path of the file at this index. O(1).
+    /// Returns the path of the file at this index, counted from 0. O(1).
     pub fn path(&self, index: usize) -> Option<&str>
         ensures { option_copied result
             ≡ option_map (λ e. e.path) (slice_get self.now.entries index) }
@@ -119,15 +122,15 @@ impl Manifest {
         Some(entry.path.as_str())
     }
 
-    /// What is done with the table's overlaps; `Refuse` where the manifest doesn't say. O(1).
+    /// Returns the rule for the table's overlaps, `Refuse` if the manifest has none. O(1).
     pub fn rule(&self) -> Rule
         ensures { result ≡ unwrap_or self.now.rule Refuse }
     {
         self.rule.unwrap_or(Rule::Refuse)
     }
 
-    /// Whether a relative path of an entry goes from the folder of the manifest; else it goes from the folder in which the program
-    /// runs. O(1).
+    /// Returns whether the relative paths of the entries are relative to the folder of the
+    /// manifest; else they are relative to the working directory. O(1).
     pub fn paths_here(&self) -> bool
         ensures { result ≡ self.now.paths_here }
     {
@@ -135,8 +138,11 @@ impl Manifest {
     }
 }
 
-/// What a manifest lists, or the fault of its first faulty line. A line is a name, one tab and a path, or empty, or begins
-/// with `#`; a line `overlap longest` or `overlap refuse` may stand before the entries, once, and so may a line `paths here`. O(bytes).
+/// Reads a manifest. A line is a name, one tab and a path; or it is empty or begins with `#`, and
+/// is skipped. Before the entries there may be one line `overlap longest` or `overlap refuse`, and
+/// one line `paths here`. O(bytes).
+///
+/// Errors: `BadLine` for the first faulty line, `Empty` if there is no entry, or `NoMemory`.
 pub fn read_manifest(alloc: Global, bytes: &[u8]) -> Result<Manifest, ManifestFault>
     ensures { ManifestGives result (listing_of bytes.now) }
 {
@@ -160,8 +166,11 @@ pub fn read_manifest(alloc: Global, bytes: &[u8]) -> Result<Manifest, ManifestFa
     Ok(manifest)
 }
 
-/// The path of the file of this entry, where the manifest lies at the path `at`: a relative one goes from the manifest's folder where the
-/// manifest says so, and else stays relative to the folder in which the program runs. O(bytes).
+/// Returns the path of the file of this entry, for a manifest at the path `at`. A relative path is
+/// taken from the manifest's folder if the manifest has the line `paths here`; else it stays
+/// relative to the working directory. O(bytes).
+///
+/// Errors: `AllocError` if memory runs out.
 pub fn file_path(
     alloc: Global,
     manifest: &Manifest,
@@ -178,7 +187,7 @@ pub fn file_path(
 }
 
 impl Manifest {
-    /// Adds what the line with this number says.
+    /// Adds the content of the line with this number.
     fn add_line(&mut self, alloc: Global, number: usize, line: &[u8]) -> Result<(), ManifestFault>
         ensures { LineGives number self.old line.now result self.new }
     {
@@ -188,7 +197,7 @@ impl Manifest {
         }
     }
 
-    /// Adds what the text of a line says.
+    /// Adds the content of a line's text.
     fn add_text(&mut self, alloc: Global, number: usize, text: &str) -> Result<(), ManifestFault>
         ensures { SaidGives (with_text number self.old text.now) result self.new }
     {
@@ -207,7 +216,7 @@ impl Manifest {
         self.add_entry(alloc, name, path)
     }
 
-    /// Sets the rule, which stands before the entries and once.
+    /// Sets the rule. It comes before the entries, and at most once.
     fn set_rule(&mut self, number: usize, rule: Rule) -> Result<(), ManifestFault>
         ensures { SaidGives (with_rule number self.old rule) result self.new }
     {
@@ -218,7 +227,8 @@ impl Manifest {
         Ok(())
     }
 
-    /// Takes relative paths from the manifest's folder, which is said before the entries and once.
+    /// Makes relative paths relative to the manifest's folder. The line for this comes before the
+    /// entries, and at most once.
     fn set_paths_here(&mut self, number: usize) -> Result<(), ManifestFault>
         ensures { SaidGives (with_paths_here number self.old) result self.new }
     {
@@ -229,7 +239,7 @@ impl Manifest {
         Ok(())
     }
 
-    /// Adds an entry behind the others.
+    /// Adds an entry after the others.
     fn add_entry(&mut self, alloc: Global, name: &str, path: &str) -> Result<(), ManifestFault>
         ensures ok { OnOk result
             (self.new
@@ -246,7 +256,7 @@ impl Manifest {
     }
 }
 
-/// The text without a carriage return at its end.
+/// Returns the text without a carriage return at its end.
 fn without_return(text: &str) -> &str
     ensures { result.now ≡ words.without_return text.now }
 {
@@ -256,7 +266,7 @@ fn without_return(text: &str) -> &str
     text
 }
 
-/// Whether the text is empty, or a comment.
+/// Returns whether the text is empty or a comment.
 fn is_skipped(text: &str) -> bool
     ensures { result ≡ words.is_skipped text.now }
 {
@@ -266,7 +276,7 @@ fn is_skipped(text: &str) -> bool
     }
 }
 
-/// The rule that a line says.
+/// Returns the rule of a line, if it is a line with a rule.
 fn rule_of(text: &str) -> Option<Rule>
     ensures { result ≡ words.rule_of text.now }
 {
@@ -277,7 +287,7 @@ fn rule_of(text: &str) -> Option<Rule>
     }
 }
 
-/// The name and the path round the only tab.
+/// Returns the name and the path before and after the only tab.
 fn split_entry(text: &str) -> Option<(&str, &str)>
     ensures { option_map entry result ≡ words.entry_of text.now }
 {
@@ -289,14 +299,14 @@ fn split_entry(text: &str) -> Option<(&str, &str)>
     Some((name, path))
 }
 
-/// Whether both have bytes, and no tab stands in the path.
+/// Returns whether both are not empty, and the path has no tab.
 fn are_parts(name: &str, path: &str) -> bool
     ensures { result ≡ words.are_parts name.now path.now }
 {
     !name.is_empty() && !path.is_empty() && !has_tab(path)
 }
 
-/// Whether a tab stands in the text.
+/// Returns whether the text has a tab.
 fn has_tab(text: &str) -> bool
     ensures { not result ≡ list_all words.is_no_tab text.now }
 {

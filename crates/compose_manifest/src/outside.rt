@@ -7,8 +7,11 @@ use compose_shown::Shown;
 use std::alloc::{AllocError, Global};
 use std::fmt::Write;
 
-/// A line for each source but the first whose path lies neither below the tree nor below the root, if one is given: `note: PATH lies outside of
-/// TREE`, in order, as a terminal may show them. The first source is the root of the table, whose path the user gave. O(bytes).
+/// Returns a line for each source but the first whose path lies neither below the tree nor below
+/// the root, if one is given: `note: PATH lies outside of TREE`, in order, escaped for a terminal.
+/// The first source is the root of the table, whose path comes from the user. O(bytes).
+///
+/// Errors: `AllocError` if memory runs out.
 pub fn outside_text(
     alloc: Global,
     tree: &str,
@@ -25,7 +28,7 @@ pub fn outside_text(
     }
 }
 
-/// The lines about those of the sources that lie outside.
+/// Returns the lines for those of the sources that lie outside.
 fn notes(
     alloc: Global,
     tree: &str,
@@ -45,7 +48,7 @@ fn notes(
     Ok(text)
 }
 
-/// Adds the line about a source.
+/// Adds the line for a source.
 fn push_note(text: &mut String, tree: &str, source: &FoundSource) -> Result<(), AllocError>
     ensures { OnOk result
         (string_bytes text.new ≡ string_bytes text.old ++ outside.note tree.now source.now) }
@@ -55,7 +58,7 @@ fn push_note(text: &mut String, tree: &str, source: &FoundSource) -> Result<(), 
     Ok(())
 }
 
-/// Whether the path lies neither below the tree nor below the root, if one is given.
+/// Returns whether the path lies neither below the tree nor below the root, if one is given.
 fn is_outside(tree: &str, root: Option<&str>, path: &str) -> bool
     ensures { result ≡ outside.is_outside tree.now (option_copied root.entry) path.now }
 {

@@ -1,4 +1,4 @@
-//! The manifest of the sources that were found on a system.
+//! Writing the manifest of the sources that were found on a system.
 ghost use Rattle.std.specs.Prelude.{◌≡◌, ◌++◌, ◌∷◌, [], IfOk, OnOk, string_bytes};
 ghost use Rattle.compose_manifest.specs.Text as text;
 ghost use Rattle.compose_manifest.specs.declared.writing.WriteFault.TheVariants.{NoMemory};
@@ -9,13 +9,13 @@ use compose_model::Rule;
 use std::alloc::{AllocError, AllocFailed, Global};
 use thiserror::Error;
 
-/// Why the manifest of some sources isn't written.
+/// Why a manifest can't be written.
 #[derive(Clone, Copy, Debug, PartialEq, Eq, Drop, Error)]
 pub enum WriteFault {
-    /// A name or a path can't stand in a manifest, as one with a newline or a tab.
+    /// A name or a path can't be written in a manifest: for example, it has a newline or a tab.
     #[error("1 Unwritable")]
     Unwritable,
-    /// Memory was refused in this call.
+    /// A memory allocation failed.
     #[error("2 NoMemory")]
     NoMemory,
 }
@@ -36,8 +36,11 @@ impl<T: Drop> From<AllocFailed<T>> for WriteFault {
     }
 }
 
-/// The manifest of these sources: a line for each, its name, a tab and its path. Reading it lists them in order, by the rule that refuses overlaps;
-/// where it would not, as for a path with a newline, the sources are refused. O(bytes).
+/// Returns the manifest of these sources: one line for each, with its name, a tab and its path.
+/// Reading it lists them in order, with the rule that refuses overlaps. O(bytes).
+///
+/// Errors: `Unwritable` if reading it would not list them, as for a path with a newline; or
+/// `NoMemory`.
 pub fn manifest_text(alloc: Global, sources: &[FoundSource]) -> Result<String, WriteFault>
     ensures { text.IsWritten sources.now result }
 {
@@ -49,7 +52,7 @@ pub fn manifest_text(alloc: Global, sources: &[FoundSource]) -> Result<String, W
     }
 }
 
-/// A line for each source.
+/// Returns a line for each source.
 fn lines_of(alloc: Global, sources: &[FoundSource]) -> Result<String, AllocError>
     ensures { IfOk result (λ written. string_bytes written ≡ text.manifest_bytes sources.now) }
 {
@@ -71,7 +74,8 @@ fn push_line(lines: &mut String, source: &FoundSource) -> Result<(), AllocError>
     lines.push('\n')
 }
 
-/// Whether the manifest lists these sources, by the rule that refuses overlaps and with paths as they stand.
+/// Returns whether the manifest lists these sources, with the rule that refuses overlaps and with
+/// unchanged paths.
 fn lists(manifest: &Manifest, sources: &[FoundSource]) -> bool
     ensures { result ≡ text.lists manifest.now sources.now }
 {
@@ -80,7 +84,7 @@ fn lists(manifest: &Manifest, sources: &[FoundSource]) -> bool
         && are_entries(manifest.entries(), sources)
 }
 
-/// Whether the entries are those of the sources, in order.
+/// Returns whether the entries are those of the sources, in order.
 fn are_entries(entries: &[Entry], sources: &[FoundSource]) -> bool
     ensures { result ≡ text.are_entries entries.now sources.now }
 {
@@ -95,7 +99,7 @@ fn are_entries(entries: &[Entry], sources: &[FoundSource]) -> bool
     true
 }
 
-/// Whether the entry is that of the source.
+/// Returns whether the entry is that of the source.
 fn is_entry(entry: &Entry, source: &FoundSource) -> bool
     ensures { result ≡ text.is_entry entry.now source.now }
 {

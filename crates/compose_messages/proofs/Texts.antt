@@ -8,7 +8,7 @@ use Rattle.compose_messages.specs.Places.{text_or_nothing}
 pub kept : (bytes text : List ℕ) → text ≡ bytes → IsUtf8 bytes → text ≡ text_or_nothing bytes
 kept bytes text same utf8 = same ∙ sym (ap (λ b. cond b bytes []) (is_utf8-from_IsUtf8 bytes utf8))
 
--- of bytes that are no UTF-8 nothing is kept
+-- of bytes that are not UTF-8 nothing is kept
 pub left_out : (bytes : List ℕ) → (IsUtf8 bytes → ⊥) → [] ≡ text_or_nothing bytes
 left_out bytes none = by (is_utf8 bytes) refl
   where

@@ -1,4 +1,4 @@
--- Whether a file begins as a Compose file does (this project's profile).
+-- Does a file begin like a Compose file? (this project's profile)
 use Rattle.std.specs.Prelude.{ℕ, Bool, true, false, List, [], ◌∷◌, Option, Some, None, Result, Ok, Err}
 use Rattle.std.specs.Option.{option_map_or}
 use Rattle.compose_text.specs.Lines.{lines_of}
@@ -7,7 +7,7 @@ use Rattle.compose_lex.specs.Fault.{reading_of}
 use Rattle.compose_lex.specs.declared.LexFault.{LexFault}
 use Rattle.compose_messages.specs.Places.{text_or_nothing}
 
--- a production or an include is read; none where nothing is said
+-- the line is a production or an include; none for a blank line or a comment
 abbrev pub says_table : Result Reading LexFault → Option Bool
 says_table (Ok blank) = None
 says_table (Ok reading) = Some true
@@ -16,7 +16,7 @@ says_table (Err fault) = Some false
 abbrev pub line_of_table : List ℕ → Option Bool
 line_of_table line = says_table (reading_of (text_or_nothing line))
 
--- the first of the lines that says something is one of a Compose file
+-- the first of the lines that is not blank and not a comment is a line of a Compose file
 abbrev pub begin_as_table : List (List ℕ) → Bool
 begin_as_table [] = false
 begin_as_table (line ∷ lines) = option_map_or (λ is_table. is_table) (line_of_table line) (begin_as_table lines)

@@ -1,4 +1,5 @@
--- What is said of the faults of files that are no sources (this project's profile), and the line that each stands in.
+-- The messages for the faults of files that are not sources (this project's profile), and the line that each fault is
+-- in.
 use Rattle.std.specs.Prelude.{ℕ, List, Option, Some, None, codes}
 use Rattle.keysym_core.specs.declared.fault.NameFault.{NameFault}
 use Rattle.keysym_core.specs.declared.fault.NameFault.TheVariants as names

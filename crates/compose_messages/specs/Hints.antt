@@ -1,4 +1,4 @@
--- Which hint helps against a refusal (this project's profile).
+-- The hint for each refusal (this project's profile).
 use Rattle.std.specs.Prelude.{ℕ, Bool, true, false, not, ◌-◌, ◌==◌, ◌&&◌, ◌||◌, nat_eq, if◌then◌else◌, List, [], ◌∷◌, ◌++◌, drop, Option, Some, None, Result, Ok, get_or, codes, bytes_eq}
 use Rattle.std.specs.List.{list_any, starts_with, ends_with}
 use Rattle.compose_text.specs.Bytes.{begins, is_blank}
@@ -50,41 +50,42 @@ hint_text HomeFolder = codes "composecheck: hint: an include says the home folde
 abbrev pub is_short_unicode_name : List ℕ → Bool
 is_short_unicode_name name = begins (λ b. b == 85) name && is_hexadecimal 1 3 (drop 1 name)
 
--- other names that people give the Compose key
+-- other names that people use for the Compose key
 abbrev pub is_compose_key : List ℕ → Bool
 is_compose_key name =
     bytes_eq name (codes "Compose") || bytes_eq name (codes "compose") || bytes_eq name (codes "Multi") || bytes_eq name (codes "multi_key") ||
     bytes_eq name (codes "Multi_Key") || bytes_eq name (codes "MULTI_KEY")
 
--- the names that may be missing; `are_given` says whether files of names are
+-- the names that may be missing; `are_given` is true if files of names were given
 abbrev pub names_to_add : Bool → Hint
 names_to_add are_given = if are_given then OwnNames else BuiltinNames
 
--- against a name that no keysym has; `are_given` says whether files of names are
+-- for a name that no keysym has; `are_given` is true if files of names were given
 abbrev pub name_hint : Bool → List ℕ → Hint
 name_hint are_given name =
     if is_compose_key name then ComposeKey else
     if is_short_unicode_name name then UnicodeName else
     names_to_add are_given
 
--- against a line of a header of names that is not UTF-8
+-- for a line of a header of names that is not UTF-8
 abbrev pub header_hint : NameFault → Option Hint
 header_hint (names.NotUtf8 line) = Some NamesEncoding
 header_hint fault = None
 
--- against an include of this path, which is not there: a shell's word for the home folder
+-- for an include of this path that does not exist: it names the home folder as a shell does
 abbrev pub include_hint : List ℕ → Option Hint
 include_hint path = if starts_with nat_eq path (codes "~/") then Some HomeFolder else None
 
--- against a line that is not UTF-8, by the first line of its file: the marks of UTF-16
+-- for a line that is not UTF-8, by the first line of its file: the marks of UTF-16
 abbrev pub encoding_hint : List ℕ → Hint
 encoding_hint first = if starts_with nat_eq first (0xff ∷ 0xfe ∷ []) || starts_with nat_eq first (0xfe ∷ 0xff ∷ []) then Utf16 else Encoding
 
--- an entry of a manifest: a name, a tab (code 9) and a path; no line of a Compose file, which has `<` (code 60) or begins with `include`
+-- an entry of a manifest: a name, a tab (code 9) and a path; not a line of a Compose file, which has `<` (code 60) or
+-- begins with `include`
 abbrev pub is_entry : List ℕ → Bool
 is_entry line = list_any (λ b. b == 9) line && not (begins is_blank line || list_any (λ b. b == 60) line || starts_with nat_eq line (codes "include"))
 
--- against a line that no Compose file has: the file is of another kind
+-- for a line that no Compose file has: the file is of another kind
 abbrev pub file_hint : List ℕ → Option Hint
 file_hint line =
     if starts_with nat_eq line (codes "compose-certificate ") then Some Certificate else
@@ -100,7 +101,7 @@ table_hint sources are_given (Read (MissingInclude source line)) = include_hint 
 table_hint sources are_given (Settle (Overlap short long)) = Some OverlapLongest
 table_hint sources are_given fault = None
 
--- the hint where the table of a locale is not in UTF-8, with the locale's name
+-- the hint for a locale whose table is not in UTF-8, with the locale's name
 abbrev pub locale_hint : List ℕ → List ℕ
 locale_hint locale = codes "composecheck: hint: this is the table of the locale " ++ (shown_text locale ++ codes "; `--locale en_US.UTF-8` takes that of another one")
 
@@ -110,7 +111,7 @@ source_not_utf8 (Read (NotUtf8 source line)) = Some source
 source_not_utf8 (Read (Lex source line TextNotUtf8)) = Some source
 source_not_utf8 fault = None
 
--- what is read of a line is a production or an include
+-- the line is a production or an include
 abbrev pub is_of_table : Result Reading LexFault → Bool
 is_of_table (Ok (production events raw name)) = true
 is_of_table (Ok (include raw)) = true
@@ -122,17 +123,17 @@ is_table_line line = is_of_table (reading_of (text_or_nothing line))
 abbrev pub has_table_line : List ℕ → Bool
 has_table_line bytes = list_any is_table_line (lines_of bytes)
 
--- the file is a Compose table, and no certificate
+-- the file is a Compose table, not a certificate
 abbrev pub certificate_hint : List ℕ → CertFault → Option Hint
 certificate_hint bytes (NotText n) = if has_table_line bytes then Some NoCertificate else None
 certificate_hint bytes fault = None
 
--- the file is a Compose table, and no repertoire
+-- the file is a Compose table, not a repertoire
 abbrev pub repertoire_hint : List ℕ → RepertoireFault → Option Hint
 repertoire_hint bytes (repertoires.BadLine n) = if has_table_line bytes then Some NoRepertoire else None
 repertoire_hint bytes fault = None
 
--- the file is a Compose table: its faulty line is one of a table, or its path ends in `Compose`
+-- the file is a Compose table: its faulty line is one of a table, it begins like a table, or its path ends in `Compose`
 abbrev pub manifest_hint : List ℕ → List ℕ → ManifestFault → Option Hint
 manifest_hint path bytes (BadLine n) = if ends_with nat_eq path (codes "Compose") || is_table_line (get_or (lines_of bytes) (n - 1) []) || begins_as_table bytes then Some Table else None
 manifest_hint path bytes fault = None

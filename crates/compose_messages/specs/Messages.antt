@@ -1,4 +1,4 @@
--- What is said of a fault (this project's profile), and how it is printed.
+-- The message for each fault (this project's profile), and how it is printed.
 use Rattle.std.specs.Prelude.{ℕ, not, ◌-◌, nat_le, nat_lt, if◌then◌else◌, List, [], ◌∷◌, ◌++◌, length, slice_get, take, Option, Some, None, bytes_eq, codes}
 use Rattle.std.specs.Option.{option_map_or}
 use Rattle.std.specs.Fmt.{decimal}
@@ -17,11 +17,11 @@ use Rattle.compose_messages.specs.declared.message.FileMessage.{FileMessage}
 
 -- ---- how a message is printed
 
--- as it may be printed to a terminal, between quotes (code 34)
+-- safe to print on a terminal, between quotes (code 34)
 abbrev pub in_quotes : List ℕ → List ℕ
 in_quotes text = 34 ∷ (shown_text text ++ 34 ∷ [])
 
--- three dots where not all of a name is printed
+-- three dots if not all of a name is printed
 abbrev pub dots_of : List ℕ → List ℕ
 dots_of name = if nat_lt (length (beginning name)) (length name) then codes "..." else []
 
@@ -48,7 +48,7 @@ message_text (Quoting words text) = quoting words.now text.now
 message_text (Naming words name) = naming words.now name.now
 message_text (Expected expected found) = expecting expected.now found.now
 
--- `:LINE:COLUMN` (code 58), where there is a position
+-- `:LINE:COLUMN` (code 58), if there is a position
 abbrev pub position_text : Option Position → List ℕ
 position_text None = []
 position_text (Some p) = 58 ∷ (decimal p.line ++ 58 ∷ decimal p.column)
@@ -57,7 +57,7 @@ position_text (Some p) = 58 ∷ (decimal p.line ++ 58 ∷ decimal p.column)
 abbrev pub file_text : FileMessage → List ℕ
 file_text told = codes "composecheck: " ++ shown_text told.path.now ++ position_text told.position ++ codes ": " ++ message_text told.message
 
--- ---- what is said of a fault of a source
+-- ---- the message for a fault of a source
 
 abbrev pub lex_said : List ℕ → LexFault → List ℕ
 lex_said line (BadToken at) = expecting (expected_after (take at line)) (found_at line at)
@@ -72,8 +72,8 @@ lex_said line TextTooLong = codes "the string has more than 255 bytes"
 lex_said line TextNotUtf8 = codes "the string is not UTF-8"
 lex_said line fault = codes "out of memory"
 
--- where more than eight includes lead to the file of this name, and the last of them stands in the file `own`, in a table of so many files: of at
--- most nine files one is among the ten of that way twice
+-- more than eight includes lead to the file of this name, and the last of them is in the file `own`, in a table with
+-- this number of files: with at most nine files, one of the ten files on that way occurs twice
 abbrev pub depth_said : ℕ → List ℕ → List ℕ → List ℕ
 depth_said count own name =
     if bytes_eq own name then quoting (codes "the includes go in a circle: this file includes itself, as ") name else
@@ -84,7 +84,7 @@ depth_said count own name =
 abbrev pub name_of : List Source → ℕ → List ℕ
 name_of sources source = option_map_or (λ (s : Source). s.name) (slice_get sources source) []
 
--- of a fault that stands in this line
+-- for a fault in this line
 abbrev pub line_said : List ℕ → ReadFault → List ℕ
 line_said line MissingRoot = codes "the manifest lists no file"
 line_said line (NotUtf8 s l) = codes "the line is not UTF-8"
@@ -96,7 +96,7 @@ line_said line (TooManyLines s l) = codes "more than 1,000,000 lines are read"
 line_said line (TooManyDefinitions s l) = codes "more than 100,000 sequences are defined"
 line_said line fault = codes "out of memory"
 
--- the line in which a fault stands, or nothing
+-- the line that has a fault, or nothing
 abbrev pub fault_line : List Source → ReadFault → List ℕ
 fault_line sources fault = option_map_or (λ at. line_at sources at.0 at.1) (line_of fault) []
 

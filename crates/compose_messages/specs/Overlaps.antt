@@ -1,4 +1,4 @@
--- What is said of an overlap (this project's profile): its two sequences by names.
+-- The message for an overlap (this project's profile): its two sequences by names.
 use Rattle.std.specs.Prelude.{ℕ, List, [], ◌∷◌, ◌++◌, flat_map, codes}
 use Rattle.keysym_core.specs.Names.{KeysymNames}
 use Rattle.keysym_core.specs.Printed.{printed}

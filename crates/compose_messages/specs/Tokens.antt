@@ -1,4 +1,4 @@
--- What a line has at a fault: a name, or the token that stands where another one is expected.
+-- What a line has at a fault: a name, or a token in place of the expected one.
 use Rattle.std.specs.Prelude.{ℕ, Bool, ◌+◌, ◌==◌, ◌||◌, if◌then◌else◌, List, [], ◌∷◌, length, take, drop, Option, Some, None, Result, Ok, get_or, codes, bytes_eq, nat_eq}
 use Rattle.std.specs.Option.{unwrap_or}
 use Rattle.std.specs.List.{list_any, position, prefix_len, starts_with}
@@ -10,7 +10,7 @@ use Rattle.compose_messages.specs.Places.{begins_character, text_or_nothing}
 
 -- ---- a name
 
--- the name of the event with this index, or of the result keysym; of an include the raw text
+-- the name of the event with this index, or of the result keysym; for an include the raw text
 abbrev pub name_in : ℕ → Result Reading LexFault → List ℕ
 name_in index (Ok (production events raw name)) = get_or events index (unwrap_or name [])
 name_in index (Ok (include raw)) = raw
@@ -21,12 +21,13 @@ named line index = name_in index (reading_of (text_or_nothing line))
 
 -- ---- what is expected
 
--- the last byte that is no blank, or else this one
+-- the last byte that is not a blank, or else this one
 abbrev pub last_solid : Option ℕ → List ℕ → Option ℕ
 last_solid last [] = last
 last_solid last (b ∷ bytes) = last_solid (if is_blank b then last else Some b) bytes
 
--- after a name or the word `include`: where a colon (code 58) stands before, the name is that of a result; where a `<` (code 60) does, that of an event
+-- after a name or the word `include`: if a colon (code 58) is before it, the name is that of a result; if a `<` (code
+-- 60) is, that of an event
 abbrev pub expected_after_name : List ℕ → List ℕ
 expected_after_name before =
     if list_any (λ b. b == 58) before then codes "the end of the line" else
@@ -54,18 +55,18 @@ expected_after before = expected_behind before (last_solid None before)
 
 -- ---- what is found
 
--- how many bytes the name at the beginning has, or else the first character
+-- the number of bytes of the name at the start, or otherwise of the first character
 abbrev pub token_len : List ℕ → ℕ
 token_len rest = if begins is_name_byte rest then prefix_len is_name_byte rest else 1 + unwrap_or (position begins_character (drop 1 rest)) (length (drop 1 rest))
 
 abbrev pub first_token : List ℕ → List ℕ
 first_token rest = take (token_len rest) rest
 
--- the token at this offset, where it is a text; nothing at the end
+-- the token at this offset, if it is UTF-8; nothing at the end
 abbrev pub found_at : List ℕ → ℕ → List ℕ
 found_at line at = text_or_nothing (first_token (drop at line))
 
--- a word by which Compose(5) begins a list of modifiers
+-- a word with which a list of modifiers begins in Compose(5)
 abbrev pub is_modifier : List ℕ → Bool
 is_modifier word =
     bytes_eq word (codes "!") || bytes_eq word (codes "~") || bytes_eq word (codes "None") || bytes_eq word (codes "Ctrl") || bytes_eq word (codes "Lock") ||

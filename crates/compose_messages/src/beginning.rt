@@ -1,4 +1,4 @@
-//! Whether a file begins as a Compose file does.
+//! Does a file begin like a Compose file?
 ghost use Rattle.std.specs.Prelude.{◌≡◌, Some, None};
 ghost use Rattle.compose_messages.specs.Beginning as words;
 
@@ -7,7 +7,8 @@ use arrayvec::ArrayVec;
 use compose_lex::{Said, lex_line_into};
 use compose_text::first_line;
 
-/// Whether the first line that says something is a production or an include. O(bytes up to there).
+/// Whether the first line that is not blank and not a comment is a production or an include.
+/// O(bytes up to there).
 pub(crate) fn begins_as_table(bytes: &[u8]) -> bool
     ensures { result ≡ words.begins_as_table bytes.now }
 {
@@ -21,7 +22,7 @@ pub(crate) fn begins_as_table(bytes: &[u8]) -> bool
     false
 }
 
-/// Whether the line is a production or an include; none of a line that says nothing.
+/// Whether the line is a production or an include; `None` for a blank line or a comment.
 fn line_of_table(line: &[u8]) -> Option<bool>
     ensures { result ≡ words.line_of_table line.now }
 {

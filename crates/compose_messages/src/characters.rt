@@ -1,4 +1,4 @@
-//! A character that stands in the place of a keysym's name.
+//! A character in place of a keysym's name.
 ghost use Rattle.std.specs.Prelude.{◌≡◌};
 ghost use Rattle.compose_messages.specs.Characters as characters;
 ghost use Rattle.compose_messages.specs.Characters.{IsCharacter, IsKeyOfText};
@@ -12,7 +12,7 @@ use compose_tree::TableFault;
 use keysym_core::{Keysym, Names};
 use std::fmt;
 
-/// The hint against a character in the place of a name, whose key has this name.
+/// The hint for a character in place of a name: it has the name of the character's key.
 #[derive(Clone, Copy, Debug, PartialEq, Eq)]
 pub struct CharacterHint<'a>(pub &'a str);
 
@@ -28,7 +28,8 @@ impl fmt::Display for CharacterHint<'_> {
     }
 }
 
-/// The least keysym of the character that the text is, if it is one alone and a keysym has it. O(log characters).
+/// Returns the least keysym of the character, if the text is a single character and a keysym has
+/// it. O(log characters).
 pub fn key_of_text(names: &Names, text: &str) -> Option<Keysym>
     ensures { IsKeyOfText names.now text.now result }
 {
@@ -38,7 +39,7 @@ pub fn key_of_text(names: &Names, text: &str) -> Option<Keysym>
     }
 }
 
-/// The character that the text is, if it is one alone.
+/// Returns the character, if the text is a single one.
 fn single_character(text: &str) -> Option<char>
     ensures { IsCharacter text.now result }
 {
@@ -52,8 +53,9 @@ fn single_character(text: &str) -> Option<char>
     }
 }
 
-/// What stands in the place of a keysym's name at the fault of a table of these sources: a name that no keysym has, or what stands between
-/// `<` and `>` and is no name; nothing at another fault. O(bytes of the source).
+/// Returns the text in place of a keysym's name at a fault of a table of these sources: a name that
+/// no keysym has, or the text between `<` and `>` that is not a name; nothing for any other fault.
+/// O(bytes of the source).
 pub fn text_in_place<'a>(sources: &'a Sources, fault: &TableFault) -> &'a str
     ensures { result.now ≡ characters.text_in_place sources.now fault.now }
 {
@@ -76,7 +78,8 @@ pub fn text_in_place<'a>(sources: &'a Sources, fault: &TableFault) -> &'a str
     }
 }
 
-/// What stands at this offset between `<` and `>`; nothing where the last byte before it that is no blank is no `<`.
+/// Returns the text between `<` and `>` at this offset; nothing if the last byte before it that is
+/// not a blank is not a `<`.
 fn event_text(line: &[u8], at: usize) -> &str
     ensures { result.now ≡ characters.event_text line.now at }
 {
@@ -90,7 +93,7 @@ fn event_text(line: &[u8], at: usize) -> &str
 }
 
 #[tactic(auto, using(std::proofs::lemmas::List::take_min))]
-/// What stands before the first `>`, or all.
+/// Returns the bytes before the first `>`, or all if there is none.
 fn before_greater(rest: &[u8]) -> &[u8]
     ensures { result.now ≡ characters.before_greater rest.now }
 {

@@ -1,4 +1,5 @@
-//! The faults of headers of names, manifests, certificates and repertoires, in words, and why a file can't be opened.
+//! Messages for the faults of headers of names, manifests, certificates and repertoires, and for
+//! files that can't be opened.
 ghost use Rattle.std.specs.Prelude.{◌≡◌};
 ghost use Rattle.compose_messages.specs.Faults as faults;
 
@@ -8,14 +9,16 @@ use compose_read::SourceFault;
 use keysym_core::NameFault;
 use std::io;
 
-/// What is said of a fault that the file has, and the number of the line in which it stands, if it stands in one.
+/// The message for a fault of a file, and the number of the line that it is in, if it is in one.
 #[derive(Clone, Copy, Debug)]
 pub struct FaultWords {
+    /// The number of the line, counted from 1.
     pub line: Option<usize>,
+    /// The message.
     pub words: &'static str,
 }
 
-/// The words for a fault of a header of names.
+/// Returns the message for a fault of a header of names.
 pub fn name_words(fault: &NameFault) -> FaultWords
     ensures line { result.line ≡ faults.name_line fault.now }
     ensures words { result.words.now ≡ faults.name_said fault.now }
@@ -39,7 +42,7 @@ pub fn name_words(fault: &NameFault) -> FaultWords
     FaultWords { line, words }
 }
 
-/// The words for a fault of a certificate's text.
+/// Returns the message for a fault of a certificate's text.
 pub fn certificate_words(fault: &CertFault) -> FaultWords
     ensures line { result.line ≡ faults.certificate_line fault.now }
     ensures words { result.words.now ≡ faults.certificate_said fault.now }
@@ -55,7 +58,7 @@ pub fn certificate_words(fault: &CertFault) -> FaultWords
     FaultWords { line, words }
 }
 
-/// The words for a fault of a repertoire.
+/// Returns the message for a fault of a repertoire.
 pub fn repertoire_words(fault: &RepertoireFault) -> FaultWords
     ensures line { result.line ≡ faults.repertoire_line fault.now }
     ensures words { result.words.now ≡ faults.repertoire_said fault.now }
@@ -74,7 +77,7 @@ pub fn repertoire_words(fault: &RepertoireFault) -> FaultWords
     FaultWords { line, words }
 }
 
-/// The words for a fault of a manifest.
+/// Returns the message for a fault of a manifest.
 pub fn manifest_words(fault: &ManifestFault) -> FaultWords
     ensures line { result.line ≡ faults.manifest_line fault.now }
     ensures words { result.words.now ≡ faults.manifest_said fault.now }
@@ -90,7 +93,8 @@ pub fn manifest_words(fault: &ManifestFault) -> FaultWords
     FaultWords { line, words }
 }
 
-/// The words for why a file that a manifest lists is not among the sources of its table.
+/// Returns the message for a file that a manifest lists, but that is not among the sources of its
+/// table.
 pub fn source_words(fault: SourceFault) -> &'static str
     ensures { result.now ≡ faults.source_said fault }
 {
@@ -101,7 +105,7 @@ pub fn source_words(fault: SourceFault) -> &'static str
     }
 }
 
-/// The words for why a file can't be opened.
+/// Returns the message for a file that can't be opened.
 pub fn open_words(kind: io::ErrorKind) -> &'static str
     ensures { result.now ≡ faults.open_said kind }
 {
@@ -113,7 +117,7 @@ pub fn open_words(kind: io::ErrorKind) -> &'static str
     }
 }
 
-/// The words for why a socket can't be used.
+/// Returns the message for a socket that can't be used.
 pub fn socket_words(kind: io::ErrorKind) -> &'static str
     ensures { result.now ≡ faults.socket_said kind }
 {

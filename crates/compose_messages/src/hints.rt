@@ -1,4 +1,4 @@
-//! Hints against a refusal.
+//! Hints for a refusal.
 ghost use Rattle.std.specs.Prelude.{◌≡◌};
 ghost use Rattle.compose_text.specs.Bytes.{begins, is_blank};
 ghost use Rattle.compose_text.specs.Numbers.{is_hexadecimal};
@@ -18,40 +18,40 @@ use compose_tree::TableFault;
 use keysym_core::NameFault;
 use std::fmt;
 
-/// What may help against a refusal.
+/// What may help after a refusal.
 #[derive(Clone, Copy, Debug, PartialEq, Eq, Drop)]
 pub enum Hint {
-    /// The names that are in the program.
+    /// Use the names that are built into the program.
     BuiltinNames,
-    /// Names of the user's own beside these.
+    /// Add names of the user's own to these.
     OwnNames,
-    /// The digits of a name of Unicode's form.
+    /// Write a Unicode name with four to six digits.
     UnicodeName,
-    /// The name of the Compose key.
+    /// Write the Compose key by its name, Multi_key.
     ComposeKey,
-    /// The encoding of Compose files.
+    /// Write the Compose file in UTF-8.
     Encoding,
-    /// The file is in UTF-16.
+    /// The file is in UTF-16: convert it.
     Utf16,
-    /// The file is a certificate.
+    /// The file is a certificate, not a Compose file.
     Certificate,
-    /// The file is a repertoire.
+    /// The file is a repertoire, not a Compose file.
     Repertoire,
-    /// The file is a manifest.
+    /// The file is a manifest, not a Compose file.
     Manifest,
-    /// The rule by which overlaps are no fault.
+    /// Use the rule by which overlaps are no fault.
     OverlapLongest,
-    /// The option for fresh keysyms.
+    /// Use the option for fresh keysyms.
     Fresh,
-    /// The file is a table, and no manifest.
+    /// The file is a table, not a manifest.
     Table,
-    /// The file is a table, and no certificate.
+    /// The file is a table, not a certificate.
     NoCertificate,
-    /// The file is a table, and no repertoire.
+    /// The file is a table, not a repertoire.
     NoRepertoire,
-    /// The encoding of headers of names.
+    /// Write the header of names in UTF-8.
     NamesEncoding,
-    /// How an include says the home folder.
+    /// Write the home folder in an include as `%H`.
     HomeFolder,
 }
 
@@ -113,7 +113,8 @@ impl fmt::Display for Hint {
     }
 }
 
-/// The hint against the fault of a table of these sources, where one helps; `are_given` says whether files of names are. O(bytes of the source).
+/// Returns the hint for the fault of a table of these sources, if there is one; `are_given` is true
+/// if files of names were given. O(bytes of the source).
 pub fn table_hint(sources: &Sources, fault: &TableFault, are_given: bool) -> Option<Hint>
     ensures { result ≡ hints.table_hint sources.now are_given fault.now }
 {
@@ -142,7 +143,7 @@ pub fn table_hint(sources: &Sources, fault: &TableFault, are_given: bool) -> Opt
     }
 }
 
-/// The hint where the table of a locale is not in UTF-8, with the locale's name.
+/// The hint for a locale whose table is not in UTF-8, with the locale's name.
 #[derive(Clone, Copy, Debug, PartialEq, Eq)]
 pub struct LocaleHint<'a>(pub &'a str);
 
@@ -161,7 +162,8 @@ impl fmt::Display for LocaleHint<'_> {
     }
 }
 
-/// The index of the source in which a line or a string is not UTF-8, if that is the fault. O(1).
+/// Returns the index of the source in which a line or a string is not UTF-8, if that is the fault.
+/// O(1).
 pub fn source_not_utf8(fault: &TableFault) -> Option<usize>
     ensures { result ≡ hints.source_not_utf8 fault.now }
 {
@@ -178,7 +180,8 @@ pub fn source_not_utf8(fault: &TableFault) -> Option<usize>
     }
 }
 
-/// The hint against a name that no keysym has; `are_given` says whether files of names are. O(bytes).
+/// Returns the hint for a name that no keysym has; `are_given` is true if files of names were
+/// given. O(bytes).
 pub fn name_hint(name: &str, are_given: bool) -> Hint
     ensures { result ≡ hints.name_hint are_given name.now }
 {
@@ -191,7 +194,7 @@ pub fn name_hint(name: &str, are_given: bool) -> Hint
     }
 }
 
-/// The names that may be missing; `are_given` says whether files of names are.
+/// Returns the hint that names may be missing; `are_given` is true if files of names were given.
 fn names_to_add(are_given: bool) -> Hint
     ensures { result ≡ hints.names_to_add are_given }
 {
@@ -202,7 +205,7 @@ fn names_to_add(are_given: bool) -> Hint
     }
 }
 
-/// The hint against the fault of a header of names: where a line is not UTF-8. O(1).
+/// Returns the hint for a fault of a header of names: there is one if a line is not UTF-8. O(1).
 pub fn header_hint(fault: &NameFault) -> Option<Hint>
     ensures { result ≡ hints.header_hint fault.now }
 {
@@ -212,14 +215,15 @@ pub fn header_hint(fault: &NameFault) -> Option<Hint>
     }
 }
 
-/// The hint against an include of this path, which is not there: that `~` is no home folder. O(1).
+/// Returns the hint for an include of this path that does not exist: an include does not expand
+/// `~`. O(1).
 pub fn include_hint(path: &str) -> Option<Hint>
     ensures { result ≡ hints.include_hint path.now }
 {
     path.starts_with("~/").then_some(Hint::HomeFolder)
 }
 
-/// Whether people call the Compose key so.
+/// Whether people use this name for the Compose key.
 fn is_compose_key(name: &str) -> bool
     ensures { result ≡ hints.is_compose_key name.now }
 {
@@ -248,7 +252,7 @@ fn is_short_number(digits: &[u8]) -> bool
     hexadecimal_number(1, 3, digits).is_some()
 }
 
-/// The hint against a line that no Compose file has.
+/// Returns the hint for a line that no Compose file has.
 fn file_hint(line: &[u8]) -> Option<Hint>
     ensures { result ≡ hints.file_hint line.now }
 {
@@ -263,7 +267,7 @@ fn file_hint(line: &[u8]) -> Option<Hint>
     }
 }
 
-/// Whether the line is an entry of a manifest, and none of a Compose file.
+/// Whether the line is an entry of a manifest, and not a line of a Compose file.
 fn is_entry(line: &[u8]) -> bool
     ensures { result ≡ hints.is_entry line.now }
 {
@@ -271,7 +275,7 @@ fn is_entry(line: &[u8]) -> bool
         && !(begins_with_blank(line) || contains(line, b'<') || line.starts_with(b"include"))
 }
 
-/// Whether a blank stands at the beginning.
+/// Whether the line begins with a blank.
 fn begins_with_blank(line: &[u8]) -> bool
     ensures { result ≡ begins is_blank line.now }
 {
@@ -281,7 +285,7 @@ fn begins_with_blank(line: &[u8]) -> bool
     }
 }
 
-/// The hint against a line that is not UTF-8, in a file with this first line.
+/// Returns the hint for a line that is not UTF-8, in a file with this first line.
 fn encoding_hint(first: &[u8]) -> Hint
     ensures { result ≡ hints.encoding_hint first.now }
 {
@@ -292,7 +296,8 @@ fn encoding_hint(first: &[u8]) -> Hint
     }
 }
 
-/// The hint where a table was given in place of a certificate: a line is one of a table. O(bytes).
+/// Returns the hint for a table that was given in place of a certificate: a line is one of a table.
+/// O(bytes).
 pub fn certificate_hint(bytes: &[u8], fault: &CertFault) -> Option<Hint>
     ensures { result ≡ hints.certificate_hint bytes.now fault.now }
 {
@@ -302,7 +307,8 @@ pub fn certificate_hint(bytes: &[u8], fault: &CertFault) -> Option<Hint>
     }
 }
 
-/// The hint where a table was given in place of a repertoire: a line is one of a table. O(bytes).
+/// Returns the hint for a table that was given in place of a repertoire: a line is one of a table.
+/// O(bytes).
 pub fn repertoire_hint(bytes: &[u8], fault: &RepertoireFault) -> Option<Hint>
     ensures { result ≡ hints.repertoire_hint bytes.now fault.now }
 {
@@ -326,8 +332,8 @@ fn has_table_line(bytes: &[u8]) -> bool
     false
 }
 
-/// The hint where a table was given in place of a manifest: the faulty line is one of a table, the file begins as a table, or the path ends in
-/// `Compose`. O(bytes).
+/// Returns the hint for a table that was given in place of a manifest: the faulty line is one of a
+/// table, the file begins like a table, or the path ends in `Compose`. O(bytes).
 pub fn manifest_hint(path: &str, bytes: &[u8], fault: &ManifestFault) -> Option<Hint>
     ensures { result ≡ hints.manifest_hint path.now bytes.now fault.now }
 {

@@ -1,15 +1,17 @@
-//! What is wrong with what a command is given, in words and with its place.
+//! Messages for what is wrong with a command's input, with its place.
 //!
-//! [`fault_position`] finds the line and the column of a fault of a table, [`read_message`] says what is missing or expected there and
-//! what stands there, and [`FileMessage`] prints both with the file's path:
+//! [`fault_position`] finds the line and the column of a fault of a table, [`read_message`] returns
+//! what is missing or expected there and what was found, and [`FileMessage`] prints both with the
+//! file's path:
 //!
 //! ```text
 //! composecheck: fi_FI.UTF-8/Compose:400:1: no keysym has the name "Multi_kei"
 //! composecheck: table.compose:1:5: expected ":" or "<", found "5"
 //! ```
 //!
-//! The faults of the other files have words of their own ([`FaultWords`]), an overlap is told by the names of its keysyms
-//! ([`overlap_words`]), and a [`Hint`] stands below where one helps.
+//! The faults of the other files have messages of their own ([`FaultWords`]), an overlap is
+//! reported with the names of its keysyms ([`overlap_words`]), and a [`Hint`] follows if there is
+//! one that helps.
 #![tactic(auto)]
 
 mod beginning;

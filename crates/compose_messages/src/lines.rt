@@ -7,7 +7,8 @@ ghost use Rattle.compose_messages.specs.Places.{line_at, text_or_nothing};
 use compose_read::Sources;
 use compose_text::first_line;
 
-/// The line with this number, from 1, of the source with this index; nothing where there is none. O(bytes of the source).
+/// Returns the line with this number, counted from 1, of the source with this index; nothing if
+/// there is none. O(bytes of the source).
 pub(crate) fn source_line(sources: &Sources, source: usize, line: usize) -> &[u8]
     ensures { result.now ≡ line_at sources.now source line }
 {
@@ -17,7 +18,7 @@ pub(crate) fn source_line(sources: &Sources, source: usize, line: usize) -> &[u8
     nth_line(without_mark(sources.bytes(source)), line.saturating_sub(1))
 }
 
-/// The line with this index, if there are so many.
+/// Returns the line with this index, counted from 0; nothing if there is none.
 pub(crate) fn nth_line(bytes: &[u8], index: usize) -> &[u8]
     ensures { result.now ≡ get_or (lines_of bytes.now) index [] }
 {
@@ -33,7 +34,7 @@ pub(crate) fn nth_line(bytes: &[u8], index: usize) -> &[u8]
     &[]
 }
 
-/// The bytes without a UTF-8 byte order mark at their beginning.
+/// Returns the bytes without a UTF-8 byte order mark at their start.
 fn without_mark(bytes: &[u8]) -> &[u8]
     ensures { result.now ≡ without_mark bytes.now }
 {
@@ -44,7 +45,7 @@ fn without_mark(bytes: &[u8]) -> &[u8]
     }
 }
 
-/// The bytes where they are UTF-8, and else nothing.
+/// Returns the bytes if they are UTF-8, and otherwise nothing.
 pub(crate) fn text_or_nothing(bytes: &[u8]) -> &str
     ensures { result.now ≡ text_or_nothing bytes.now }
 {

@@ -7,16 +7,16 @@ use crate::position::Position;
 use compose_shown::Shown;
 use std::fmt;
 
-/// What is wrong, in words.
+/// A message that says what is wrong.
 #[derive(Clone, Copy, Debug)]
 pub enum Message<'a> {
-    /// These words.
+    /// A text.
     Plain(&'a str),
-    /// Words, and then what a file says, in quotes.
+    /// A text, and after it a quotation from the file.
     Quoting(&'a str, &'a str),
-    /// Words, and then a name, in quotes, of which at most 80 characters are printed.
+    /// A text, and after it a name in quotes, of which at most 80 characters are printed.
     Naming(&'a str, &'a str),
-    /// What may stand in a line, and what stands there; nothing at its end.
+    /// What was expected in a line, and what was found; the latter is empty at the end of the line.
     Expected(&'a str, &'a str),
 }
 
@@ -45,7 +45,7 @@ impl fmt::Display for Message<'_> {
     }
 }
 
-/// What stands in a line, printed in quotes, or the end of the line.
+/// What was found in a line, printed in quotes, or the end of the line.
 #[derive(Clone, Copy, Debug)]
 struct Found<'a>(&'a str);
 
@@ -66,7 +66,8 @@ impl fmt::Display for Found<'_> {
     }
 }
 
-/// A name, printed in quotes; of one that is longer than 80 characters these alone, and three dots after the quotes.
+/// A name, printed in quotes. Of a name that is longer than 80 characters only these are printed,
+/// and three dots after the quotes.
 #[derive(Clone, Copy, Debug)]
 struct Name<'a>(&'a str);
 
@@ -82,7 +83,7 @@ impl fmt::Display for Name<'_> {
     }
 }
 
-/// Three dots where not all of a name is printed.
+/// Returns three dots if not all of a name is printed.
 fn dots_of(name: &str) -> &'static str
     ensures { result.now ≡ messages.dots_of name.now }
 {
@@ -93,12 +94,13 @@ fn dots_of(name: &str) -> &'static str
     }
 }
 
-/// A message about a file, printed as `composecheck: PATH:LINE:COLUMN: MESSAGE`, or without the position.
+/// A message about a file, printed as `composecheck: PATH:LINE:COLUMN: MESSAGE`, or without the
+/// position.
 #[derive(Clone, Copy, Debug)]
 pub struct FileMessage<'a> {
     /// The file's path, as it was given.
     pub path: &'a str,
-    /// The place in the file, where the message is about one.
+    /// The place in the file, if the message is about one.
     pub position: Option<Position>,
     /// What is wrong there.
     pub message: Message<'a>,

@@ -5,10 +5,10 @@ ghost use Rattle.compose_messages.specs.Places as places;
 use crate::lines::text_or_nothing;
 use crate::offsets::begins_character;
 
-/// How many characters of a name are printed.
+/// The number of characters of a name that are printed.
 const MOST_CHARACTERS: usize = 80;
 
-/// The first 80 characters of a name, or all of a shorter one. O(bytes).
+/// Returns the first 80 characters of a name, or all of a shorter one. O(bytes).
 pub(crate) fn beginning(name: &str) -> &str
     ensures { result.now ≡ places.beginning name.now }
 {
@@ -16,7 +16,7 @@ pub(crate) fn beginning(name: &str) -> &str
     text_or_nothing(&bytes[..characters_len(MOST_CHARACTERS, bytes)])
 }
 
-/// How many bytes the first so many characters have, or all where there are no more.
+/// Returns the number of bytes of the first `count` characters, or of all if there are fewer.
 fn characters_len(count: usize, bytes: &[u8]) -> usize
     ensures value { result ≡ places.characters_len count bytes.now }
     ensures within { result ≤ length bytes.now }

@@ -1,4 +1,4 @@
-//! Where in its line a fault stands, as an offset in bytes.
+//! The place of a fault in its line, as an offset in bytes.
 ghost use Rattle.std.specs.Prelude.{◌≡◌, ◌≤◌, ◌+◌, min, length, option_copied};
 ghost use Rattle.std.specs.Str.Lossy.{utf8_valid_len};
 ghost use Rattle.compose_messages.specs.Places as places;
@@ -10,7 +10,8 @@ use compose_read::ReadFault;
 use compose_text::blank_len;
 
 #[tactic(auto, using(std::proofs::lemmas::List::Sums::count_by_more_yes, std::proofs::lemmas::List::Sums::count_by_more_no, std::proofs::lemmas::List::take_min))]
-/// The column of what stands at this offset: one more than the characters before it. O(bytes of the line).
+/// Returns the column of this offset: one more than the number of characters before it. O(bytes of
+/// the line).
 pub(crate) fn column_at(line: &[u8], offset: usize) -> usize
     ensures { result ≡ places.column_at line.now offset }
 {
@@ -23,14 +24,15 @@ pub(crate) fn column_at(line: &[u8], offset: usize) -> usize
     column
 }
 
-/// Whether the byte begins a character of UTF-8.
+/// Whether the byte is the first of a UTF-8 character.
 pub(crate) fn begins_character(byte: u8) -> bool
     ensures { result ≡ places.begins_character byte }
 {
     !matches!(byte, 0x80..=0xbf)
 }
 
-/// The offset of a fault in its line, but at most that of the line's end. O(bytes of the line).
+/// Returns the offset of a fault in its line, but at most that of the line's end. O(bytes of the
+/// line).
 pub(crate) fn offset_of(line: &[u8], fault: &ReadFault) -> usize
     ensures { result ≡ min (places.offset_of line.now fault.now) (length line.now) }
 {
@@ -46,7 +48,7 @@ pub(crate) fn offset_of(line: &[u8], fault: &ReadFault) -> usize
     offset.min(line.len())
 }
 
-/// How many of the line's bytes are UTF-8, up to the first that are not.
+/// Returns the number of bytes before the first that are not UTF-8.
 fn valid_len(line: &[u8]) -> usize
     ensures { result ≡ utf8_valid_len line.now }
 {
@@ -56,7 +58,7 @@ fn valid_len(line: &[u8]) -> usize
     }
 }
 
-/// The offset of the fault of a line.
+/// Returns the offset of the fault of a line.
 fn lex_offset(line: &[u8], fault: &LexFault) -> usize
     ensures { min result (length line.now)
         ≡ min (places.lex_offset line.now fault.now) (length line.now) }
@@ -74,7 +76,7 @@ fn lex_offset(line: &[u8], fault: &LexFault) -> usize
     }
 }
 
-/// The offset of the event with this index, or of the result keysym.
+/// Returns the offset of the event with this index, or of the result keysym.
 fn keysym_offset(line: &[u8], index: usize) -> usize
     ensures { min result (length line.now)
         ≡ min (places.keysym_offset line.now index) (length line.now) }
@@ -87,7 +89,7 @@ fn keysym_offset(line: &[u8], index: usize) -> usize
     }
 }
 
-/// The offset of the name of the result keysym.
+/// Returns the offset of the name of the result keysym.
 fn result_offset(line: &[u8], raw_text: Option<&str>) -> usize
     ensures { min result (length line.now)
         ≡ min (places.result_offset line.now (option_copied raw_text.entry)) (length line.now) }
@@ -99,7 +101,7 @@ fn result_offset(line: &[u8], raw_text: Option<&str>) -> usize
     end.saturating_add(blank_len(&line[end..]))
 }
 
-/// The offset of the end of the string, or of the colon.
+/// Returns the offset of the end of the string, or of the colon if there is no string.
 fn text_end(line: &[u8], raw_text: Option<&str>) -> usize
     ensures { min result (length line.now)
         ≡ min (places.text_end line.now (option_copied raw_text.entry)) (length line.now) }
@@ -112,14 +114,15 @@ fn text_end(line: &[u8], raw_text: Option<&str>) -> usize
     }
 }
 
-/// The offset of the first such byte, or else of the end.
+/// Returns the offset of the first such byte, or of the end if there is none.
 pub(crate) fn first_of(byte: u8, line: &[u8]) -> usize
     ensures { result ≡ places.first_of byte line.now }
 {
     nth_of(byte, 0, line)
 }
 
-/// The offset of such a byte that follows so many others, or else of the end.
+/// Returns the offset of the byte that follows `count` others of its kind, or of the end if there
+/// is none.
 fn nth_of(byte: u8, count: usize, line: &[u8]) -> usize
     ensures { result ≡ places.nth_of byte count line.now }
 {

@@ -1,4 +1,4 @@
-//! An overlap of two sequences, in words.
+//! The message for an overlap of two sequences.
 ghost use Rattle.std.specs.Prelude.{◌≡◌, ◌++◌, string_bytes, IfOk, OnOk};
 ghost use Rattle.keysym_core.specs.Printed.{printed};
 ghost use Rattle.compose_messages.specs.Overlaps as overlaps;
@@ -6,7 +6,8 @@ ghost use Rattle.compose_messages.specs.Overlaps as overlaps;
 use keysym_core::{Keysym, Names};
 use std::alloc::{AllocError, Global};
 
-/// Says that the one sequence is a prefix of the other one, each with the names of its keysyms. O(keysyms).
+/// Returns the message that one sequence is a prefix of the other, each with the names of its
+/// keysyms. `Err(AllocError)` if memory runs out. O(keysyms).
 pub fn overlap_words(
     alloc: Global,
     names: &Names,
@@ -23,7 +24,8 @@ pub fn overlap_words(
     Ok(text)
 }
 
-/// Adds the keysyms as events of a table, each after a blank. O(keysyms).
+/// Appends the keysyms as events of a table, each after a blank. `Err(AllocError)` if memory runs
+/// out. O(keysyms).
 pub fn push_events(
     alloc: Global,
     text: &mut String,
@@ -39,7 +41,7 @@ pub fn push_events(
     Ok(())
 }
 
-/// Adds a blank, and a keysym as an event of a table.
+/// Appends a blank, and a keysym as an event of a table.
 fn push_event(
     alloc: Global,
     text: &mut String,
@@ -54,7 +56,7 @@ fn push_event(
     text.push('>')
 }
 
-/// Adds the name of a keysym.
+/// Appends the name of a keysym.
 fn push_name(
     alloc: Global,
     text: &mut String,

@@ -7,10 +7,12 @@ use crate::offsets::{column_at, offset_of};
 use compose_read::{ReadFault, Sources};
 use std::fmt;
 
-/// A place in a file: the number of its line, and the column in characters, both from 1.
+/// A place in a file.
 #[derive(Clone, Copy, Debug, PartialEq, Eq, Drop)]
 pub struct Position {
+    /// The number of the line, counted from 1.
     pub line: usize,
+    /// The column in characters, counted from 1.
     pub column: usize,
 }
 
@@ -26,7 +28,8 @@ impl fmt::Display for Position {
     }
 }
 
-/// The index of the source in which the fault stands, and its position there; none where it stands in no line. O(bytes of the source).
+/// Returns the index of the source that has the fault, and its position there, or `None` if the
+/// fault is not in a line. O(bytes of the source).
 pub fn fault_position(sources: &Sources, fault: &ReadFault) -> Option<(usize, Position)>
     ensures { result ≡ position_of sources.now fault.now }
 {
@@ -36,7 +39,7 @@ pub fn fault_position(sources: &Sources, fault: &ReadFault) -> Option<(usize, Po
     Some((source, Position { line, column }))
 }
 
-/// The index of the source and the number of the line of a fault, if it stands in one. O(1).
+/// Returns the index of the source and the number of the line of a fault, if it is in a line. O(1).
 pub fn line_of(fault: &ReadFault) -> Option<(usize, usize)>
     ensures { result ≡ line_of fault.now }
 {

@@ -1,4 +1,4 @@
-//! The faults of sources, in words.
+//! Messages for the faults of sources.
 ghost use Rattle.std.specs.Prelude.{◌≡◌, take};
 ghost use Rattle.compose_messages.specs.Messages as messages;
 ghost use Rattle.compose_messages.specs.Messages.{message_text, lex_said, read_said, fault_line, expecting};
@@ -12,7 +12,8 @@ use crate::tokens::{expected_after, found_at, is_modifier, named};
 use compose_lex::LexFault;
 use compose_read::{ReadFault, Sources};
 
-/// What is said of a fault of these sources: what is wrong, or what may stand there and what does. O(bytes of its source).
+/// Returns the message for a fault of these sources: what is wrong, or what was expected and what
+/// was found. O(bytes of its source).
 pub fn read_message<'a>(sources: &'a Sources, fault: &ReadFault) -> Message<'a>
     ensures { message_text result ≡ read_said sources.now fault.now }
 {
@@ -45,15 +46,16 @@ pub fn read_message<'a>(sources: &'a Sources, fault: &ReadFault) -> Message<'a>
     }
 }
 
-/// The name of the source with this index; nothing where there is none.
+/// Returns the name of the source with this index; nothing if there is none.
 fn name_of(sources: &Sources, source: usize) -> &str
     ensures { result.now ≡ messages.name_of sources.now source }
 {
     sources.name(source).unwrap_or("")
 }
 
-/// What is said where more than eight includes lead to the file `name`, and the last of them stands in the file `own`. `count` is the
-/// number of files of the table: such a chain leads through ten files, so with nine or fewer one of them comes twice.
+/// Returns the message for more than eight includes that lead to the file `name`, the last of which
+/// is in the file `own`. `count` is the number of files of the table. Such a chain has ten files,
+/// so with nine or fewer one of them occurs twice.
 fn depth_message<'a>(count: usize, own: &str, name: &'a str) -> Message<'a>
     ensures { message_text result ≡ messages.depth_said count own.now name.now }
 {
@@ -72,7 +74,7 @@ fn depth_message<'a>(count: usize, own: &str, name: &'a str) -> Message<'a>
     }
 }
 
-/// The line in which a fault stands, or nothing.
+/// Returns the line that has the fault, or nothing.
 fn fault_line<'a>(sources: &'a Sources, fault: &ReadFault) -> &'a [u8]
     ensures { result.now ≡ fault_line sources.now fault.now }
 {
@@ -83,7 +85,7 @@ fn fault_line<'a>(sources: &'a Sources, fault: &ReadFault) -> &'a [u8]
 }
 
 #[tactic(auto, using(std::proofs::lemmas::List::take_min))]
-/// What is said where another token is expected than the one that stands at this offset.
+/// Returns the message for a token at this offset if another one is expected.
 fn token_message(line: &[u8], at: usize) -> Message<'_>
     ensures { message_text result ≡ expecting (expected_after (take at line.now)) (tokens.found_at line.now at) }
 {
@@ -93,7 +95,7 @@ fn token_message(line: &[u8], at: usize) -> Message<'_>
     )
 }
 
-/// What is said of the fault of a line.
+/// Returns the message for the fault of a line.
 fn lex_message<'a>(line: &'a [u8], fault: &LexFault) -> Message<'a>
     ensures { message_text result ≡ lex_said line.now fault.now }
 {

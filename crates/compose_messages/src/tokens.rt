@@ -1,4 +1,4 @@
-//! What a line has at a fault: a name, or the token that stands where another one is expected.
+//! What a line has at a fault: a name, or a token in place of the expected one.
 ghost use Rattle.std.specs.Prelude.{◌≡◌, ◌≤◌, ◌<◌, ◌==◌, None, IfSome, length};
 ghost use Rattle.std.specs.List.{list_any, position};
 ghost use Rattle.std.specs.Option.{unwrap_or};
@@ -12,7 +12,8 @@ use arrayvec::ArrayVec;
 use compose_lex::{Said, lex_line_into};
 use compose_text::{blank_len, name_len};
 
-/// The name of the event with this index, or of the result keysym; of an include the raw text.
+/// Returns the name of the event with this index, or of the result keysym; for an include, the raw
+/// text.
 pub(crate) fn named(line: &[u8], index: usize) -> &str
     ensures { result.now ≡ tokens.named line.now index }
 {
@@ -30,7 +31,7 @@ pub(crate) fn named(line: &[u8], index: usize) -> &str
     }
 }
 
-/// What may follow these bytes of a line, in words.
+/// Returns the words for what may follow these bytes of a line.
 pub(crate) fn expected_after(before: &[u8]) -> &'static str
     ensures { result.now ≡ tokens.expected_after before.now }
 {
@@ -44,7 +45,7 @@ pub(crate) fn expected_after(before: &[u8]) -> &'static str
     }
 }
 
-/// What may follow a string.
+/// Returns the words for what may follow a string.
 fn expected_after_string(before: &[u8]) -> &'static str
     ensures { result.now ≡ tokens.expected_after_string before.now }
 {
@@ -62,7 +63,7 @@ fn begins_production(before: &[u8]) -> bool
     before[blank_len(before)..].starts_with(b"<")
 }
 
-/// Whether Compose(5) begins a list of modifiers by this word.
+/// Whether a list of modifiers begins with this word in Compose(5).
 pub(crate) fn is_modifier(word: &str) -> bool
     ensures { result ≡ tokens.is_modifier word.now }
 {
@@ -77,7 +78,7 @@ pub(crate) fn is_modifier(word: &str) -> bool
         || word == "Meta"
 }
 
-/// What may follow a name or the word `include`.
+/// Returns the words for what may follow a name or the word `include`.
 fn expected_after_name(before: &[u8]) -> &'static str
     ensures { result.now ≡ tokens.expected_after_name before.now }
 {
@@ -97,7 +98,7 @@ pub(crate) fn contains(bytes: &[u8], byte: u8) -> bool
     bytes.iter().any(|other| *other == byte)
 }
 
-/// The last byte that is no blank.
+/// Returns the last byte that is not a blank.
 pub(crate) fn last_solid(bytes: &[u8]) -> Option<u8>
     ensures { result ≡ tokens.last_solid None bytes.now }
 {
@@ -117,7 +118,7 @@ pub(crate) fn is_blank(byte: u8) -> bool
     byte == b' ' || byte == b'\t' || byte == b'\r'
 }
 
-/// The token at this offset, if it is a text; nothing at the end.
+/// Returns the token at this offset, if it is UTF-8; nothing at the end.
 pub(crate) fn found_at(line: &[u8], at: usize) -> &str
     ensures { result.now ≡ tokens.found_at line.now at }
 {
@@ -127,7 +128,7 @@ pub(crate) fn found_at(line: &[u8], at: usize) -> &str
     text_or_nothing(first_token(&line[at..]))
 }
 
-/// The name at the beginning, or else the first character.
+/// Returns the name at the start, or otherwise the first character.
 fn first_token(rest: &[u8]) -> &[u8]
     ensures { result.now ≡ tokens.first_token rest.now }
 {
@@ -141,7 +142,7 @@ fn first_token(rest: &[u8]) -> &[u8]
     }
 }
 
-/// Whether a name stands at the beginning.
+/// Whether the line's rest begins with a name.
 fn begins_name(rest: &[u8]) -> bool
     ensures { result ≡ begins is_name_byte rest.now }
 {
@@ -151,7 +152,7 @@ fn begins_name(rest: &[u8]) -> bool
     }
 }
 
-/// How many bytes stand before the first that begins a character.
+/// Returns the number of bytes before the first that begins a character.
 fn character_rest(bytes: &[u8]) -> usize
     ensures value { result ≡ unwrap_or (position begins_character bytes.now) (length bytes.now) }
     ensures within { result ≤ length bytes.now }
@@ -159,7 +160,7 @@ fn character_rest(bytes: &[u8]) -> usize
     next_character(bytes).unwrap_or(bytes.len())
 }
 
-/// Where the first byte stands that begins a character.
+/// Returns the index of the first byte that begins a character.
 fn next_character(bytes: &[u8]) -> Option<usize>
     ensures value { result ≡ position begins_character bytes.now }
     ensures within { IfSome result (λ at. at < length bytes.now) }

@@ -13,6 +13,6 @@ two_key_names = refl
 second_is_unknown : keys_of core (codes "e" ∷ codes "f" ∷ codes "g" ∷ []) ≡ Err 1
 second_is_unknown = refl
 
--- no letter is a key name too, which has no keysym
+-- an empty text is a key name as well, and names no keysym
 no_key_name : keys_of core (codes "e" ∷ codes "" ∷ codes "e" ∷ []) ≡ Err 1
 no_key_name = refl

@@ -1,4 +1,4 @@
--- The keysyms of key names, one by one.
+-- Looking up the keysyms of key names, one by one.
 use Rattle.std.proofs.Common.{◌≡◌, ◌≤◌, ℕ, suc, ◌+◌, ◌<◌, List, [], ◌∷◌, ◌++◌, true, false, length, get_or, drop, map, refl, sym, ◌∙◌, ap, subst, arith, Bor, cond}
 use Rattle.std.specs.Prelude.{Option, Some, None, is_none, position, Result, Ok, Err, nat_lt}
 use Rattle.std.specs.Option.{option_map_or, option_to_list}
@@ -8,17 +8,17 @@ use Rattle.std.proofs.lemmas.List.{drop_more, drop_all, map_push, append_assoc, 
 use Rattle.keysym_core.specs.Names.{KeysymNames, value}
 use Rattle.compose_migration.specs.Keys.{all_there}
 
--- the bytes of a key name that is lent
+-- the bytes of a borrowed key name
 abbrev pub now_of : Bor (List ℕ) → List ℕ
 now_of key_name = key_name.now
 
--- the key names that are left, and the first of them
+-- the remaining key names, and the first of them
 left : (key_names : List (Bor (List ℕ))) (i : ℕ) (d : Bor (List ℕ)) → i < length key_names → drop i (map now_of key_names) ≡ now_of (get_or key_names i d) ∷ drop (i + 1) (map now_of key_names)
 left key_names i d less =
     let some : i < length (map now_of key_names) = subst (λ n. i < n) (sym (length-map key_names now_of)) less in
     drop_more (map now_of key_names) i (now_of d) some ∙ ap (λ w. w ∷ drop (i + 1) (map now_of key_names)) (get_or-map now_of key_names i d (now_of d) less)
 
--- one key name more that has a keysym
+-- one more key name that has a keysym
 pub keys_more : (names : KeysymNames) (key_names : List (Bor (List ℕ))) (i : ℕ) (d : Bor (List ℕ)) (keys : List ℕ) (k : ℕ) (all : List (Option ℕ)) → i < length key_names
     → Some k ≡ value names (now_of (get_or key_names i d))
     → map (λ k. Some k) keys ++ map (value names) (drop i (map now_of key_names)) ≡ all → map (λ k. Some k) (keys ++ k ∷ []) ++ map (value names) (drop (i + 1) (map now_of key_names)) ≡ all
@@ -30,7 +30,7 @@ keys_more names key_names i d keys k all less is e =
 next : (n : ℕ) → 1 + n ≡ suc n
 next n = omega arith
 
--- a value that is none stands first behind those that are some
+-- a value that is none is the first one after values that are some
 first_none : (keys : List ℕ) (rest : List (Option ℕ)) → position_or_len is_none (map (λ k. Some k) keys ++ None ∷ rest) ≡ length keys
 first_none [] rest = refl
 first_none (k ∷ keys) rest = ap (λ n. 1 + n) (first_none keys rest) ∙ next (length keys)
@@ -52,7 +52,7 @@ keys_stop names key_names i d keys all less is count e =
     ∙ ap (λ b. cond b (Some (length keys)) None) (is_shorter keys rest) ∙ ap (λ n. Some n) count in
     ap (λ o. option_map_or (λ i. Err i) o (Ok (flat_map option_to_list all))) found
 
--- no value is none among those that are some
+-- none of the values that are some is none
 no_none : (keys : List ℕ) → position_or_len is_none (map (λ k. Some k) keys) ≡ length keys
 no_none [] = refl
 no_none (k ∷ keys) = ap (λ n. 1 + n) (no_none keys) ∙ next (length keys)

@@ -1,4 +1,4 @@
--- The parts of a migration, read one after another.
+-- Reading the parts of a migration, one after another.
 use Rattle.std.proofs.Common.{◌≡◌, ℕ, List, sym, ◌∙◌, ap, subst}
 use Rattle.std.specs.Prelude.{Result, Ok, Err}
 use Rattle.std.specs.Result.{IsErrAnd}
@@ -33,7 +33,7 @@ step_refused (faults.Key index) r f h = ap (λ r. r >>= f) h
 step_refused (faults.Table side fault) r f h = (h.0, ap (λ r. r >>= f) h.1, h.2)
 step_refused faults.NoMemory r f h = tt
 
--- an answer that is this fault gives what the fault gives
+-- a result that is this fault has the properties of the fault
 pub fault_gives : {P A : Type 0} (reads : P → A → Type 0) (r : Result A MigrationFault) (fault : MigrationFault) (said : Result P NoMigration) → IsErrAnd r (λ e. e ≡ fault)
     → MigrationRefused fault said → MigrationGives reads r said
 fault_gives reads (Ok x) fault said h g = absurd h
@@ -50,7 +50,7 @@ module _ (header : List ℕ) (key_names : List (List ℕ)) (names : KeysymNames)
       ap (λ r. r >>= (λ n. or_because no_key (keys_of n key_names) >>= (λ keys. (let p : NamedParts = record { names = n; keys = keys } in Ok p))))
       (is_read (or_because no_names (names_of header)) names names_read)
 
-  -- a key name that is refused, where the names are read, is the first part that is refused
+  -- if the names are read, a faulty key name is the first part with a fault
   pub keys_refused : (fault : MigrationFault) → MigrationRefused fault (or_because no_key (keys_of names key_names)) → MigrationRefused fault (named header key_names)
   keys_refused fault h = subst (λ (s : Result NamedParts NoMigration). MigrationRefused fault s) (sym after_names) (step_refused fault (or_because no_key (keys_of names key_names)) with_keys h)
 
@@ -71,7 +71,7 @@ module _ (given : GivenMigration) (n : NamedParts) (n_read : IsRead (named given
       (λ old. table_of_side m.names sides.New given.new >>= (λ new. (let p : Parts = record { names = m.names; keys = m.keys; old = old; new = new } in Ok p)))))
       (is_read (named given.header given.key_names) n n_read)
 
-  -- an old table that is refused, where the names and keys are read, is the first part that is refused
+  -- if the names and keys are read, a faulty old table is the first part with a fault
   pub old_refused : (fault : MigrationFault) → MigrationRefused fault (table_of_side n.names sides.Old given.old) → MigrationRefused fault (migration_of given)
   old_refused fault h = subst (λ (s : Result Parts NoMigration). MigrationRefused fault s) (sym after_named) (step_refused fault (table_of_side n.names sides.Old given.old) with_old h)
 
@@ -79,10 +79,10 @@ module _ (given : GivenMigration) (n : NamedParts) (n_read : IsRead (named given
     after_old : migration_of given ≡ (table_of_side n.names sides.New given.new >>= with_new old)
     after_old = after_named ∙ ap (λ r. r >>= with_old) (is_read (table_of_side n.names sides.Old given.old) old old_read)
 
-    -- a new table that is refused, where all before it is read, is the first part that is refused
+    -- if all before it is read, a faulty new table is the first part with a fault
     pub new_refused : (fault : MigrationFault) → MigrationRefused fault (table_of_side n.names sides.New given.new) → MigrationRefused fault (migration_of given)
     new_refused fault h = subst (λ (s : Result Parts NoMigration). MigrationRefused fault s) (sym after_old) (step_refused fault (table_of_side n.names sides.New given.new) (with_new old) h)
 
-    -- where every part is read, together they are the migration
+    -- if every part is read, together they are the migration
     pub all_read : (new : List Definition) → IsRead (table_of_side n.names sides.New given.new) new → migration_of given ≡ Ok (record { names = n.names; keys = n.keys; old = old; new = new })
     all_read new new_read = after_old ∙ ap (λ r. r >>= with_new old) (is_read (table_of_side n.names sides.New given.new) new new_read)

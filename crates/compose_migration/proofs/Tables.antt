@@ -1,4 +1,4 @@
--- Why a side has no table.
+-- Why the table of a side can't be read.
 use Rattle.std.proofs.Common.{◌≡◌, List, refl, ap}
 use Rattle.std.specs.Prelude.{Result, Ok, Err}
 use Rattle.compose_model.specs.Table.{Definition}
@@ -25,7 +25,7 @@ read_at_all (read_faults.TooManyLines s l) table h = cc
 read_at_all (read_faults.TooManyDefinitions s l) table h = cc
 read_at_all read_faults.NoMemory table h = h
 
--- a fault is of no table that is read
+-- a table that is read has no fault
 is_read : (fault : TableFault) (table : List Definition) → TableFails fault (Ok table) → ⊥
 is_read (table_faults.Read fault) table h = read_at_all fault table h
 is_read (table_faults.Settle (settle_faults.Overlap s l)) table h = cc
@@ -34,12 +34,12 @@ is_read (table_faults.Build build_faults.TooManyNodes) table h = cc
 is_read (table_faults.Build build_faults.NoMemory) table h = h
 is_read table_faults.NoMemory table h = h
 
--- why there is none, and that the fault says so
+-- the reason why there is no table, which the fault names
 pub why_none : (fault : TableFault) (said : Result (List Definition) NoTable) → TableFails fault said → (why : NoTable) × (said ≡ Err why) × TableFails fault (Err why)
 why_none fault (Ok table) h = absurd (is_read fault table h)
 why_none fault (Err why) h = (why, refl, h)
 
--- the same of a side
+-- the same for a side
 pub side_refused : (side : Side) (fault : TableFault) (said : Result (List Definition) NoTable) → TableFails fault said
     → (why : NoTable) × (or_because (no_table side) said ≡ Err (no_table side why)) × TableFails fault (Err why)
 side_refused side fault said h = let none = why_none fault said h in (none.0, ap (or_because (no_table side)) none.1, none.2)

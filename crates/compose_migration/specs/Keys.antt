@@ -1,4 +1,4 @@
--- Key names, which are to name keysyms (this project's profile: docs/FORMATS.md, "Names of keysyms").
+-- Key names, each of which has to name a keysym (this project's format: docs/FORMATS.md, "Names of keysyms").
 use Rattle.std.specs.Prelude.{◌≡◌, ℕ, List, map, position, Option, is_none, Result, Ok, Err}
 use Rattle.std.specs.Option.{option_map_or, option_to_list}
 use Rattle.std.specs.List.{flat_map}
@@ -8,7 +8,7 @@ use Rattle.keysym_core.specs.Names.{KeysymNames, value}
 use Rattle.compose_migration.specs.declared.keys.KeyFault.{KeyFault}
 use Rattle.compose_migration.specs.declared.keys.KeyFault.TheVariants.{Unknown, NoMemory}
 
--- all values, if each is there; or the index of the first that is not
+-- all values if each is there, or the index of the first that is not
 abbrev pub all_there : List (Option ℕ) → Result (List ℕ) ℕ
 all_there values = option_map_or (λ i. Err i) (position is_none values) (Ok (flat_map option_to_list values))
 
@@ -16,7 +16,7 @@ all_there values = option_map_or (λ i. Err i) (position is_none values) (Ok (fl
 abbrev pub keys_of : KeysymNames → List (List ℕ) → Result (List ℕ) ℕ
 keys_of names key_names = all_there (map (value names) key_names)
 
--- what is said, unless memory was refused
+-- the specified keysyms or fault, unless memory runs out
 abbrev pub KeysGive : Result (Vec ℕ Global) KeyFault → Result (List ℕ) ℕ → Type 0
 KeysGive (Ok keys) said = said ≡ Ok keys.items
 KeysGive (Err (Unknown index)) said = said ≡ Err index

@@ -1,4 +1,4 @@
--- A move from an old table to a new one: what is given, and what it says.
+-- A move from an old table to a new one: the input, and its parts.
 use Rattle.std.specs.Prelude.{ℕ, List, Result, Ok, Err, codes}
 use Rattle.compose_text.specs.Results.{◌>>=◌}
 use Rattle.keysym_core.specs.Names.{KeysymNames}
@@ -29,14 +29,14 @@ pub record NamedParts : Type 0 where
   pub names : KeysymNames
   pub keys : List ℕ
 
--- what a migration says
+-- the parts of a migration
 pub record Parts : Type 0 where
   pub names : KeysymNames
   pub keys : List ℕ
   pub old : List Definition
   pub new : List Definition
 
--- the part that is refused, and why; of the key names, the index of the first one that has no keysym
+-- the part that has a fault, and the fault; for the key names, the index of the first one that has no keysym
 pub data NoMigration : Type 0 where
   no_names : NameFault → NoMigration
   no_key : ℕ → NoMigration
@@ -52,14 +52,14 @@ or_because why (Err e) = Err (why e)
 abbrev pub table_of_side : KeysymNames → Side → TableSources → Result (List Definition) NoMigration
 table_of_side names side t = or_because (no_table side) (first_table names t.sources t.rule)
 
--- the names and the keysyms, or the first part that is refused
+-- the names and the keysyms, or the fault of the first part that has one
 abbrev pub named : List ℕ → List (List ℕ) → Result NamedParts NoMigration
 named header key_names = do
   names ← or_because no_names (names_of header)
   keys ← or_because no_key (keys_of names key_names)
   Ok (record { names = names; keys = keys })
 
--- these, the old table and the new one, or the first part that is refused
+-- these, the old table and the new one, or the fault of the first part that has one
 abbrev pub migration_of : GivenMigration → Result Parts NoMigration
 migration_of given = do
   n ← named given.header given.key_names

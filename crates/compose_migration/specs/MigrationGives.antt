@@ -1,4 +1,4 @@
--- What reading a migration gives, beside memory that is refused.
+-- The result of reading a migration, unless memory runs out.
 use Rattle.std.specs.Prelude.{◌≡◌, List, map, Result, Ok, Err}
 use Rattle.keysym_core.specs.declared.fault.NameFault.TheVariants as name_faults
 use Rattle.compose_model.specs.Table.{Definition}
@@ -19,19 +19,19 @@ table_given input = record { sources = input.sources.now; rule = input.rule }
 abbrev pub given_of : MigrationInput → GivenMigration
 given_of input = record { header = input.header.now; key_names = map (λ key_name. key_name.now) input.key_names.now; old = table_given input.old; new = table_given input.new }
 
--- what is read, seen as values
+-- what is read, as values
 abbrev pub named_parts : Named → NamedParts
 named_parts read = record { names = read.names; keys = read.keys.items }
 
 abbrev pub parts : {T : Type 0} → (T → List Definition) → Migration T → Parts
 parts view m = record { names = m.names; keys = m.keys.items; old = view m.old; new = view m.new }
 
--- the fault says why there is no table
+-- the fault is the reason why there is no table
 abbrev pub TableFails : TableFault → Result (List Definition) NoTable → Type 0
 TableFails table_faults.NoMemory said = ⊥
 TableFails fault said = TableGives (λ (table : List Definition). table) (Err fault) said
 
--- the fault says which part is refused, and why
+-- the fault names the part that has it, and the reason
 abbrev pub MigrationRefused : {P : Type 0} → MigrationFault → Result P NoMigration → Type 0
 MigrationRefused (Names name_faults.NoMemory) said = ⊥
 MigrationRefused (Names fault) said = said ≡ Err (no_names fault)
@@ -39,7 +39,7 @@ MigrationRefused (Key index) said = said ≡ Err (no_key index)
 MigrationRefused (Table side fault) said = (why : NoTable) × (said ≡ Err (no_table side why)) × TableFails fault (Err why)
 MigrationRefused NoMemory said = Unit {0}
 
--- what is read of the parts that are said, or the fault of the first one that is refused
+-- the specified parts are read, or the fault of the first part that has one
 abbrev pub MigrationGives : {P A : Type 0} → (P → A → Type 0) → Result A MigrationFault → Result P NoMigration → Type 0
 MigrationGives {P} reads (Ok read) said = (parts : P) × (said ≡ Ok parts) × reads parts read
 MigrationGives reads (Err fault) said = MigrationRefused fault said

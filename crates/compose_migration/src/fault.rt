@@ -1,4 +1,4 @@
-//! Why a migration is refused.
+//! Why a migration can't be read.
 use compose_tree::TableFault;
 use keysym_core::NameFault;
 use std::fmt;
@@ -7,7 +7,9 @@ use thiserror::Error;
 /// One of the two tables of a migration.
 #[derive(Clone, Copy, Debug, PartialEq, Eq, Drop)]
 pub enum Side {
+    /// The old table.
     Old,
+    /// The new table.
     New,
 }
 
@@ -25,19 +27,19 @@ impl fmt::Display for Side {
     }
 }
 
-/// The first part of a migration that is refused, and why.
+/// Why a migration can't be read: the first part of it that has a fault.
 #[derive(Debug, PartialEq, Eq, Drop, Error)]
 pub enum MigrationFault {
-    /// The header of names is refused.
+    /// The header of names has a fault.
     #[error("1 Names: {0}")]
     Names(NameFault),
-    /// The key name at this index is the first one that has no keysym.
+    /// The key name at index `index`, counted from 0, is the first one that names no keysym.
     #[error("2 Key index={index}")]
     Key { index: usize },
-    /// The sources of this side give no table.
+    /// The table of this side can't be read from its sources, for the reason in `fault`.
     #[error("3 Table side={side}: {fault}")]
     Table { side: Side, fault: TableFault },
-    /// Memory was refused in this call.
+    /// A memory allocation failed.
     #[error("4 NoMemory")]
     NoMemory,
 }

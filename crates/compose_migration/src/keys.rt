@@ -6,13 +6,13 @@ use keysym_core::{Keysym, Names};
 use std::alloc::{AllocError, AllocFailed, Global};
 use thiserror::Error;
 
-/// Why key names give no keysyms.
+/// Why the keysyms of key names can't be looked up.
 #[derive(Clone, Copy, Debug, PartialEq, Eq, Drop, Error)]
 pub enum KeyFault {
-    /// The key name at this index is the first one that has no keysym.
+    /// The key name at index `index`, counted from 0, is the first one that names no keysym.
     #[error("1 Unknown index={index}")]
     Unknown { index: usize },
-    /// A growth was refused.
+    /// A memory allocation failed.
     #[error("2 NoMemory")]
     NoMemory,
 }
@@ -39,7 +39,9 @@ impl<T: Drop> From<AllocFailed<T>> for KeyFault {
     }
 }
 
-/// The keysym of each key name, in order; or the index of the first key name that has none. O(bytes of the key names).
+/// Looks up the keysym of each key name, in order. O(bytes of the key names).
+///
+/// Errors: `Unknown` with the index of the first key name that names no keysym, or `NoMemory`.
 pub fn look_up_keys(
     alloc: Global,
     names: &Names,

@@ -1,5 +1,7 @@
-//! A move from an old compose table to a new one, read once: the names, the keysyms of arguments, and both tables. The checker, and what
-//! explains and makes, go on from there. The first fault in that order is told, by its part.
+//! Reads a migration, that is, a move from an old compose table to a new one: the keysym names, the
+//! keysyms of the arguments, and both tables, each read once. The checker and the crates that
+//! explain differences and make certificates start from it. The first fault in that order is the
+//! error, and names its part.
 //!
 //! ```text
 //! let migration: Migration<PackedTable> = Migration::read(alloc, &input)?;

@@ -1,4 +1,4 @@
-//! A migration: names, keysyms, and an old and a new table.
+//! A migration: keysym names, keysyms, and an old and a new table.
 ghost use Rattle.std.specs.Prelude.{◌≡◌, map};
 ghost use Rattle.keysym_core.specs.Header.{names_of};
 ghost use Rattle.compose_tree.specs.TableGives.{first_table};
@@ -14,36 +14,43 @@ use compose_tree::{ComposeTable, TableFault, read_first_table};
 use keysym_core::{Keysym, NameFault, Names};
 use std::alloc::Global;
 
-/// The sources of a table, of which the first is the root, and what is done with its overlaps.
+/// The sources of a table, and the rule for its overlaps.
 #[derive(Clone, Copy)]
 pub struct TableInput<'a> {
+    /// The sources; the first one is the root.
     pub sources: &'a Sources,
+    /// What is done if a sequence is a prefix of another one.
     pub rule: Rule,
 }
 
-/// What a migration is read from.
+/// The input from which a migration is read.
 #[derive(Clone, Copy)]
 pub struct MigrationInput<'a, 'w> {
-    /// A header of names, which is added to the core names.
+    /// A header with keysym names, in the form of keysymdef.h, which are added to the core names.
     pub header: &'a [u8],
-    /// Key names, which are to name keysyms.
+    /// Key names, each of which has to name a keysym.
     pub key_names: &'a [&'w str],
-    /// The old table.
+    /// The input of the old table.
     pub old: TableInput<'a>,
-    /// The new table.
+    /// The input of the new table.
     pub new: TableInput<'a>,
 }
 
-/// Names, and the keysyms of key names in their order.
+/// Keysym names, and the keysyms of key names in their order.
 #[derive(Drop)]
 pub struct Named {
+    /// The keysym names.
     pub names: Names,
+    /// The keysyms of the key names, in their order.
     pub keys: Vec<Keysym>,
 }
 
 impl Named {
-    /// Reads the names of a header, which is added to the core names, and the keysyms of the key names by them; the first that is refused
-    /// decides. O(bytes).
+    /// Reads a header, whose names are added to the core names, and looks up the keysyms of the key
+    /// names. O(bytes).
+    ///
+    /// Errors: `Names` for a fault of the header, or else `Key` for the first key name that names
+    /// no keysym; or `NoMemory`.
     pub fn read(alloc: Global, header: &[u8], key_names: &[&str]) -> Result<Named, MigrationFault>
         ensures { MigrationGives (λ said read. said ≡ named_parts read) result
             (named header.now (map (λ key_name. key_name.now) key_names.now)) }
@@ -54,19 +61,25 @@ impl Named {
     }
 }
 
-/// A move from an old table to a new one, both read with the same names.
+/// A move from an old table to a new one, both read with the same keysym names.
 #[derive(Drop)]
 pub struct Migration<T: ComposeTable> {
+    /// The keysym names with which both tables were read.
     pub names: Names,
     /// The keysyms of the key names, in their order.
     pub keys: Vec<Keysym>,
+    /// The old table.
     pub old: T,
+    /// The new table.
     pub new: T,
 }
 
 impl<T: ComposeTable> Migration<T> {
-    /// Reads the names, the keysyms of the key names, the old table and the new one, in this order; the first that is refused decides.
+    /// Reads the names, the keysyms of the key names, the old table and the new one, in this order.
     /// O(b + n log n) in the bytes of everything and the definitions of a table.
+    ///
+    /// Errors: the first of `Names`, `Key`, and `Table` for the old and then the new table; or
+    /// `NoMemory`.
     pub fn read(
         alloc: Global,
         input: &MigrationInput<'_, '_>,
@@ -86,7 +99,7 @@ impl<T: ComposeTable> Migration<T> {
     }
 }
 
-/// The names of a header.
+/// Reads the names of a header.
 fn read_names(alloc: Global, header: &[u8]) -> Result<Names, MigrationFault>
     ensures { MigrationGives (λ said names. said ≡ names) result
         (or_because no_names (names_of header.now)) }
@@ -98,7 +111,7 @@ fn read_names(alloc: Global, header: &[u8]) -> Result<Names, MigrationFault>
     }
 }
 
-/// The keysyms of key names.
+/// Looks up the keysyms of key names.
 fn read_keys(
     alloc: Global,
     names: &Names,
@@ -114,7 +127,7 @@ fn read_keys(
     }
 }
 
-/// The table of a side.
+/// Reads the table of a side.
 fn read_side<T: ComposeTable>(
     alloc: Global,
     names: &Names,

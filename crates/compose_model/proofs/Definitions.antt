@@ -1,4 +1,4 @@
--- What a definition keeps to, part by part.
+-- The limits of a definition, one by one.
 use Rattle.std.proofs.Common.{◌≡◌, ◌≤◌, ◌<◌, ℕ, zero, suc, List, [], ◌∷◌, length, Bool, true, not, ◌&&◌, get_or, arith, ltb-true, leb-true}
 use Rattle.std.specs.Prelude.{nat_lt, nat_le}
 use Rattle.std.specs.List.{list_all}
@@ -20,7 +20,7 @@ module _ (d : Definition) (h : is_definition d ≡ true) where
   pub sequence_some : 0 < length d.sequence
   sequence_some = ltb-true 0 (length d.sequence) (and_parts (nat_lt 0 (length d.sequence)) (nat_le (length d.sequence) 32) counted).0
 
-  -- a definition's sequence has at most 32 keysyms
+  -- the sequence of a definition has at most 32 keysyms
   pub sequence_few : length d.sequence ≤ 32
   sequence_few = leb-true (length d.sequence) 32 (and_parts (nat_lt 0 (length d.sequence)) (nat_le (length d.sequence) 32) counted).1
 
@@ -32,7 +32,7 @@ module _ (d : Definition) (h : is_definition d ≡ true) where
   pub text_few : length d.text ≤ 255
   text_few = leb-true (length d.text) 255 (and_parts (is_counted d && is_fed d) (nat_le (length d.text) 255) h).1
 
--- a table has definitions alone
+-- each entry of a table is a definition
 pub definition_at : (table : List Definition) (i : ℕ) (d : Definition) → is_table table ≡ true → i < length table → is_definition (get_or table i d) ≡ true
 definition_at [] i d t h = absurd (omega arith)
 definition_at (e ∷ table) zero d t h = (and_parts (is_definition e) (is_table table) t).0

@@ -11,11 +11,11 @@ use Rattle.compose_model.specs.Nodes.{put, rising_lists, proper_prefixes, nodes,
 use Rattle.compose_model.proofs.Tests.{list_any-map, list_any-flat_map, list_any-filter, list_any-weaker, list_any-same, list_any-and, list_any-rising}
 use Rattle.compose_model.proofs.Steps.{effect_tells}
 
--- lists that the test finds the same are equal
+-- lists that are the same by the test are equal
 pub same_is : (s t : List ℕ) → same s t ≡ true → s ≡ t
 same_is s t = (bytes_decides s t).0
 
--- the test finds equal lists the same
+-- equal lists are the same by the test
 pub same_from : (s t : List ℕ) → s ≡ t → same s t ≡ true
 same_from s t = (bytes_decides s t).1
 
@@ -42,7 +42,7 @@ root_is_node table = node_means table []
 pub extended_is_node : (table : List Definition) (p : List ℕ) → is_extended table p ≡ true → is_node table p ≡ true
 extended_is_node table p h = node_means table p ∙ or_right (same p []) (is_extended table p) h
 
--- a step from a node lands on a node
+-- a step from a node leads to a node
 pub step_lands : (table : List Definition) (u : List ℕ) (k : ℕ) → is_node table u ≡ true → is_node table (pending_after table u k) ≡ true
 step_lands table u k h = go (effect table u k) refl
   where
@@ -60,7 +60,7 @@ pending_is_node table u (k ∷ w) h = pending_is_node table (pending_after table
 
 -- ---- the numbers of nodes
 
--- the element at the index where a list is found is that list
+-- the element at the index of a list that is found is that list
 pub found_at : (p : List ℕ) (xs : List (List ℕ)) → list_any (same p) xs ≡ true → get_or xs (position_or_len (same p) xs) [] ≡ p
 found_at p [] h = cc
 found_at p (x ∷ xs) h = go (same p x) refl h (found_at p xs)
@@ -94,7 +94,7 @@ put_root [] = ([], refl)
 put_root ([] ∷ xs) = (xs, refl)
 put_root ((k ∷ s) ∷ xs) = ((k ∷ s) ∷ xs, refl)
 
--- the empty list stands first among the nodes
+-- the empty list is the first node
 pub root_first : (table : List Definition) → (rest : List (List ℕ)) × (nodes table ≡ [] ∷ rest)
 root_first table = put_root (rising_lists (flat_map (λ d. proper_prefixes d.sequence) table))
 
@@ -124,17 +124,17 @@ has_key_same [] (x ∷ s) k h = or_left (k == x) (list_any (λ j. k == j) s) (an
 has_key_same (j ∷ p) [] k h = cc
 has_key_same (j ∷ p) (x ∷ s) k h = or_right (k == x) (list_any (λ y. k == y) s) (has_key_same p s k (and_parts (j == x) (same (p ++ k ∷ []) s) h).1)
 
--- a list with a keysym at its end isn't empty
+-- a list with a keysym at its end is not empty
 pub never_empty : (p : List ℕ) (k : ℕ) → same (p ++ k ∷ []) [] ≡ false
 never_empty [] k = refl
 never_empty (j ∷ p) k = refl
 
--- p goes on with k where a sequence extends p and k, or is p and k
+-- p goes on with k if a sequence extends p and k, or is p and k
 pub edge_extends : (table : List Definition) (p : List ℕ) (k : ℕ) → has_edge table p k ≡ is_extended table (p ++ k ∷ []) || is_sequence table (p ++ k ∷ [])
 edge_extends table p k =
     ap (λ b. b || is_sequence table (p ++ k ∷ [])) (node_means table (p ++ k ∷ []) ∙ ap (λ b. b || is_extended table (p ++ k ∷ [])) (never_empty p k))
 
--- a test finds a keysym of the table exactly where it finds one in a sequence
+-- a test finds a keysym of the table exactly if it finds one in a sequence
 pub keysyms_are : (table : List Definition) (q : ℕ → Bool) → list_any q (keysyms table) ≡ list_any (λ d. list_any q d.sequence) table
 keysyms_are table q = list_any-rising nat_cmp exact_unsigned q (flat_map (λ d. d.sequence) table) ∙ list_any-flat_map q (λ (d : Definition). d.sequence) table
 

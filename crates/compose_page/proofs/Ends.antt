@@ -1,11 +1,11 @@
--- With how many keys two sequences end, a key at a time.
+-- The number of keys with which two sequences end, one key at a time.
 use Rattle.std.proofs.Common.{◌≡◌, ◌+◌, ℕ, List, [], ◌∷◌, ◌++◌, cond, ap₂, refl}
 use Rattle.std.specs.Prelude.{bytes_eq}
 use Rattle.std.specs.Borrow.{Bor}
 use Rattle.std.proofs.lemmas.List.{reverse-append}
 use Rattle.compose_page.specs.Keys.{Keys, common_start, common_end}
 
--- with none, where one has no key
+-- no common keys if one of them has none
 pub starts_none : (keys : Keys) → common_start keys [] ≡ 0
 starts_none [] = refl
 starts_none (key ∷ keys) = refl

@@ -1,4 +1,4 @@
--- Each row that is told is in one part.
+-- Each row that is not kept is in one part.
 use Rattle.std.proofs.Common.{◌≡◌, ◌∙◌, List, [], ◌∷◌, ◌++◌, Bool, true, false, cond, filter, is_some, subst, sym, ap, refl}
 use Rattle.std.proofs.lemmas.List.{append_assoc}
 use Rattle.std.specs.Prelude.{not, ◌&&◌}
@@ -12,13 +12,13 @@ use Rattle.compose_diff.specs.Line.{is_loss}
 use Rattle.compose_diff.specs.declared.row.DiffRow.{DiffRow}
 use Rattle.compose_page.specs.Sections.{rows_of_all}
 
--- an item may go behind others
+-- an item may be moved after others
 behind : {X : Type 0} (x : X) (before after : List X) → IsPermutation (x ∷ (before ++ after)) (before ++ x ∷ after)
 behind x before after =
     IsPermutation-sym _ _ (subst (λ xs. IsPermutation xs (x ∷ (before ++ after))) (append_assoc before (x ∷ []) after)
     (IsPermutation-append_left after (before ++ x ∷ []) (x ∷ before) (IsPermutation-to_front before x)))
 
--- a row more in what is told is a row more in one part
+-- one more reported row is one more row in one part
 row_more : {X : Type 0} (change : Change) (typed : Bool) (x : X) (all lost otherwise starts additions : List X)
     → IsPermutation all (lost ++ (otherwise ++ (starts ++ additions)))
     → IsPermutation (cond (not (is_same change Kept)) (x ∷ all) all)

@@ -35,7 +35,7 @@ cell_end Html = codes "</td>"
 abbrev pub cell : Markup → List ℕ → List ℕ
 cell markup inside = cell_begin markup ++ (inside ++ cell_end markup)
 
--- ---- what is in them; each part begins with a blank
+-- ---- the contents of cells; each part begins with a blank
 
 -- a text of a table
 abbrev pub bold_part : Markup → List ℕ → List ℕ
@@ -49,7 +49,7 @@ shown_text row = option_map_or (λ entry. entry.text.now) (first_entry row) []
 abbrev pub text_cells : Markup → DiffRow → List ℕ
 text_cells markup row = cell markup (bold_part markup (shown_text row)) ++ cell markup (numbers_part (shown_text row))
 
--- where people lose a sequence, the one that gives its text now
+-- if people lose the sequence, the one that gives its text now
 abbrev pub now_typed : DiffRow → Option NewSequence
 now_typed row = if is_loss row.change then row.typing else None
 
@@ -90,7 +90,7 @@ happens_by markup _ row = []
 abbrev pub happens : Markup → DiffRow → List ℕ
 happens markup row = happens_by markup row.change row
 
--- of a sequence that people lose alone
+-- only for a sequence that people lose
 abbrev pub happens_cell : Markup → DiffRow → List ℕ
 happens_cell markup row = if is_loss row.change then cell markup (happens markup row) else []
 

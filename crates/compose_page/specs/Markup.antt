@@ -14,7 +14,7 @@ abbrev pub is_mark : Markup → ℕ → Bool
 is_mark Markdown c = is_between 33 36 c || is_between 38 42 c || c == 60 || c == 62 || is_between 91 96 c || is_between 123 126 c
 is_mark Html c = c == 34 || c == 38 || c == 39 || c == 60 || c == 62
 
--- such a one as itself: after a backslash (code 92), or by its number
+-- such a character, escaped: after a backslash (code 92), or by its number
 abbrev pub mark_text : Markup → ℕ → List ℕ
 mark_text Markdown c = 92 ∷ encode_utf8 c
 mark_text Html c = codes "&#" ++ (decimal c ++ codes ";")
@@ -23,7 +23,7 @@ mark_text Html c = codes "&#" ++ (decimal c ++ codes ";")
 abbrev pub number_text : ℕ → List ℕ
 number_text c = codes "U+" ++ at_least_four (digits 16 true c)
 
--- what may steer a terminal or the direction of writing by its number
+-- a character that could control a terminal or the direction of writing, by its number
 abbrev pub character_text : Markup → ℕ → List ℕ
 character_text markup c = if is_unsafe c then number_text c else if is_mark markup c then mark_text markup c else encode_utf8 c
 

@@ -29,7 +29,7 @@ heading_end Html false = codes "</h2>\n"
 abbrev pub sequences_word : ℕ → List ℕ
 sequences_word n = if n == 1 then codes " sequence" else codes " sequences"
 
--- its words, and how many sequences it has
+-- its words, and its number of sequences
 abbrev pub heading : Markup → Bool → Section → ℕ → List ℕ
 heading markup folded section n =
     heading_begin markup folded ++ (title section ++ ((codes " (" ++ (decimal n ++ (sequences_word n ++ codes ")"))) ++ heading_end markup folded))
@@ -56,7 +56,7 @@ table_end Html = codes "</tbody>\n</table>\n"
 abbrev pub rows_text : Markup → List DiffRow → List ℕ
 rows_text markup rows = flat_map (row_text markup) rows
 
--- none where there are no rows
+-- none if there are no rows
 abbrev pub table_text : Markup → Section → List DiffRow → List ℕ
 table_text markup section [] = []
 table_text markup section (row ∷ rows) = caption_text markup section ++ (table_head markup section ++ (rows_text markup (row ∷ rows) ++ table_end markup))
@@ -70,7 +70,7 @@ section_end folded = if folded then codes "</details>\n\n" else []
 abbrev pub section_of : Markup → Bool → Section → List DiffRow → List ℕ
 section_of markup folded section rows = heading markup folded section (length rows) ++ (table_text markup section rows ++ section_end folded)
 
--- folded where parts are to be folded, this one is, and it has rows
+-- folded if parts are to be folded, this part is, and it has rows
 abbrev pub section_by : Markup → Bool → Section → List DiffRow → List ℕ
 section_by markup folds section rows = section_of markup (folds && is_folded section && not (length rows == 0)) section rows
 
@@ -94,14 +94,14 @@ abbrev pub page_end : Markup → List ℕ
 page_end Markdown = codes "</pre>\n"
 page_end Html = codes "</pre>\n</body>\n</html>\n"
 
--- the line of the overlaps and that of the counts
+-- the line of the overlaps, and that of the counts
 abbrev pub end_text : Markup → Counts → Overlaps → List ℕ
 end_text markup counts overlaps = codes "<pre>\n" ++ (overlaps_line overlaps ++ (counts_line counts ++ page_end markup))
 
--- on the rows that are left, with these counts
+-- for the rows that are left, with these counts
 abbrev pub counted_page : Markup → Printed → Overlaps → List DiffRow → Counts → List ℕ
 counted_page markup printed overlaps left counts = page_begin markup ++ (sections_text markup printed left ++ end_text markup counts overlaps)
 
--- of all rows some are left
+-- for the rows that are left of all rows
 abbrev pub page_text : Markup → Printed → Overlaps → List DiffRow → List DiffRow → List ℕ
 page_text markup printed overlaps rows left = counted_page markup printed overlaps left (counts_of left (length rows - length left))

@@ -14,11 +14,11 @@ is_in Otherwise row = is_loss row.change && is_some row.typing
 is_in Starts row = is_same row.change changes.NewStart
 is_in Additions row = is_same row.change changes.Added
 
--- in their order
+-- the rows of a part, in their order
 abbrev pub rows_in : Section → List DiffRow → List DiffRow
 rows_in section rows = filter (is_in section) rows
 
--- those of all parts
+-- the rows of all parts
 abbrev pub rows_of_all : List DiffRow → List DiffRow
 rows_of_all rows = rows_in Lost rows ++ (rows_in Otherwise rows ++ (rows_in Starts rows ++ rows_in Additions rows))
 

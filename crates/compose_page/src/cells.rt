@@ -22,7 +22,7 @@ pub(crate) fn push_row(text: &mut String, markup: Markup, row: &DiffRow) -> Resu
     text.push_str(row_end(markup))
 }
 
-/// What a row begins with.
+/// Returns the beginning of a row.
 fn row_begin(markup: Markup) -> &'static str
     ensures { result.now ≡ words.row_begin markup }
 {
@@ -32,7 +32,7 @@ fn row_begin(markup: Markup) -> &'static str
     }
 }
 
-/// What a row ends with.
+/// Returns the end of a row.
 fn row_end(markup: Markup) -> &'static str
     ensures { result.now ≡ words.row_end markup }
 {
@@ -42,7 +42,7 @@ fn row_end(markup: Markup) -> &'static str
     }
 }
 
-/// What a cell begins with.
+/// Returns the beginning of a cell.
 fn cell_begin(markup: Markup) -> &'static str
     ensures { result.now ≡ words.cell_begin markup }
 {
@@ -52,7 +52,7 @@ fn cell_begin(markup: Markup) -> &'static str
     }
 }
 
-/// What a cell ends with.
+/// Returns the end of a cell.
 fn cell_end(markup: Markup) -> &'static str
     ensures { result.now ≡ words.cell_end markup }
 {
@@ -62,7 +62,7 @@ fn cell_end(markup: Markup) -> &'static str
     }
 }
 
-/// Appends the cells for the old text of a sequence, or else its new one, to the text.
+/// Appends the cells for the old text of a sequence, or else for its new one, to the text.
 fn push_text_cells(text: &mut String, markup: Markup, row: &DiffRow) -> Result<(), AllocError>
     ensures { OnOk result
         (string_bytes text.new ≡ string_bytes text.old ++ words.text_cells markup row.now) }
@@ -76,7 +76,7 @@ fn push_text_cells(text: &mut String, markup: Markup, row: &DiffRow) -> Result<(
     text.push_str(cell_end(markup))
 }
 
-/// The text that the old table has for a sequence, or else the new one.
+/// Returns the text that the old table has for a sequence, or else that of the new one.
 fn shown_text<'r>(row: &DiffRow<'r>) -> &'r str
     ensures { result.now ≡ words.shown_text row.now }
 {
@@ -112,7 +112,7 @@ fn push_keys_cells(text: &mut String, markup: Markup, row: &DiffRow) -> Result<(
     }
 }
 
-/// The sequence that gives the text of a sequence now, where people lose this one.
+/// Returns the sequence that gives the text of this sequence now, if people lose this one.
 fn now_typed<'r>(row: &DiffRow<'r>) -> Option<NewSequence<'r>>
     ensures { result ≡ words.now_typed row.now }
 {
@@ -193,7 +193,7 @@ fn push_entry_text(
     push_numbers(text, entry.text)
 }
 
-/// Appends the longer sequence for which people wait to the text.
+/// Appends the longer sequence for which a waiting one waits to the text.
 fn push_longer(
     text: &mut String,
     markup: Markup,
@@ -235,7 +235,7 @@ fn push_places_cell(text: &mut String, markup: Markup, row: &DiffRow) -> Result<
     text.push_str(cell_end(markup))
 }
 
-/// Appends the place of what a table has for a sequence, if it has it, to the text.
+/// Appends the place of the definition that a table has for a sequence, if it has one, to the text.
 fn push_entry_place(
     text: &mut String,
     markup: Markup,

@@ -1,4 +1,4 @@
-//! The keys of sequences, and in which keys two sequences differ.
+//! The keys of sequences, and the keys in which two sequences differ.
 ghost use Rattle.std.specs.Prelude.{◌≡◌, ◌≤◌, ◌++◌, length, OnOk, string_bytes};
 ghost use Rattle.compose_page.specs.Keys as words;
 
@@ -35,8 +35,8 @@ fn push_between(
     Ok(())
 }
 
-/// Appends the keys of the old sequence of a text, those struck that the new one doesn't have at
-/// their place, to the text.
+/// Appends the keys of the old sequence of a text to the text. Those that the new one doesn't have
+/// at their place are struck through.
 pub(crate) fn push_old_keys(
     text: &mut String,
     markup: Markup,
@@ -51,8 +51,8 @@ pub(crate) fn push_old_keys(
     push_marked(text, markup, " <del><kbd>", old, "</kbd></del>", new)
 }
 
-/// Appends the keys of the new sequence of a text, those underlined that the old one doesn't have
-/// at their place, to the text.
+/// Appends the keys of the new sequence of a text to the text. Those that the old one doesn't have
+/// at their place are underlined.
 pub(crate) fn push_new_keys(
     text: &mut String,
     markup: Markup,
@@ -67,8 +67,8 @@ pub(crate) fn push_new_keys(
     push_marked(text, markup, " <ins><kbd>", new, "</kbd></ins>", old)
 }
 
-/// Appends the keys to the text. Those between the keys with which others begin too, and those with
-/// which they end too, are each between the two texts.
+/// Appends the keys to the text. Each key between those with which both sequences begin and those
+/// with which both end is put between the two texts.
 fn push_marked(
     text: &mut String,
     markup: Markup,
@@ -90,7 +90,7 @@ fn push_marked(
     push_after(text, markup, before, rest, after, other_rest)
 }
 
-/// Appends the keys to the text, but for those at the end with which others end too each between
+/// Appends the keys to the text. Each key before those with which both sequences end is put between
 /// the two texts.
 fn push_after(
     text: &mut String,
@@ -111,7 +111,7 @@ fn push_after(
     push_keys(text, markup, end)
 }
 
-/// How many keys come before those with which others end too.
+/// Returns the number of keys before those with which both sequences end.
 fn own_count(rest: &[&str], others: &[&str]) -> usize
     ensures value { result
         ≡ words.own_count rest.now others.now }
@@ -120,7 +120,7 @@ fn own_count(rest: &[&str], others: &[&str]) -> usize
     rest.len() - common_end(rest, others)
 }
 
-/// With how many keys both sequences begin.
+/// Returns the number of keys with which both sequences begin.
 fn common_start(keys: &[&str], others: &[&str]) -> usize
     ensures value { result
         ≡ words.common_start keys.now others.now }
@@ -139,7 +139,7 @@ fn common_start(keys: &[&str], others: &[&str]) -> usize
     1 + common_start(keys, others)
 }
 
-/// With how many keys both sequences end.
+/// Returns the number of keys with which both sequences end.
 fn common_end(keys: &[&str], others: &[&str]) -> usize
     ensures value { result
         ≡ words.common_end keys.now others.now }

@@ -1,9 +1,10 @@
 //! The rows of `diff` as a page that people read: Markdown, or HTML in one file.
 //!
-//! [`page_text`] begins with what matters: the texts that can't be typed any more, then those that are typed otherwise, and then the
-//! rest, folded. Each part ([`Section`]) is a heading with its number of sequences and a table. A row of Markdown:
+//! [`page_text`] begins with what matters most: the texts that can't be typed any more, then those
+//! that are typed otherwise, and then the rest, folded. Each part ([`Section`]) is a heading with
+//! its number of sequences, and a table. A row of Markdown:
 //!
-//!     | <b>ở</b> | U+1EDF | <kbd>dead\_hook</kbd> <kbd>o</kbd> | changed to <b>ờ</b> U+1EDD | OLD:1234 NEW:361 |
+//!     | <b>ở</b> | U+1EDF | <kbd>dead\_hook</kbd> <kbd>o</kbd> | removed | OLD:1234 |
 #![tactic(auto)]
 
 ghost use Rattle.std.specs.Prelude.{List};
@@ -22,7 +23,7 @@ pub use markup::Markup;
 pub use page::page_text;
 pub use section::Section;
 
-/// Each row that is told is in one part of the page: none is left out or doubled.
+/// Each row that is not kept is in exactly one part of the page: none is omitted or repeated.
 pub fn law_sections()
     ensures { (rows : List DiffRow) → IsPermutation (told rows) (rows_of_all rows) }
 {}

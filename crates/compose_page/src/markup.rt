@@ -12,11 +12,11 @@ use std::fmt::Write;
 pub enum Markup {
     /// CommonMark with the tables of GitHub and GitLab.
     Markdown,
-    /// One file, without scripts and outside links.
+    /// HTML in one file, without scripts and external links.
     Html,
 }
 
-/// Appends the text, so that no character of it is taken for markup, to the text.
+/// Appends `inside` to the text, escaped so that no character of it is taken for markup.
 pub(crate) fn push_escaped(
     text: &mut String,
     markup: Markup,
@@ -31,8 +31,8 @@ pub(crate) fn push_escaped(
     Ok(())
 }
 
-/// Appends a character to the text: by its number, if it may steer a terminal or the direction of
-/// writing.
+/// Appends a character to the text: as its number, if it could control a terminal or the direction
+/// of writing.
 fn push_character(text: &mut String, markup: Markup, character: char) -> Result<(), AllocError>
     ensures { OnOk result
         (string_bytes text.new ≡ string_bytes text.old ++ words.character_text markup character) }
@@ -47,7 +47,7 @@ fn push_character(text: &mut String, markup: Markup, character: char) -> Result<
     text.push(character)
 }
 
-/// Whether the character may have a meaning in the markup.
+/// Returns whether the character may have a meaning in the markup.
 fn is_mark(markup: Markup, number: u32) -> bool
     ensures { result ≡ words.is_mark markup number }
 {
@@ -57,7 +57,7 @@ fn is_mark(markup: Markup, number: u32) -> bool
     }
 }
 
-/// Appends a character that may have a meaning in the markup as itself to the text.
+/// Appends a character that may have a meaning in the markup to the text, escaped.
 fn push_mark(text: &mut String, markup: Markup, character: char) -> Result<(), AllocError>
     ensures { OnOk result
         (string_bytes text.new ≡ string_bytes text.old ++ words.mark_text markup character) }

@@ -9,14 +9,16 @@ use compose_diff::{Counts, DiffRow, Overlaps, Printed, push_overlaps};
 use std::alloc::{AllocError, Global};
 use std::fmt::Write;
 
-/// What an HTML page begins with.
+/// The beginning of an HTML page.
 const HTML_BEGIN: &str =
     "<!DOCTYPE html>\n<html lang=\"en\">\n<head>\n<meta charset=\"utf-8\">\n<meta name=\"viewport\" content=\"width=device-width\">\n<title>Changes of a Compose table</title>\n<style>\n:root { color-scheme: light dark }\nbody { font-family: sans-serif; line-height: 1.5; margin: 1em auto; max-width: 80em; padding: 0 1em }\ntable { border-collapse: collapse; margin: 1em 0 }\ncaption { text-align: left; padding: .3em 0 }\nth, td { border: 1px solid #888; padding: .2em .6em; text-align: left }\nb { font-size: 2em; font-weight: normal; line-height: 1.2 }\nkbd { border: 1px solid; border-radius: .3em; padding: 0 .3em; white-space: nowrap }\ndel { color: #b00000; text-decoration: line-through }\nins { color: #006000; text-decoration: underline }\nsummary { font-size: 1.5em; font-weight: bold }\npre { white-space: pre-wrap }\n@media (prefers-color-scheme: dark) { del { color: #ff9090 } ins { color: #90e090 } }\n</style>\n</head>\n<body>\n<h1>Changes of a Compose table</h1>\n";
 
-/// The page on the rows that are left of all rows: a heading and a table for each part
-/// ([`Section`]), or for that of the lost texts alone, the folded ones in `<details>` unless
-/// nothing is to be folded; then the [`Overlaps`] and the [`Counts`] of all that are left, as
-/// `diff` has them. O(bytes + rows × log rows).
+/// Returns the page for `left`, the rows that remain of `rows`. It has a heading and a table for
+/// each part ([`Section`]), or only for the part of the lost texts. Some parts are folded in
+/// `<details>`, unless nothing is to be folded. Then come the [`Overlaps`] and the [`Counts`] of
+/// all rows that remain, as `diff` prints them. O(bytes + rows × log rows).
+///
+/// Errors: `AllocError` if memory runs out.
 pub fn page_text(
     alloc: Global,
     rows: &[DiffRow],
@@ -32,7 +34,7 @@ pub fn page_text(
     counted_page(alloc, left, markup, printed, overlaps, &counts)
 }
 
-/// The page on the rows that are left, with these counts.
+/// Returns the page for the rows that remain, with these counts.
 fn counted_page(
     alloc: Global,
     left: &[DiffRow],
@@ -52,7 +54,7 @@ fn counted_page(
     Ok(text)
 }
 
-/// What stands before the parts.
+/// Returns the text before the parts.
 fn page_begin(markup: Markup) -> &'static str
     ensures { result.now ≡ words.page_begin markup }
 {
@@ -122,7 +124,7 @@ fn push_heading(
     text.push_str(heading_end(markup, folded))
 }
 
-/// The word after a number of sequences, after a blank.
+/// Returns the word after a number of sequences, with a blank before it.
 fn sequences_word(count: usize) -> &'static str
     ensures { result.now ≡ words.sequences_word count }
 {
@@ -132,7 +134,7 @@ fn sequences_word(count: usize) -> &'static str
     }
 }
 
-/// What stands before the words of a heading.
+/// Returns the text before the words of a heading.
 fn heading_begin(markup: Markup, folded: bool) -> &'static str
     ensures { result.now ≡ words.heading_begin markup folded }
 {
@@ -143,7 +145,7 @@ fn heading_begin(markup: Markup, folded: bool) -> &'static str
     }
 }
 
-/// What stands after the words of a heading.
+/// Returns the text after the words of a heading.
 fn heading_end(markup: Markup, folded: bool) -> &'static str
     ensures { result.now ≡ words.heading_end markup folded }
 {
@@ -154,7 +156,7 @@ fn heading_end(markup: Markup, folded: bool) -> &'static str
     }
 }
 
-/// What stands after the table of a part.
+/// Returns the text after the table of a part.
 fn section_end(folded: bool) -> &'static str
     ensures { result.now ≡ words.section_end folded }
 {
@@ -184,7 +186,7 @@ fn push_table(
     text.push_str(table_end(markup))
 }
 
-/// Appends what a table shows to the text.
+/// Appends the caption of a table to the text.
 fn push_caption(text: &mut String, markup: Markup, section: Section) -> Result<(), AllocError>
     ensures { OnOk result
         (string_bytes text.new ≡ string_bytes text.old ++ words.caption_text markup section) }
@@ -196,7 +198,7 @@ fn push_caption(text: &mut String, markup: Markup, section: Section) -> Result<(
     }
 }
 
-/// The headings of the columns.
+/// Returns the headings of the columns.
 fn table_head(markup: Markup, section: Section) -> &'static str
     ensures { result.now ≡ words.table_head markup section }
 {
@@ -220,7 +222,7 @@ fn table_head(markup: Markup, section: Section) -> &'static str
     }
 }
 
-/// What stands after the rows of a table.
+/// Returns the text after the rows of a table.
 fn table_end(markup: Markup) -> &'static str
     ensures { result.now ≡ words.table_end markup }
 {
@@ -258,7 +260,7 @@ fn push_end(
     text.push_str(page_end(markup))
 }
 
-/// What stands after the counts.
+/// Returns the text after the counts.
 fn page_end(markup: Markup) -> &'static str
     ensures { result.now ≡ words.page_end markup }
 {

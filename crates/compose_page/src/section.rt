@@ -11,15 +11,15 @@ use std::alloc::{AllocError, Global};
 pub enum Section {
     /// Sequences that people lose, and whose text no sequence of the new table gives.
     Lost,
-    /// Sequences that people lose, and whose text another one gives.
+    /// Sequences that people lose, and whose text another sequence of the new table gives.
     Otherwise,
-    /// Sequences that begin with a key that began none.
+    /// New sequences that begin with a key that started no sequence before.
     Starts,
-    /// Other sequences that the new table alone has.
+    /// All other sequences that only the new table has.
     Additions,
 }
 
-/// The rows that are in a part, in order. O(rows).
+/// Returns the rows that are in a part, in order. O(rows).
 pub(crate) fn rows_in<'r>(
     alloc: Global,
     section: Section,
@@ -36,7 +36,7 @@ pub(crate) fn rows_in<'r>(
     Ok(its)
 }
 
-/// Whether the row is in the part.
+/// Returns whether the row is in the part.
 fn is_in(section: Section, row: &DiffRow) -> bool
     ensures { result ≡ words.is_in section row.now }
 {
@@ -48,7 +48,7 @@ fn is_in(section: Section, row: &DiffRow) -> bool
     }
 }
 
-/// The words of its heading.
+/// Returns the words of its heading.
 pub(crate) fn title(section: Section) -> &'static str
     ensures { result.now ≡ words.title section }
 {
@@ -60,7 +60,7 @@ pub(crate) fn title(section: Section) -> &'static str
     }
 }
 
-/// What its table shows.
+/// Returns the caption of its table.
 pub(crate) fn caption(section: Section) -> &'static str
     ensures { result.now ≡ words.caption section }
 {
@@ -74,7 +74,7 @@ pub(crate) fn caption(section: Section) -> &'static str
     }
 }
 
-/// Whether it is folded where parts are.
+/// Returns whether it is folded, if parts are folded at all.
 pub(crate) fn is_folded(section: Section) -> bool
     ensures { result ≡ words.is_folded section }
 {

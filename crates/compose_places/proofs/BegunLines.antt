@@ -1,4 +1,4 @@
--- Of lines without a fault, those that begin as definitions are the ones that read as definitions.
+-- Of lines without a fault, those that begin like definitions are the definitions.
 use Rattle.std.proofs.Common.{◌≡◌, ℕ, List, [], ◌∷◌, Bool, true, false, cond, not, ◌&&◌, length, take, drop, nat_eq, nat_lt, refl, sym, ◌∙◌, ap, ap₂, arith, inl, inr}
 use Rattle.std.specs.Prelude.{◌==◌, Option, Result, Ok, Err, is_ok, filter, codes}
 use Rattle.std.specs.List.{starts_with}
@@ -24,7 +24,7 @@ use Rattle.compose_places.proofs.Told.{few}
 -- ---- one line
 
 module _ (n : ℕ) (rest : List ℕ) where
-  -- what is read behind the colon
+  -- what is read after the colon
   abbrev results : List (List ℕ) → List ℕ → Result Reading LexFault
   results events rest = result_at n (skip_blanks rest) >>= (λ result. end_at n (skip_blanks result.2) >>= (λ _. Ok (production events result.0 result.1)))
 
@@ -54,7 +54,7 @@ module _ (n : ℕ) (rest : List ℕ) where
       by_first (Ok x) h = by_more x.0 (events_at n 31 x.1) h
       by_first (Err e) h = h
 
-  -- what is read of an include is no production
+  -- what is read from an include is not a production
   include_is : is_production (include_at n rest) ≡ false
   include_is = by_quote (byte_at n 34 (skip_blanks rest))
     where
@@ -71,7 +71,7 @@ module _ (n : ℕ) (rest : List ℕ) where
       by_quote (Ok x) = by_string (string_at n x)
       by_quote (Err e) = refl
 
--- the first byte alone tells a production from what else is read without a fault
+-- the first byte alone distinguishes a production from any other reading without a fault
 by_rest : (n : ℕ) (rest : List ℕ) → is_ok (reading_at n rest) ≡ true → starts_with nat_eq rest (codes "<") ≡ is_production (reading_at n rest)
 by_rest n [] h = refl
 by_rest n (b ∷ rest) h = by_first (b == 35) refl (starts_with nat_eq (b ∷ rest) (codes "include")) refl (not (begins is_name_byte (drop 7 (b ∷ rest)))) h
@@ -116,7 +116,7 @@ module _ (names : KeysymNames) (sources : List Source) where
       let parts = and_parts (is_ok (line_gives names sources v)) (are_faultless names sources vs) h in
       ap₂ (λ b ws. cond b (v ∷ ws) ws) (begins_as_said names sources v parts.0) (same_lines vs parts.1)
 
-  -- where the definitions are read without a fault, the lines that begin as definitions are theirs
+  -- if the definitions are read without a fault, the lines that begin like definitions are theirs
   pub begun_told : (root : List ℕ) (table : List Definition) → definitions_of names sources root ≡ Ok table → begun_lines sources root ≡ definition_lines sources root
   begun_told root table h = go (nat_lt (source_named sources root) (length sources)) h
     where

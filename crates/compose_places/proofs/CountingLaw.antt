@@ -97,7 +97,7 @@ module _ (names : KeysymNames) (sources : List Source) where
     by_text true (Ok (include name)) h = absurd (include_alone (not (nat_lt (source_named sources name) (length sources))) (nat_lt v.depth max_depth) h)
     by_text true (Ok (production events raw name)) h = by_sequence events raw name (sequence_of names v 0 events) refl h
 
-    -- the keys that it writes are its sequence
+    -- the keys written on it are its sequence
     gives_sequence : line_gives names sources v ≡ Ok (Some d) → option_and_then (sequence_named names) (line_events v.bytes) ≡ Some d.sequence
     gives_sequence h = by_text (is_utf8 v.bytes) (reading_of v.bytes) h
 
@@ -178,7 +178,7 @@ module _ (names : KeysymNames) (sources : List Source) where
             h ∙ sym (nothing_else (counting_line names vs s))
             ∙ ap (λ b. option_or (counting_line names vs s) (cond b (Some (written_line v)) None)) (sym (not_said v.bytes e))
 
-  -- of the lines that are read those that read as definitions count alone
+  -- of the lines that are read, the definitions alone count
   same_lines : (root s : List ℕ) → counting_line names (definition_lines sources root) s ≡ counting_line names (read_lines sources root) s
   same_lines root s = go (nat_lt (source_named sources root) (length sources))
     where
@@ -257,7 +257,7 @@ module _ (names : KeysymNames) (sources : List Source) where
       go [] f = refl
       go (x ∷ xs) f = ap₂ (λ y ys. y ∷ ys) (f x (or_left (same x x) (list_any (same x) xs) (same_from x x refl))) (go xs (λ s h. f s (or_right (same s x) (list_any (same s) xs) h)))
 
-  -- ---- the lines that begin as definitions
+  -- ---- the lines that begin like definitions
 
   module _ (root : List ℕ) (ds : List Definition) (read : definitions_of names sources root ≡ Ok ds) where
     -- they define the sequences that are read, each one

@@ -1,4 +1,4 @@
--- The counting line of each sequence, as one line more is read.
+-- The counting line of each sequence, after one more line.
 use Rattle.std.proofs.Common.{◌≡◌, ℕ, List, [], ◌∷◌, ◌++◌, Bool, true, false, cond, map, set, refl, ◌∙◌, ap}
 use Rattle.std.specs.Prelude.{Option, Some, None}
 use Rattle.std.specs.Option.{option_or, option_map_or, option_and_then}
@@ -43,11 +43,11 @@ module _ (names : KeysymNames) where
       others : (x : List ℕ) → same x s ≡ false → after x ≡ before x
       others x h = one_more (Some s) e x ∙ ap (λ b. cond b (Some (written_line v)) (before x)) h
 
-      -- one that defines a sequence which the table has not
+      -- a line that defines a sequence that the table does not have
       pub defines_other : is_sequence table s ≡ false → map after (leaves table) ≡ map before (leaves table)
       defines_other h = nothing_changed before after s others (leaves table) (leaf_means table s ∙ h)
 
-      -- one that defines a sequence of the table
+      -- a line that defines a sequence of the table
       pub defines_one : is_sequence table s ≡ true → map after (leaves table) ≡ set (map before (leaves table)) (leaf_number table s) (Some (written_line v))
       defines_one h =
           changed_at before after s others (leaves table) (rising_sorted nat_list_cmp_total (map (λ (d : Definition). d.sequence) table)) (leaf_means table s ∙ h)

@@ -1,4 +1,5 @@
--- Sequences in one array stay what they are when more keysyms are put behind them, and what is put there is one more.
+-- Sequences in one array stay what they are when more keysyms are appended, and the appended keysyms are one more
+-- sequence.
 use Rattle.std.proofs.Common.{◌≡◌, ℕ, ◌+◌, ◌≤◌, List, [], ◌∷◌, ◌++◌, length, take, drop, refl, ◌∙◌, ap, ap₂, arith}
 use Rattle.std.proofs.Math.Seq.{drop-append_seam, take-length}
 use Rattle.std.proofs.lemmas.List.{map-append, length-append}
@@ -21,7 +22,7 @@ module _ (keysyms sequence : List ℕ) where
   pub stay_within : (spans : List KeysymSpan) → AreWithin keysyms spans → AreWithin all spans
   stay_within spans h = λ k d l. let n = length-append keysyms sequence in omega (arith, n, h k d l)
 
-  -- the span of what is put behind
+  -- the span of what is appended
   abbrev last : KeysymSpan
   last = record { first = length keysyms; count = length sequence }
 

@@ -1,4 +1,4 @@
--- The counting line of each sequence, as one more of the lines that define them is looked at.
+-- The counting line of each sequence, after one more of the lines that define them.
 use Rattle.std.proofs.Common.{◌≡◌, ℕ, ◌+◌, ◌<◌, List, [], ◌∷◌, ◌++◌, map, set, take, length, get_or, true, false, sym, ◌∙◌, ap, subst}
 use Rattle.std.specs.Prelude.{Option, Some, option_map, slice_get}
 use Rattle.std.proofs.lemmas.List.{take_more, length-map}
@@ -11,7 +11,7 @@ use Rattle.compose_tree.specs.Targets.{leaf_number}
 use Rattle.compose_places.specs.Counting.{WrittenLine, defined_sequence, written_line, counting_line}
 use Rattle.compose_places.proofs.CountingSoFar.{defines_other, defines_one}
 
--- a line at which nothing is written
+-- a line on which nothing is written
 abbrev no_line : Visit
 no_line = record { source = 0; line = 0; depth = 0; bytes = [] }
 
@@ -42,11 +42,11 @@ module _ (names : KeysymNames) (table : List Definition) (visits : List Visit) (
   one_more : after ≡ map (counting_line names (take index visits ++ visit ∷ [])) (leaves table)
   one_more = ap (λ vs. map (counting_line names vs) (leaves table)) (take_more visits index no_line within)
 
-  -- one that defines a sequence which the table has not
+  -- a line that defines a sequence that the table does not have
   pub other_line : is_sequence table s ≡ false → before ≡ after
   other_line h = sym (one_more ∙ defines_other names table (take index visits) visit s defines_it h)
 
-  -- one that defines a sequence of the table
+  -- a line that defines a sequence of the table
   pub one_line : is_sequence table s ≡ true → (lines : List WrittenLine) → lines ≡ map written_line visits → set before (leaf_number table s) (slice_get lines index) ≡ after
   one_line h lines written =
       ap (set before (leaf_number table s)) (ap (λ ls. slice_get ls index) written ∙ slice_get-map written_line visits index ∙ ap (option_map written_line) here)

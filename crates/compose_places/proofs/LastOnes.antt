@@ -1,4 +1,4 @@
--- The last definition of each sequence, as one definition more is read.
+-- The last definition of each sequence, after one more definition.
 use Rattle.std.proofs.Common.{◌≡◌, ℕ, ◌+◌, ◌<◌, List, [], ◌∷◌, ◌++◌, Bool, true, false, cond, not, ◌||◌, length, map, set, take, get_or, refl, sym, ◌∙◌, ap, ap₂, inl, inr, arith, Less, Greater, nat_cmp, one-add}
 use Rattle.std.specs.Prelude.{Option, Some, None, option_map, slice_get}
 use Rattle.std.specs.Option.{option_or}

@@ -1,4 +1,4 @@
--- The sequences that a settled table doesn't have are those with which longer ones begin.
+-- The sequences that a settled table doesn't have are the prefixes of longer ones.
 use Rattle.std.proofs.Common.{◌≡◌, ℕ, List, Bool, true, false, not, ◌&&◌, map, refl, sym, ◌∙◌, ap, ap₂, nat_cmp}
 use Rattle.std.specs.Prelude.{filter, is_some, None, Option, Ok, Result}
 use Rattle.std.specs.List.{list_any}
@@ -20,7 +20,7 @@ use Rattle.compose_read.specs.Settle.{in_order, overlap, settled}
 use Rattle.compose_read.proofs.Settled.{is_leaf, in_order_same, free_without_overlap, kept}
 use Rattle.compose_places.specs.Overlaps.{shorter_ones}
 
--- a test that a list passes holds alike of all that are the same as it
+-- a test has the same result for all lists that are the same
 module _ (p : List ℕ → Bool) (q : List ℕ) where
   at_same : (x : List ℕ) → p x && same q x ≡ p q && same q x
   at_same x = by (same q x) refl
@@ -33,7 +33,7 @@ module _ (p : List ℕ → Bool) (q : List ℕ) where
           false_right true = refl
           false_right false = refl
 
-  -- and is found in a filtered list where it passes and is in the list
+  -- a list is found in a filtered list if it passes and is in the list
   in_filtered : (xs : List (List ℕ)) → list_any (same q) (filter p xs) ≡ p q && list_any (same q) xs
   in_filtered xs = list_any-filter (same q) p xs ∙ list_any-same (λ x. p x && same q x) (λ x. p q && same q x) at_same xs ∙ list_any-and (p q) (same q) xs
 

@@ -20,7 +20,7 @@ module _ (sources : List Source) (place : DefinitionPlace) where
   no_source h = sym (ap (option_and_then (λ (s : Source). numbered_from_one (source_lines s.bytes) place.line)) (slice_get_past sources place.source h))
 
   module _ (bytes : List ℕ) (is : option_map (λ (s : Source). s.bytes) (slice_get sources place.source) ≡ Some bytes) where
-    -- what stands there in a source with these bytes
+    -- the line at this number in a source with these bytes
     pub line_is : line_at sources place ≡ numbered_from_one (source_lines bytes) place.line
     line_is = go (slice_get sources place.source) is
       where

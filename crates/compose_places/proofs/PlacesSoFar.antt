@@ -1,10 +1,10 @@
--- The places of the definitions among lines, as one line more is read.
+-- The places of the definitions among lines, after one more line.
 use Rattle.std.proofs.Common.{◌≡◌, ℕ, suc, List, [], ◌∷◌, ◌++◌, Bool, true, false, cond, map, take, sym, ◌∙◌, ap, ap₂, append_assoc}
 use Rattle.std.specs.Prelude.{filter}
 use Rattle.std.proofs.lemmas.List.{append-nil}
 
 module _ {X Y : Type 0} (test : X → Bool) (view : X → Y) (found whole : List Y) (left : List X) (n : ℕ) (told : found ++ map view (filter test (take n left)) ≡ whole) where
-  -- where no line is left, or none is to be read
+  -- no line is left, or none is to be read
   pub all_found : map view (filter test (take n left)) ≡ [] → found ≡ whole
   all_found h = sym (append-nil found) ∙ ap (λ ys. found ++ ys) (sym h) ∙ told
 

@@ -1,4 +1,4 @@
--- Of lines without a fault, those that read as productions give the definitions.
+-- Of lines without a fault, the productions are the definitions.
 use Rattle.std.proofs.Common.{◌≡◌, ◌≤◌, ◌+◌, ℕ, List, [], ◌∷◌, ◌++◌, Bool, true, false, cond, not, ◌&&◌, length, map, take, nat_lt, nat_le, refl, sym, ◌∙◌, ap, arith}
 use Rattle.std.specs.Prelude.{Option, Some, None, Result, Ok, Err, is_ok, filter, option_to_list}
 use Rattle.std.specs.Str.{is_utf8}
@@ -21,7 +21,7 @@ use Rattle.compose_places.specs.Places.{is_production, says_definition, definiti
 module _ (names : KeysymNames) (sources : List Source) where
   -- ---- one line
 
-  -- a line is said to be a definition exactly where it gives one
+  -- a line is classified as a definition exactly if it gives one
   abbrev IsTold : Bool → Result (Option Definition) ReadFault → Type 0
   IsTold true (Ok (Some d)) = Unit {0}
   IsTold false (Ok None) = Unit {0}
@@ -53,7 +53,7 @@ module _ (names : KeysymNames) (sources : List Source) where
 
   -- ---- lines
 
-  -- what lines give that each give a definition
+  -- the definitions of lines that each give one
   abbrev each : List Definition → List (Result (Option Definition) ReadFault)
   each table = map (λ d. Ok (Some d)) table
 
@@ -80,7 +80,7 @@ module _ (names : KeysymNames) (sources : List Source) where
   abbrev AreFew : List Visit → Type 0
   AreFew vs = (n m : ℕ) (t : List Definition) → read_on names sources n m vs ≡ Ok t → n ≤ max_lines → n + length vs ≤ max_lines
 
-  -- lines that are read to the end are no more than may be
+  -- lines that are read to the end are no more than the limit
   pub few : (vs : List Visit) (lines definitions : ℕ) (table : List Definition) → read_on names sources lines definitions vs ≡ Ok table → lines ≤ max_lines → lines + length vs ≤ max_lines
   few [] lines definitions table h l = omega (arith, l)
   few (v ∷ vs) lines definitions table h l = by_many (λ n m t e k. few vs n m t e k) (nat_le max_lines lines) refl h
@@ -106,7 +106,7 @@ module _ (names : KeysymNames) (sources : List Source) where
       by_many others false e h = by_found others (line_gives names sources v >>= with_room v definitions) e h
 
   module _ (root : List ℕ) (table : List Definition) where
-    -- where the definitions are read without a fault, the lines of definitions give them, one each and in order
+    -- if the definitions are read without a fault, the lines of definitions give them, one each and in order
     pub lines_told : definitions_of names sources root ≡ Ok table → map (line_gives names sources) (definition_lines sources root) ≡ each table
     lines_told h = go (nat_lt (source_named sources root) (length sources)) h
       where
@@ -120,7 +120,7 @@ module _ (names : KeysymNames) (sources : List Source) where
             let read = read_to_end names sources all 0 0 table h in let no_more = few all 0 0 table h (omega arith) in
             ap (λ vs. map (line_gives names sources) (said_lines vs)) (take_all max_lines all (omega (arith, no_more))) ∙ lines_give all read.0 ∙ ap each (sym read.1)
 
-    -- where the definitions are read without a fault, there are as many places as definitions
+    -- if the definitions are read without a fault, there are as many places as definitions
     pub as_many : definitions_of names sources root ≡ Ok table → length (definition_places sources root) ≡ length table
     as_many h =
         length-map (definition_lines sources root) place_of ∙ sym (length-map (definition_lines sources root) (line_gives names sources)) ∙ ap (λ rs. length rs) (lines_told h)

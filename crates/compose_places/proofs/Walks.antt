@@ -51,18 +51,18 @@ module _ (table : List Definition) (settled : IsSettled table) (s : List ℕ) wh
     taken : node table n ++ k ∷ [] ≡ take (i + 1) s
     taken = ap (λ p. p ++ k ∷ []) at ∙ ap (λ j. take i s ++ j ∷ []) (sym key) ∙ sym (take_more s i k within)
 
-    -- where the key leads
+    -- the target of the key
     led : (t : Option Target) → t ≡ target_of table (node table n) k → Leads table (node table n) k t
     led t e = subst (Leads table (node table n) k) (sym e) (leads table (node table n) k)
 
-    -- keysyms of which one leads nowhere are no sequence
+    -- keysyms one of which has no target are not a sequence
     pub leads_nowhere : None ≡ target_of table (node table n) k → is_sequence table s ≡ false
     leads_nowhere e = elim (cases_Bool (nat_lt (i + 1) (length s))) [
       | inl f ↦ ended (i + 1) (ltb-true (i + 1) (length s) f) (ap (is_extended table) (sym taken) ∙ (led None e).extended)
       | inr f ↦ (let all : length s ≤ i + 1 = ltb-false (i + 1) (length s) f in ap (is_sequence table) (sym (taken ∙ take_all (i + 1) s all)) ∙ (led None e).sequence)
     ]
 
-    -- keysyms of which one before the last leads to a leaf are no sequence
+    -- keysyms one of which before the last leads to a leaf are not a sequence
     pub leads_too_early : (l : LeafId) → Some (Leaf l) ≡ target_of table (node table n) k → i + 1 < length s → is_sequence table s ≡ false
     leads_too_early l e less = ended (i + 1) less (ap (is_extended table) (sym taken) ∙ (led (Some (Leaf l)) e).extended)
 
@@ -71,12 +71,12 @@ module _ (table : List Definition) (settled : IsSettled table) (s : List ℕ) wh
         let all = taken ∙ take_all (i + 1) s (omega arith) in let t = led (Some (Leaf l)) e in
         (ap (is_sequence table) (sym all) ∙ t.sequence, ap (leaf_number table) (sym all) ∙ t.number)
 
-    -- where the next keysym leads to a node, that node is the keysyms up to this one
+    -- if the next keysym leads to a node, that node is the keysyms up to this one
     pub leads_to_node : (m : NodeId) → Some (Node m) ≡ target_of table (node table n) k → (m.0 < length (nodes table)) × (node table m.0 ≡ take (i + 1) s)
     leads_to_node m e =
         let t = led (Some (Node m)) e in (t.in_range, ap (node table) (sym t.number) ∙ node_at_number table (node table n ++ k ∷ []) t.is_node ∙ taken)
 
-  -- a node is no sequence
+  -- a node is not a sequence
   pub node_alone : (n : ℕ) → n < length (nodes table) → node table n ≡ s → is_sequence table s ≡ false
   node_alone n within at = elim (cases_Bool (is_sequence table s)) [
     | inl f ↦ absurd (

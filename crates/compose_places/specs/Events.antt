@@ -1,4 +1,4 @@
--- The events of a definition as its line writes them.
+-- The events of a definition as written on its line.
 use Rattle.std.specs.Prelude.{ℕ, zero, suc, if◌then◌else◌, List, slice_get, Option, Some, None, Result, Ok}
 use Rattle.std.specs.Option.{option_and_then}
 use Rattle.std.specs.Str.{is_utf8}
@@ -22,7 +22,7 @@ abbrev pub events_of : Result Reading LexFault → Option (List (List ℕ))
 events_of (Ok (production events raw name)) = Some events
 events_of _ = None
 
--- the names of the events of a line that is a text and reads as a production
+-- the names of the events of a line that is UTF-8 and a production
 abbrev pub line_events : List ℕ → Option (List (List ℕ))
 line_events bytes = if is_utf8 bytes then events_of (reading_of bytes) else None
 

@@ -1,4 +1,4 @@
--- Where the definitions of a table stand.
+-- The places of the definitions of a table.
 use Rattle.std.specs.Prelude.{ℕ, Bool, true, false, ◌&&◌, nat_lt, if◌then◌else◌, List, [], length, map, filter, take, Result, Ok}
 use Rattle.std.specs.Str.{is_utf8}
 use Rattle.compose_lex.specs.Line.{Reading, production}
@@ -12,7 +12,7 @@ abbrev pub is_production : Result Reading LexFault → Bool
 is_production (Ok (production events raw name)) = true
 is_production _ = false
 
--- the line is a definition, or would be if its names were known and its text right
+-- the line is a definition, or would be if its names were known and its text valid
 abbrev pub says_definition : List ℕ → Bool
 says_definition bytes = is_utf8 bytes && is_production (reading_of bytes)
 
@@ -21,7 +21,7 @@ abbrev pub definition_lines : List Source → List ℕ → List Visit
 definition_lines sources root =
     if nat_lt (source_named sources root) (length sources) then filter (λ v. says_definition v.bytes) (take max_lines (visits sources (source_named sources root))) else []
 
--- where a line stands
+-- the place of a line
 abbrev pub place_of : Visit → DefinitionPlace
 place_of v = record { source = v.source; line = v.line }
 

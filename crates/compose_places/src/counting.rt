@@ -1,4 +1,4 @@
-//! The line of each sequence of a table that counts, and its keys as it writes them.
+//! For each sequence of a table, the line that counts, and its keys as written there.
 ghost use Rattle.std.specs.Prelude.{◌≡◌, ◌≤◌, ◌++◌, ℕ, List, not, None, Some, map, length, filter, take, replicate, slice_get, true, false, MatchOption, IfOk};
 ghost use Rattle.std.specs.Option.{option_map};
 ghost use Rattle.keysym_core.specs.Names.{KeysymNames};
@@ -25,7 +25,7 @@ use std::marker::Model;
 /// The keysyms of a definition.
 type Sequence = ArrayVec<Keysym, 32>;
 
-/// The line that counts for a sequence.
+/// The line that counts for a sequence: the last one that defines it.
 #[derive(Drop)]
 pub struct CountingLine<'a> {
     place: DefinitionPlace,
@@ -45,14 +45,14 @@ impl<'a> Model for CountingLine<'a> {
 impl<'a> CountingLine<'a> {
     ghost use Rattle.std.specs.Prelude.{◌≡◌, map};
 
-    /// Where it stands. O(1).
+    /// Returns the place of the line. O(1).
     pub fn place(&self) -> DefinitionPlace
         ensures { result ≡ self.now.place }
     {
         self.place
     }
 
-    /// The names of its keys, as it writes them. O(bytes of the line).
+    /// Returns the names of its keys, as written between `<` and `>`. O(bytes of the line).
     pub fn keys(&self) -> Events<'a>
         ensures { map (λ key. key.now) result.items ≡ self.now.keys }
     {
@@ -63,8 +63,9 @@ impl<'a> CountingLine<'a> {
     }
 }
 
-/// The lines that begin as definitions do among those that are read from the root, of which 1,000,000 are read at most. Where a table is read
-/// without a fault, these are the lines of its definitions. It asks for room for `capacity` lines at once. O(bytes of the lines that are read).
+/// Returns the lines that begin like definitions, among the first 1,000,000 lines that are read
+/// from the root. If a table is read without a fault, these are the lines of its definitions. It
+/// asks for room for `capacity` lines at once. O(bytes of the lines that are read).
 pub(crate) fn begun_lines<'a>(
     alloc: Global,
     capacity: usize,
@@ -80,7 +81,8 @@ pub(crate) fn begun_lines<'a>(
     }
 }
 
-/// Those of these lines that begin as definitions do, of which 1,000,000 are read at most. It asks for room for `capacity` lines at once.
+/// Returns the lines that begin like definitions, among the first 1,000,000 of these. It asks for
+/// room for `capacity` lines at once.
 fn begun_in<'a>(
     alloc: Global,
     capacity: usize,
@@ -112,15 +114,16 @@ fn begun_in<'a>(
     Ok(begun)
 }
 
-/// Whether the line begins as a definition does. O(blanks).
+/// Whether the line begins like a definition. O(blanks).
 fn begins_definition(line: &[u8]) -> bool
     ensures { result ≡ words.begins_definition line.now }
 {
     line[blank_len(line)..].starts_with(b"<")
 }
 
-/// For each leaf of the table, by its number, the line that counts: the last one of these that define these sequences. Those that the table doesn't
-/// have are put behind the others. O(keysyms × log edges of a node).
+/// Returns for each leaf of the table, by its number, the line that counts. The line with index i
+/// defines the sequence with index i, and the last line of a leaf's sequence counts. The sequences
+/// that the table doesn't have are appended to `others`. O(keysyms × log edges of a node).
 pub(crate) fn last_lines<'a, 's, T: ComposeTable>(
     alloc: Global,
     lines: &[CountingLine<'a>],
@@ -150,7 +153,7 @@ pub(crate) fn last_lines<'a, 's, T: ComposeTable>(
     Ok(kept)
 }
 
-/// The line at this index, if there is one.
+/// Returns the line at this index, if there is one.
 fn line_at<'a>(lines: &[CountingLine<'a>], index: usize) -> Option<CountingLine<'a>>
     ensures { result ≡ slice_get lines.now index }
 {
@@ -161,7 +164,7 @@ fn line_at<'a>(lines: &[CountingLine<'a>], index: usize) -> Option<CountingLine<
     })
 }
 
-/// No line for each of so many leaves.
+/// Returns `None` for each of this number of leaves.
 fn no_lines<'a>(alloc: Global, leaves: u32) -> Result<Vec<Option<CountingLine<'a>>>, AllocError>
     ensures { IfOk result (λ kept. kept.items ≡ replicate leaves None) }
 {
@@ -172,7 +175,8 @@ fn no_lines<'a>(alloc: Global, leaves: u32) -> Result<Vec<Option<CountingLine<'a
     Ok(kept)
 }
 
-/// The leaf to which the keys of these names lead, if each name has a keysym and the table has their sequence. O(keys × log edges of a node).
+/// Returns the leaf to which the keys of these names lead, if each name has a keysym and the table
+/// has their sequence. O(keys × log edges of a node).
 pub fn leaf_named<T: ComposeTable>(names: &Names, table: &T, keys: &[&str]) -> Option<LeafId>
     requires few { length keys.now ≤ 32 }
     ensures { MatchOption result
@@ -189,7 +193,7 @@ pub fn leaf_named<T: ComposeTable>(names: &Names, table: &T, keys: &[&str]) -> O
     leaf_of(table, sequence.as_slice())
 }
 
-/// The keysyms of these names, if each has one.
+/// Returns the keysyms of these names, if each has one.
 fn sequence_named(names: &Names, keys: &[&str]) -> Option<Sequence>
     requires { length keys.now ≤ 32 }
     ensures { option_map (λ sequence. sequence.items) result

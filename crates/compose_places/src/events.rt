@@ -1,4 +1,4 @@
-//! The events of a definition as its line writes them.
+//! The events of a definition as written on its line.
 ghost use Rattle.std.specs.Prelude.{◌≡◌, map, slice_get, option_copied};
 ghost use Rattle.std.specs.Option.{option_map};
 ghost use Rattle.compose_text.specs.Lines.{lines_of};
@@ -14,8 +14,9 @@ use compose_text::first_line;
 /// The names of a definition's events.
 pub type Events<'a> = ArrayVec<&'a str, 32>;
 
-/// The names of the events of the definition at this place, as its line writes them between `<` and `>`; none where no such line is there, or it
-/// reads as no production. O(bytes of the source up to the end of the line).
+/// Returns the names of the events of the definition at this place, as written between `<` and `>`,
+/// or `None` if there is no such line, or it is not a production. O(bytes of the source up to the
+/// end of the line).
 pub fn written_events<'a>(sources: &'a Sources, place: DefinitionPlace) -> Option<Events<'a>>
     ensures { option_map (λ events. map (λ e. e.now) events.items) result
         ≡ written_events sources.now place }
@@ -23,7 +24,7 @@ pub fn written_events<'a>(sources: &'a Sources, place: DefinitionPlace) -> Optio
     line_events(line_at(sources, place)?)
 }
 
-/// The names of the events of a line that reads as a production.
+/// Returns the names of the events of a line, if it is a production.
 pub(crate) fn line_events(line: &[u8]) -> Option<Events<'_>>
     ensures { option_map (λ events. map (λ e. e.now) events.items) result ≡ line_events line.now }
 {
@@ -37,7 +38,7 @@ pub(crate) fn line_events(line: &[u8]) -> Option<Events<'_>>
     }
 }
 
-/// The line at this place, if there is one.
+/// Returns the line at this place, if there is one.
 fn line_at(sources: &Sources, place: DefinitionPlace) -> Option<&[u8]>
     ensures { option_copied result ≡ line_at sources.now place }
 {
@@ -48,7 +49,7 @@ fn line_at(sources: &Sources, place: DefinitionPlace) -> Option<&[u8]>
     nth_line(without_mark(sources.bytes(place.source)), index)
 }
 
-/// The line at this index, from 0, if there is one.
+/// Returns the line at this index, counted from 0, if there is one.
 fn nth_line(bytes: &[u8], index: usize) -> Option<&[u8]>
     ensures { option_copied result ≡ slice_get (lines_of bytes.now) index }
 {
@@ -63,7 +64,7 @@ fn nth_line(bytes: &[u8], index: usize) -> Option<&[u8]>
     Some(line)
 }
 
-/// The bytes without a UTF-8 byte order mark at their beginning.
+/// Returns the bytes without a UTF-8 byte order mark at their start.
 fn without_mark(bytes: &[u8]) -> &[u8]
     ensures { result.now ≡ without_mark bytes.now }
 {

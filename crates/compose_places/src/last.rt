@@ -11,8 +11,10 @@ use compose_tree::{ComposeTable, LeafId, NodeId, Target};
 use keysym_core::Keysym;
 use std::alloc::{AllocError, Global};
 
-/// For each leaf of the table, by its number, the index of the last definition with its sequence, which is the one that counts; none where no
-/// definition has it. O(keysyms of all definitions × log edges of a node) time, and memory for the leaves.
+/// Returns for each leaf of the table, by its number, the index of the last definition with its
+/// sequence, which is the one that counts, or `None` if no definition has it. `Err(AllocError)` if
+/// memory runs out. O(keysyms of all definitions × log edges of a node) time, and memory for the
+/// leaves.
 pub fn last_definitions<T: ComposeTable>(
     alloc: Global,
     definitions: &Definitions,
@@ -32,7 +34,7 @@ pub fn last_definitions<T: ComposeTable>(
     Ok(last)
 }
 
-/// No definition for each of so many leaves.
+/// Returns `None` for each of this number of leaves.
 fn no_definitions(alloc: Global, leaves: u32) -> Result<Vec<Option<u32>>, AllocError>
     ensures { IfOk result (λ last. last.items ≡ replicate leaves None) }
 {
@@ -43,7 +45,7 @@ fn no_definitions(alloc: Global, leaves: u32) -> Result<Vec<Option<u32>>, AllocE
     Ok(last)
 }
 
-/// The leaf with this sequence, if the table has it. O(keysyms × log edges of a node).
+/// Returns the leaf with this sequence, if the table has it. O(keysyms × log edges of a node).
 pub(crate) fn leaf_of<T: ComposeTable>(table: &T, sequence: &[Keysym]) -> Option<LeafId>
     requires { IsSettled (T.definitions table.now) }
     ensures { MatchOption result (is_sequence (T.definitions table.now) sequence.now ≡ false)

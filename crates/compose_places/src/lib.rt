@@ -1,13 +1,16 @@
-//! Where the definitions of a table stand: of each its source and line, the one of each sequence that counts, and its events as they are written.
+//! The places of the definitions of a table (source and line), the definition of each sequence that
+//! counts, and its events as they are written.
 //!
-//! [`definition_places`] tells where the definitions stand that [`read_definitions`](compose_read::read_definitions) gives, in the same order.
-//! [`last_definitions`] tells for each leaf of a table which definition counts, and [`written_events`] the names of a definition's events,
-//! as its line writes them. [`read_placed_table`] reads a table and tells for each of its leaves the line that counts.
+//! [`definition_places`] returns the places of the definitions that
+//! [`read_definitions`](compose_read::read_definitions) returns, in the same order.
+//! [`last_definitions`] returns for each leaf of a table the definition that counts, and
+//! [`written_events`] the names of a definition's events, as they are written on its line.
+//! [`read_placed_table`] reads a table, and finds for each of its leaves the line that counts.
 //!
 //! ```text
 //! main  1  include "%L"
-//! main  2  <Multi_key> <e> : "x"      # stands at main:2, and counts for its sequence: it is read last
-//! %L    1  <Multi_key> <e> : "é"      # stands at %L:1
+//! main  2  <Multi_key> <e> : "x"      # its place is main:2; read last, it counts for its sequence
+//! %L    1  <Multi_key> <e> : "é"      # its place is %L:1
 //! ```
 #![tactic(auto)]
 
@@ -38,8 +41,8 @@ pub use last::last_definitions;
 pub use placed::{PlacedTable, read_placed_table};
 pub use places::{DefinitionPlace, definition_places};
 
-/// Where a table is read without a fault, there are as many places as definitions, and the line of each place gives the definition of the
-/// same index.
+/// If a table is read without a fault, it has as many places as definitions, and the line of each
+/// place yields the definition of the same index.
 pub fn law_places()
     ensures lines { (names : KeysymNames) (sources : List Source) (root : List ℕ)
         (table : List Definition) → definitions_of names sources root ≡ Ok table
@@ -50,8 +53,8 @@ pub fn law_places()
         → length (definition_places sources root) ≡ length table }
 {}
 
-/// Where a table is read without a fault, events are written at the place of each definition, and what their names mean is the sequence of the
-/// definition of the same index.
+/// If a table is read without a fault, events are written at the place of each definition, and what
+/// their names mean is the sequence of the definition of the same index.
 pub fn law_events()
     ensures { (names : KeysymNames) (sources : List Source) (root : List ℕ)
         (table : List Definition) → definitions_of names sources root ≡ Ok table
@@ -60,7 +63,8 @@ pub fn law_events()
         ≡ map (λ d. Some (map Some d.sequence)) table }
 {}
 
-/// In a table that is read from sources each sequence has a line that counts, and the keys that this line writes are the sequence.
+/// In a table that is read from sources, each sequence has a line that counts, and the keys written
+/// on that line are the sequence.
 pub fn law_lines()
     ensures { (names : KeysymNames) (sources : List Source) (root : List ℕ) (rule : Rule)
         (table : List Definition) → table_of names sources root rule ≡ Ok table

@@ -1,11 +1,11 @@
-//! How many sequences are left out of a table.
+//! The number of sequences that are left out of a table.
 ghost use Rattle.std.specs.Prelude.{◌≡◌, length, map, IfOk};
 ghost use Rattle.compose_model.specs.Nodes.{rising_lists};
 
 use keysym_core::Keysym;
 use std::alloc::AllocError;
 
-/// How many sequences these are, each counted once. O(n log n) comparisons of sequences.
+/// Returns the number of distinct sequences. O(n log n) comparisons of sequences.
 pub(crate) fn count_distinct(mut sequences: Vec<&[Keysym]>) -> Result<usize, AllocError>
     ensures { IfOk result
         (λ count. count

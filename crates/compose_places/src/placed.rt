@@ -1,4 +1,4 @@
-//! A table, and the line of each of its sequences that counts.
+//! A table, and the line that counts for each of its sequences.
 ghost use Rattle.std.specs.Prelude.{◌≡◌, map, IfOk};
 ghost use Rattle.compose_model.specs.Nodes.{leaves};
 ghost use Rattle.compose_places.specs.Counting.{counting_line, read_lines};
@@ -14,20 +14,24 @@ use compose_tree::{ComposeTable, TableFault};
 use keysym_core::Names;
 use std::alloc::Global;
 
-/// A table, and the line of each of its sequences that counts.
+/// A table, and the line that counts for each of its sequences.
 #[derive(Drop)]
 pub struct PlacedTable<'a, T: ComposeTable> {
     /// The table.
     pub table: T,
-    /// For each leaf, by its number, the line that counts for its sequence: of the lines that are read from the root the last one that
-    /// defines it.
+    /// For each leaf, by its number, the line that counts for its sequence: the last one that
+    /// defines it, of the lines that are read from the root.
     pub lines: Vec<Option<CountingLine<'a>>>,
-    /// How many sequences are defined with which longer ones begin, each once. With `Rule::Longest` the table has none of them.
+    /// The number of distinct sequences that are defined, but are prefixes of longer ones. With
+    /// `Rule::Longest` the table has none of them.
     pub overlaps: usize,
 }
 
-/// The table that is read from the root by the rule, as by `read_table`, and the line of each of its sequences that counts. No line is lexed
-/// a second time. At the cost of `read_table`, with O(bytes of the lines that are read + keysyms of all definitions × log edges of a node) more.
+/// Reads the table from the root by the rule, as `read_table` does, and finds the line that counts
+/// for each of its sequences. No line is lexed a second time. It costs what `read_table` does, and
+/// O(bytes of the lines that are read + keysyms of all definitions × log edges of a node).
+///
+/// Errors: those of `read_table`, for the same inputs; `NoMemory` if memory runs out.
 pub fn read_placed_table<'a, T: ComposeTable>(
     alloc: Global,
     names: &Names,

@@ -1,4 +1,4 @@
-//! Where the definitions of a table stand.
+//! The places of the definitions of a table.
 ghost use Rattle.std.specs.Prelude.{◌≡◌, map, filter, take, IfOk};
 ghost use Rattle.compose_read.specs.Read.{max_lines};
 ghost use Rattle.compose_places.specs.Places.{says_definition, place_of, definition_places};
@@ -8,21 +8,22 @@ use compose_lex::{Said, lex_line_into};
 use compose_read::{Sources, Visits};
 use std::alloc::{AllocError, Global};
 
-/// The most lines that are read, included ones each time.
+/// The greatest number of lines that are read; an included line counts each time.
 pub(crate) const MAX_LINES: usize = 1_000_000;
 
-/// Where a definition stands.
+/// The place of a definition.
 #[derive(Clone, Copy, Debug, PartialEq, Eq)]
 pub struct DefinitionPlace {
-    /// The place of its source among the sources, from 0.
+    /// The index of its source among the sources, counted from 0.
     pub source: usize,
-    /// The number of its line in that source, from 1.
+    /// The number of its line in that source, counted from 1.
     pub line: usize,
 }
 
-/// Where the definitions stand that are read from the root, in reading order: each line that reads as a production has one, whatever its names
-/// are. There are none where no source has the root's name, and those after the first 1,000,000 lines are left out. O(bytes of the lines that
-/// are visited) time, and memory for the places alone.
+/// Returns the places of the definitions that are read from the root, in reading order. Each line
+/// that is a production has one, whatever its names are. There are none if no source has the root's
+/// name, and those after the first 1,000,000 lines are left out. `Err(AllocError)` if memory runs
+/// out. O(bytes of the lines that are visited) time, and memory for the places alone.
 pub fn definition_places(
     alloc: Global,
     sources: &Sources,
@@ -36,7 +37,7 @@ pub fn definition_places(
     }
 }
 
-/// Where the definitions among these lines stand, of which 1,000,000 are read at most.
+/// Returns the places of the definitions among the first 1,000,000 of these lines.
 fn places_in(alloc: Global, mut visits: Visits<'_>) -> Result<Vec<DefinitionPlace>, AllocError>
     ensures { IfOk result
         (λ places. places.items
@@ -59,7 +60,8 @@ fn places_in(alloc: Global, mut visits: Visits<'_>) -> Result<Vec<DefinitionPlac
     Ok(places)
 }
 
-/// Whether the line is a definition, or would be if its names were known and its text right. O(bytes).
+/// Whether the line is a definition, or would be if its names were known and its text valid.
+/// O(bytes).
 fn says_definition(bytes: &[u8]) -> bool
     ensures { result ≡ says_definition bytes.now }
 {

@@ -1,4 +1,4 @@
-//! Sequences one behind another in one array.
+//! Sequences, stored one after another in one array.
 ghost use Rattle.std.specs.Prelude.{◌≡◌, IfOk, map};
 
 use compose_read::Definitions;
@@ -6,7 +6,7 @@ use keysym_core::Keysym;
 use std::alloc::{AllocError, Global};
 use std::marker::Model;
 
-/// Where the keysyms of a sequence stand.
+/// The place of a sequence's keysyms in the array.
 #[derive(Clone, Copy)]
 pub(crate) struct KeysymSpan {
     pub(crate) first: usize,
@@ -34,7 +34,7 @@ impl Model for SequenceList {
 impl SequenceList {
     ghost use Rattle.std.specs.Prelude.{◌≡◌, ◌<◌, ◌++◌, [], ◌∷◌, length, Some, slice_get, IfOk, OnOk};
 
-    /// No sequences, and room for so many.
+    /// Makes an empty list with room for this number of sequences.
     fn with_capacity(alloc: Global, capacity: usize) -> Result<SequenceList, AllocError>
         ensures { IfOk result (λ list. list ≡ []) }
     {
@@ -44,14 +44,14 @@ impl SequenceList {
         })
     }
 
-    /// How many sequences there are. O(1).
+    /// Returns the number of sequences. O(1).
     pub(crate) fn len(&self) -> usize
         ensures { result ≡ length self.now }
     {
         self.spans.len()
     }
 
-    /// The sequence at this index. O(1).
+    /// Returns the sequence at this index. O(1).
     pub(crate) fn sequence(&self, index: usize) -> &[Keysym]
         requires { index < length self.now }
         ensures { slice_get self.now index ≡ Some result.now }
@@ -60,7 +60,7 @@ impl SequenceList {
         &self.keysyms[span.first..][..span.count]
     }
 
-    /// Puts a sequence behind the others. O(keysyms).
+    /// Appends a sequence. O(keysyms).
     fn push(&mut self, sequence: &[Keysym]) -> Result<(), AllocError>
         ensures { OnOk result (self.new ≡ self.old ++ sequence.now ∷ []) }
     {
@@ -74,7 +74,7 @@ impl SequenceList {
     }
 }
 
-/// The sequences of definitions. O(keysyms).
+/// Collects the sequences of definitions. O(keysyms).
 pub(crate) fn sequences_of(
     alloc: Global,
     definitions: &Definitions,

@@ -1,4 +1,5 @@
--- In which form it is said why what a command was given can't be read, or is refused (this project's profile).
+-- The form in which a run prints why its input can't be read or is refused (defined by this
+-- project).
 use Rattle.std.specs.Prelude.{Bool, true, false, if◌then◌else◌}
 use Rattle.compose_arguments.specs.declared.diff_arguments.DiffForm.{DiffForm}
 use Rattle.compose_arguments.specs.declared.diff_arguments.DiffForm.TheVariants.{Json}
@@ -18,7 +19,7 @@ use Rattle.compose_report.specs.declared.outcome.Outcome.{Outcome}
 use Rattle.compose_program.specs.declared.faults.FaultForm.{FaultForm}
 use Rattle.compose_program.specs.declared.faults.FaultForm.TheVariants.{Line, Details, Words}
 
--- ---- an answer in JSON
+-- ---- answers in JSON
 
 abbrev pub is_json_form : DiffForm → Bool
 is_json_form Json = true
@@ -35,7 +36,7 @@ abbrev pub is_json : Request → Bool
 is_json (Answer question) = is_json_answer question
 is_json _ = false
 
--- ---- Compose files, and no manifests
+-- ---- Compose files instead of manifests
 
 abbrev pub is_file : TypeTable → Bool
 is_file (OneManifest path) = false
@@ -65,11 +66,12 @@ is_of_files (Session arguments) = arguments.files
 
 -- ---- the form
 
--- details where the answer is in JSON, words where the command is given Compose files, and else the line, with the details where more is asked for
+-- details if the answer is in JSON, words if the command is given Compose files, and otherwise the
+-- line, with the details if `verbose`
 abbrev pub fault_form : Bool → Request → FaultForm
 fault_form verbose request = if is_json request then Details else if is_of_files request then Words else if verbose then Details else Line
 
--- the outcome of a run whose input can't be read, in this form
+-- the outcome of a run whose input can't be read or is refused, in this form
 abbrev pub IsFaultInForm : FaultForm → Fault → Outcome → Type 0
 IsFaultInForm Line fault outcome = IsFaultOutcome false fault outcome
 IsFaultInForm Details fault outcome = IsFaultOutcome true fault outcome

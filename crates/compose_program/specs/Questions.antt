@@ -1,4 +1,5 @@
--- What each command that reads files answers to its question, and why it can't (this project's profile).
+-- The answer of each command that reads files to its question, and why it has none (defined by this
+-- project).
 use Rattle.std.specs.Prelude.{◌≡◌, ℕ, Bool, List, map, Option}
 use Rattle.std.proofs.Common.{Bor}
 use Rattle.std.specs.Option.{option_map}
@@ -26,14 +27,14 @@ use Rattle.compose_runs.specs.declared.environment.Environment.{Environment}
 use Rattle.compose_runs.specs.declared.making.MakeOptions.{MakeOptions}
 use Rattle.compose_runs.specs.declared.options.Options.{Options}
 
--- what is lent by a list of words, and the names in the arguments of each `--names`
+-- the values of borrowed words, and those of the arguments of each `--names`
 abbrev pub words : List (Bor (List ℕ)) → List (List ℕ)
 words lent = map (λ word. word.now) lent
 
 abbrev pub names_of : Options → List (List ℕ)
 names_of options = words options.names.now
 
--- ---- on manifests or Compose files
+-- ---- manifests or Compose files
 
 abbrev pub AnswersType : Option (List Entry) → Environment → Options → TypeTable → List (List ℕ) → Outcome → Type 0
 AnswersType folder environment options (OneManifest path) keys outcome = IsTypeRun folder options path.now keys outcome
@@ -71,7 +72,7 @@ FailsToMake folder environment options (Files pair) repertoire fault = FailsMake
 
 -- ---- every question
 
--- the outcome of the command that is asked this
+-- the outcome of the command with this question
 abbrev pub Answers : Option (List Entry) → Environment → Options → Question → Outcome → Type 0
 Answers folder environment options (Keys table keys) outcome = AnswersType folder environment options table (words keys.items) outcome
 Answers folder environment options (Check tables fresh repertoire certificate) outcome =
@@ -86,7 +87,7 @@ Answers folder environment options (Make tables fresh all repertoire output) out
     × AnswersMake folder environment options tables making outcome
 Answers folder environment options (Manifest arguments) outcome = IsManifestRun folder environment arguments outcome
 
--- the first thing that it was given which can't be read, or is refused; or memory was refused
+-- the first input that can't be read or is refused; or memory runs out
 abbrev pub Fails : Option (List Entry) → Environment → Options → Question → Fault → Type 0
 Fails folder environment options (Keys table keys) fault = FailsToType folder environment options table (words keys.items) fault
 Fails folder environment options (Check tables fresh repertoire certificate) fault =

@@ -1,4 +1,4 @@
--- A run of a command that reads files and answers (this project's profile).
+-- A run of a command that reads files and answers (defined by this project).
 use Rattle.std.specs.Prelude.{◌⊎◌, List, Option}
 use Rattle.compose_arguments.specs.declared.question.Question.{Question}
 use Rattle.compose_folder.specs.Content.{Entry}
@@ -10,7 +10,7 @@ use Rattle.compose_program.specs.Faults.{IsFaultInForm}
 use Rattle.compose_program.specs.Questions.{Answers, Fails}
 use Rattle.compose_program.specs.declared.faults.FaultForm.{FaultForm}
 
--- the outcome of the command; or why what it was given can't be read, or is refused, in this form
+-- the outcome of the command; or, in this form, why its input can't be read or is refused
 abbrev pub IsRun : Option (List Entry) → Environment → Options → FaultForm → Question → Outcome → Type 0
 IsRun folder environment options form question outcome =
     Answers folder environment options question outcome ⊎ ((fault : Fault) × Fails folder environment options question fault × IsFaultInForm form fault outcome)

@@ -1,4 +1,4 @@
-//! A run of a command that reads files and answers, to what it prints and how it ends.
+//! The run of a command that reads files and answers.
 ghost use Rattle.std.specs.Prelude.{◌≡◌, map, IfOk};
 ghost use Rattle.compose_program.specs.Runs.{IsRun};
 
@@ -11,10 +11,10 @@ use compose_runs::{Environment, Options};
 use compose_tree::ComposeTable;
 use std::alloc::{AllocError, Global};
 
-/// What a command prints that reads files and answers, and how its run ends: from the question, the
-/// environment and what the files hold. Why what it was given can't be read, or is refused, is said
-/// in this form. An error is that memory was refused for saying so. At the cost of the command over
-/// its files.
+/// Runs a command that reads files and answers: returns what it prints and how its run ends, from
+/// the question, the environment and the contents of the files. If the input can't be read or is
+/// refused, the outcome says why in this form. Takes the time of the command on its files.
+/// Errors: `AllocError` if memory runs out for this message.
 pub fn run_question<T: ComposeTable, F: Folder>(
     alloc: Global,
     files: &mut ReadOnce<F>,

@@ -1,4 +1,4 @@
-//! In which form it is said why what a command was given can't be read, or is refused.
+//! The form in which a run prints why its input can't be read or is refused.
 ghost use Rattle.std.specs.Prelude.{◌≡◌, IfOk};
 ghost use Rattle.compose_program.specs.Faults as said;
 ghost use Rattle.compose_program.specs.Faults.{IsFaultInForm};
@@ -8,19 +8,20 @@ use compose_input::Fault;
 use compose_report::{Outcome, fault_outcome, fault_worded};
 use std::alloc::{AllocError, Global};
 
-/// The form in which it is said why what a command was given can't be read, or is refused.
+/// The form in which a run prints why its input can't be read or is refused.
 #[derive(Clone, Copy, Debug, PartialEq, Eq, Drop)]
 pub enum FaultForm {
     /// The line of the refusal.
     Line,
-    /// This line, and below it where the fault is, and why.
+    /// This line, followed by the place of the fault and the reason.
     Details,
-    /// For people: where the fault is, and why, and the line only where nothing more is to be said.
+    /// For people: the place of the fault and the reason, and the line only if there is nothing
+    /// more.
     Words,
 }
 
-/// The form for this request: details where the answer is in JSON, words where the command is given Compose files, and else the line,
-/// with the details where more is asked for. O(1).
+/// Returns the form for this request: details if the answer is in JSON, words if the command is
+/// given Compose files, and otherwise the line, with the details if `verbose`. O(1).
 pub fn fault_form(verbose: bool, request: &Request<'_>) -> FaultForm
     ensures { result ≡ said.fault_form verbose request.now }
 {
@@ -37,7 +38,9 @@ pub fn fault_form(verbose: bool, request: &Request<'_>) -> FaultForm
     }
 }
 
-/// The outcome of a run whose input can't be read, or is refused, in this form. O(bytes of a refused manifest).
+/// Returns the outcome of a run whose input can't be read or is refused, in this form. O(bytes of a
+/// refused manifest).
+/// Errors: `AllocError` if memory runs out.
 pub fn fault_in_form(alloc: Global, form: FaultForm, fault: &Fault) -> Result<Outcome, AllocError>
     ensures { IfOk result (λ outcome. IsFaultInForm form fault.now outcome) }
 {
@@ -48,7 +51,7 @@ pub fn fault_in_form(alloc: Global, form: FaultForm, fault: &Fault) -> Result<Ou
     }
 }
 
-/// Whether the answer is asked for in JSON.
+/// Returns whether the answer is to be in JSON.
 fn is_json(request: &Request<'_>) -> bool
     ensures { result ≡ said.is_json request.now }
 {
@@ -60,7 +63,7 @@ fn is_json(request: &Request<'_>) -> bool
     }
 }
 
-/// Whether the answer to this question is asked for in JSON.
+/// Returns whether the answer to this question is to be in JSON.
 fn is_json_answer(question: &Question<'_>) -> bool
     ensures { result ≡ said.is_json_answer question.now }
 {
@@ -77,7 +80,7 @@ fn is_json_answer(question: &Question<'_>) -> bool
     }
 }
 
-/// Whether this form of `diff` is JSON.
+/// Returns whether this form of `diff` is JSON.
 fn is_json_form(form: DiffForm) -> bool
     ensures { result ≡ said.is_json_form form }
 {
@@ -87,7 +90,7 @@ fn is_json_form(form: DiffForm) -> bool
     }
 }
 
-/// Whether the command is given Compose files, and no manifests.
+/// Returns whether the command is given Compose files instead of manifests.
 fn is_of_files(request: &Request<'_>) -> bool
     ensures { result ≡ said.is_of_files request.now }
 {
@@ -100,7 +103,7 @@ fn is_of_files(request: &Request<'_>) -> bool
     }
 }
 
-/// Whether a Compose file is served.
+/// Returns whether a Compose file is served.
 fn is_served_file(served: &Served<'_>) -> bool
     ensures { result ≡ said.is_served_file served.now }
 {
@@ -110,7 +113,7 @@ fn is_served_file(served: &Served<'_>) -> bool
     }
 }
 
-/// Whether this question is about Compose files.
+/// Returns whether this question is about Compose files.
 fn is_answer_on_files(question: &Question<'_>) -> bool
     ensures { result ≡ said.is_answer_on_files question.now }
 {
@@ -127,7 +130,7 @@ fn is_answer_on_files(question: &Question<'_>) -> bool
     }
 }
 
-/// Whether a table is given as its Compose file.
+/// Returns whether a table is given as its Compose file.
 fn is_file(table: &TypeTable<'_>) -> bool
     ensures { result ≡ said.is_file table.now }
 {
@@ -137,7 +140,7 @@ fn is_file(table: &TypeTable<'_>) -> bool
     }
 }
 
-/// Whether two tables are given as their Compose files.
+/// Returns whether two tables are given as their Compose files.
 fn are_files(tables: &BothTables<'_>) -> bool
     ensures { result ≡ said.are_files tables.now }
 {

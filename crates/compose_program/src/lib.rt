@@ -1,5 +1,5 @@
-//! The commands that read files and answer, as one function: from what is asked, what the environment
-//! says and what the files hold to what is printed and how the run ends. Nothing is printed here, and
+//! The commands that read files and answer, as one function: from the question, the environment and
+//! the contents of the files to what is printed and how the run ends. Nothing is printed here, and
 //! files are read through a [`ReadOnce`](compose_folder::ReadOnce) alone.
 //!
 //! ```text

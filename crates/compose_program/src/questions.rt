@@ -16,7 +16,8 @@ use compose_runs::{
 use compose_tree::ComposeTable;
 use std::alloc::Global;
 
-/// The outcome of the command that is asked this, or why what it was given can't be read, or is refused.
+/// Returns the outcome of the command with this question, or why its input can't be read or is
+/// refused.
 pub(crate) fn answer<T: ComposeTable, F: Folder>(
     alloc: Global,
     files: &mut ReadOnce<F>,
@@ -81,7 +82,7 @@ pub(crate) fn answer<T: ComposeTable, F: Folder>(
     }
 }
 
-/// The outcome of `type` on a manifest or a Compose file.
+/// Returns the outcome of `type` on a manifest or a Compose file.
 fn run_typing<T: ComposeTable, F: Folder>(
     alloc: Global,
     files: &mut ReadOnce<F>,
@@ -106,7 +107,7 @@ fn run_typing<T: ComposeTable, F: Folder>(
     }
 }
 
-/// The outcome of `check` on manifests or Compose files.
+/// Returns the outcome of `check` on manifests or Compose files.
 fn run_checking<T: ComposeTable, F: Folder>(
     alloc: Global,
     files: &mut ReadOnce<F>,
@@ -139,7 +140,7 @@ fn run_checking<T: ComposeTable, F: Folder>(
     }
 }
 
-/// The outcome of `explain` on manifests or Compose files.
+/// Returns the outcome of `explain` on manifests or Compose files.
 fn run_explaining<T: ComposeTable, F: Folder>(
     alloc: Global,
     files: &mut ReadOnce<F>,
@@ -166,7 +167,7 @@ fn run_explaining<T: ComposeTable, F: Folder>(
     }
 }
 
-/// The outcome of `make` on manifests or Compose files.
+/// Returns the outcome of `make` on manifests or Compose files.
 fn run_making<T: ComposeTable, F: Folder>(
     alloc: Global,
     files: &mut ReadOnce<F>,

@@ -1,4 +1,4 @@
--- A source gives the same again where no fewer levels are left below it.
+-- A source that is included again, with at least as many levels left below it, has the same result again.
 use Rattle.std.proofs.Common.{◌≡◌, ◌≤◌, ◌+◌, ◌-◌, ℕ, zero, suc, List, [], ◌∷◌, ◌++◌, Bool, true, false, cond, not, ◌&&◌, length, refl, sym, ◌∙◌, ap, ap₂, subst, arith, length-append, nat_lt, get_or}
 use Rattle.std.specs.Prelude.{Option, Some, None, Result, Ok, Err, is_ok, flat_map}
 use Rattle.std.specs.Option.{option_map_or}
@@ -24,7 +24,7 @@ use Rattle.compose_read.specs.declared.ReadFault.TheVariants as faults
 
 -- ---- one line
 
--- what is right there is the same here
+-- what has a value there has the same value here
 abbrev Follows : {A : Type 0} → Result A ReadFault → Result A ReadFault → Type 0
 Follows (Ok x) s = s ≡ Ok x
 Follows (Err e) s = Unit {0}
@@ -106,7 +106,7 @@ module _ (names : KeysymNames) (sources : List Source) (v w : Visit) where
     said_again (production events raw name) =
         follows_then (definition_of names v events raw name) (definition_of names w events raw name) (λ d. Ok (Some d)) (λ d. Ok (Some d)) (definition_again events raw name) (λ _. refl)
 
-    -- a line without a fault gives the same again where no more includes lead to it
+    -- a line without a fault has the same result again if no more includes lead to it
     pub line_again : (bytes : List ℕ) → v.bytes ≡ bytes → w.bytes ≡ bytes → is_ok (line_gives names sources v) ≡ true → line_gives names sources w ≡ line_gives names sources v
     line_again bytes a b =
         same_then (line_gives names sources v) (line_gives names sources w)
@@ -121,7 +121,7 @@ module _ (names : KeysymNames) (sources : List Source) (v w : Visit) where
         by_utf8 false = tt
         by_utf8 true = follows_then (at_line v (reading_of bytes)) (at_line w (reading_of bytes)) (said names sources v) (said names sources w) (part_again (reading_of bytes)) said_again
 
--- where no level is left, a line without a fault includes nothing
+-- if no level is left, a line without a fault includes nothing
 none_included : (names : KeysymNames) (sources : List Source) (v : Visit) → v.depth ≡ 8 → is_ok (line_gives names sources v) ≡ true → included sources v.bytes ≡ None
 none_included names sources v deep h = by_utf8 (is_utf8 v.bytes) h
   where
@@ -147,7 +147,7 @@ none_included names sources v deep h = by_utf8 (is_utf8 v.bytes) h
 -- ---- the lines of a source
 
 module _ (names : KeysymNames) (sources : List Source) where
-  -- they have no fault either, give the same, and are as many
+  -- they have no fault either, have the same definitions, and are as many
   pub record IsAgain (vs ws : List Visit) : Type 0 where
     pub faultless : are_faultless names sources ws ≡ true
     pub given : given names sources ws ≡ given names sources vs
@@ -217,7 +217,8 @@ module _ (names : KeysymNames) (sources : List Source) where
   abbrev lines_in : ℕ → List (List ℕ)
   lines_in source = source_lines (get_or sources source (record { name = []; bytes = [] })).bytes
 
-  -- lines of a source without a fault have none, and give the same definitions, where more levels of includes are left
+  -- the lines visited from a source without a fault have none, and the same definitions, if more levels of includes are
+  -- left
   pub source_again : (left other source : ℕ) → left ≤ other → other ≤ 8 → Again (visits_below sources left source) (visits_below sources other source)
   source_again zero other source l m =
       by_lines zero other source (lines_again source 8 (8 - other) (below sources zero) (below sources other) (λ number line. deepest_again other _ _ refl (omega arith) refl) 1 (lines_in source))

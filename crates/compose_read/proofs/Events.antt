@@ -17,7 +17,7 @@ abbrev pub put_prefix : List ℕ → Result (List ℕ) ReadFault → Result (Lis
 put_prefix ks (Ok more) = Ok (ks ++ more)
 put_prefix ks (Err e) = Err e
 
--- the keysyms of the events from this index on, behind these
+-- the keysyms of the events from this index on, after these
 abbrev pub sequence_behind : KeysymNames → Visit → List (Bor (List ℕ)) → List ℕ → ℕ → Result (List ℕ) ReadFault
 sequence_behind names v events ks index = put_prefix ks (sequence_of names v index (drop index (map (λ e. e.now) events)))
 
@@ -35,7 +35,7 @@ at_event events index d l =
     l_mapped : (xs : List (Bor (List ℕ))) → index < length xs → index < length (map (λ (e : Bor (List ℕ)). e.now) xs)
     l_mapped xs l = omega (arith, length-map xs (λ (e : Bor (List ℕ)). e.now))
 
--- an event with a keysym puts it behind the others
+-- the keysym of an event is put after the others
 pub event_taken : (names : KeysymNames) (v : Visit) (events : List (Bor (List ℕ))) (ks : List ℕ) (index : ℕ) (d : Bor (List ℕ)) (k : ℕ) → index < length events
     → event_keysym v index (value names (get_or events index d).now) ≡ Ok k
     → sequence_behind names v events ks index ≡ sequence_behind names v events (ks ++ k ∷ []) (index + 1)
@@ -45,7 +45,7 @@ event_taken names v events ks index d k l f =
     ∙ put_one ks k (sequence_of names v (1 + index) (drop (index + 1) (map (λ e. e.now) events)))
     ∙ (let n : 1 + index ≡ index + 1 = omega arith in ap (λ m. put_prefix (ks ++ k ∷ []) (sequence_of names v m (drop (index + 1) (map (λ e. e.now) events)))) n)
 
--- one without is the fault
+-- an event without a keysym is the fault
 pub event_refused : (names : KeysymNames) (v : Visit) (events : List (Bor (List ℕ))) (ks : List ℕ) (index : ℕ) (d : Bor (List ℕ)) (fault : ReadFault) → index < length events
     → event_keysym v index (value names (get_or events index d).now) ≡ Err fault
     → sequence_behind names v events ks index ≡ Err fault
@@ -53,7 +53,7 @@ event_refused names v events ks index d fault l f =
     ap (λ es. put_prefix ks (sequence_of names v index es)) (at_event events index d l)
     ∙ ap (λ r. put_prefix ks (r >>= (λ k. sequence_of names v (1 + index) (drop (index + 1) (map (λ e. e.now) events)) >>= (λ s. Ok (k ∷ s))))) f
 
--- behind the last event nothing is left
+-- after the last event nothing is left
 pub events_end : (names : KeysymNames) (v : Visit) (events : List (Bor (List ℕ))) (ks : List ℕ) (index : ℕ) → index ≡ length events → sequence_behind names v events ks index ≡ Ok ks
 events_end names v events ks index h =
     ap (λ es. put_prefix ks (sequence_of names v index es)) (drop_of_length-le (map (λ (e : Bor (List ℕ)). e.now) events) (omega (arith, length-map events (λ (e : Bor (List ℕ)). e.now))))
@@ -67,7 +67,7 @@ events_all names v events = none_before (sequence_of names v 0 (map (λ e. e.now
     none_before (Ok s) = refl
     none_before (Err e) = refl
 
--- keysyms that aren't ignored and one more that isn't are keysyms that aren't ignored
+-- keysyms of which none is ignored, and one more that is not ignored
 pub fed_push : (ks : List ℕ) (k : ℕ) → AreFed ks → is_fed k ≡ true → AreFed (ks ++ k ∷ [])
 fed_push [] k a h = and_from (is_fed k) true h refl
 fed_push (j ∷ ks) k a h = let parts = and_parts (is_fed j) (list_all is_fed ks) a in and_from (is_fed j) (list_all is_fed (ks ++ k ∷ [])) parts.0 (fed_push ks k parts.1 h)

@@ -97,7 +97,7 @@ includes_itself : definitions_of few (alone (includes (codes "r"))) (codes "r") 
 unfolding is_utf8 chars encode_utf8
 includes_itself = refl
 
--- the root's definition, and behind it that of the included source
+-- the root's definition, and after it that of the included source
 abbrev two_sources : List Source
 two_sources = source (codes "r") (defines (codes "a") (codes "x") ++ includes (codes "%L") ++ defines (codes "b") (codes "y")) ∷ source (codes "%L") (defines (codes "a") (codes "z")) ∷ []
 

@@ -1,4 +1,4 @@
--- What lines without a fault give, and how reading goes on behind them.
+-- The definitions of lines without a fault, and how reading goes on after them.
 use Rattle.std.proofs.Common.{◌≡◌, ◌≤◌, ◌+◌, ℕ, List, [], ◌∷◌, ◌++◌, Bool, true, false, cond, ◌&&◌, length, refl, sym, ◌∙◌, ap, ap₂, append_assoc, arith, length-append, nat_le}
 use Rattle.std.specs.Prelude.{Option, Some, None, option_to_list, Result, Ok, Err, is_ok}
 use Rattle.std.proofs.lemmas.List.{append-nil}
@@ -44,13 +44,13 @@ module _ (names : KeysymNames) (sources : List Source) where
     by_line false (Ok None) h = by_others None (read_on names sources (1 + lines) (0 + definitions) vs) refl h
     by_line false (Ok (Some d)) h = by_room d (nat_le max_definitions definitions) h
 
-  -- lines that are read to the end have no fault, and what is read is what they give
+  -- lines that are read to the end have no fault, and what is read is their definitions
   pub read_to_end : (vs : List Visit) (lines definitions : ℕ) (table : List Definition) → read_on names sources lines definitions vs ≡ Ok table
       → (are_faultless names sources vs ≡ true) × (table ≡ given names sources vs)
   read_to_end [] lines definitions table h = (refl, sym (ap in_ok h))
   read_to_end (v ∷ vs) lines definitions table h = by_line v vs lines definitions table (λ n m t e. read_to_end vs n m t e) (nat_le max_lines lines) (line_gives names sources v) h
 
-  -- also where others come after them
+  -- also if others come after them
   pub read_through : (vs : List Visit) (p q : Progress) → ((ws : List Visit) → reading_on names sources p (vs ++ ws) ≡ reading_on names sources q ws)
       → (are_faultless names sources vs ≡ true) × (q.draft.table ≡ p.draft.table ++ given names sources vs)
   read_through vs p q h = go (read_on names sources p.lines (length p.draft.table) vs) refl (ap (reading_on names sources p) (sym (append-nil vs)) ∙ h [] ∙ ap Ok (append-nil q.draft.table))
@@ -65,7 +65,7 @@ module _ (names : KeysymNames) (sources : List Source) where
   abbrev at_table : List Visit → ℕ → List Definition → Result (List Definition) ReadFault
   at_table ws lines table = with_prefix table (read_on names sources lines (length table) ws)
 
-  -- where they pass no limit, lines without a fault put what they give behind the others
+  -- lines without a fault that exceed no limit add their definitions after the others
   pub faultless_read : (vs : List Visit) (p : Progress) (after : Drafted) → are_faultless names sources vs ≡ true → p.lines + length vs ≤ 1000000
       → length p.draft.table + length (given names sources vs) ≤ 100000
       → after.table ≡ p.draft.table ++ given names sources vs → (ws : List Visit) → reading_on names sources p (vs ++ ws) ≡ reading_on names sources (read_so_far (p.lines + length vs) after) ws

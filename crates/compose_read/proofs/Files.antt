@@ -35,7 +35,7 @@ module _ (name : List ℕ) where
   none_from None h = refl
   none_from (Some x) h = cc
 
-  -- a name that no source has is no key of the map
+  -- a name that no source has is not a key of the map
   pub absent_key : (files : Files) → position (λ (s : Source). bytes_eq name s.name) (sources_of files) ≡ None → lookup (λ k. bytes_eq name (string_bytes k)) files ≡ None
   absent_key files h =
       let there = some_index (λ k. bytes_eq name (string_bytes k)) files in
@@ -52,7 +52,7 @@ bytes_at files i v h =
     through None e = cc
     through (Some f) e = ap (λ (w : Vec ℕ Global). Some w.items) (same_Some f.1 v e)
 
--- ---- what the map's keys say of the sources
+-- ---- the keys of the map are the names of the sources
 
 all_text : (files : Files) → AllByRecursion (λ (s : Source). IsUtf8 s.name) (sources_of files)
 all_text [] = tt

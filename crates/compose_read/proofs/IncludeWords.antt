@@ -1,4 +1,4 @@
--- A line that does not begin with the word `include` is no include.
+-- A line that does not begin with the word `include` is not an include.
 use Rattle.std.proofs.Common.{◌≡◌, ℕ, List, [], ◌∷◌, Bool, true, false, cond, ◌&&◌, not, length, drop, nat_eq, refl, sym}
 use Rattle.std.specs.Prelude.{◌==◌, Option, None, Result, Ok, Err, codes}
 use Rattle.std.specs.List.{starts_with}
@@ -11,7 +11,7 @@ use Rattle.compose_lex.specs.declared.LexFault.{LexFault}
 use Rattle.compose_read.specs.Visits.{said_include, raw_include}
 
 module _ (n : ℕ) (rest : List ℕ) where
-  -- a production is no include
+  -- a production is not an include
   production_is_other : said_include (production_at n rest) ≡ None
   production_is_other = by_first (event_at n rest)
     where
@@ -48,7 +48,7 @@ by_rest n (b ∷ rest) h = by_tests (b == 35) (starts_with nat_eq (b ∷ rest) (
     by_tests false false ends true h = production_is_other n rest
     by_tests false false ends false h = refl
 
--- a line that doesn't begin with `include` behind its blanks includes nothing
+-- a line that does not begin with `include` after its blanks includes nothing
 pub no_include : (line : List ℕ) → starts_with nat_eq (skip_blanks line) (codes "include") ≡ false → None ≡ raw_include line
 no_include line h = sym (go (is_utf8 line))
   where

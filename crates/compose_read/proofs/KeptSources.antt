@@ -1,4 +1,4 @@
--- What is kept of sources stays right while more is read, and serves to read a source again.
+-- What is kept of sources remains valid while more is read, and may be used to read a source again.
 use Rattle.std.proofs.Common.{◌≡◌, ◌≤◌, ◌<◌, ◌+◌, ◌-◌, ℕ, zero, suc, List, [], ◌∷◌, ◌++◌, true, false, length, take, drop, get_or, set, sym, ◌∙◌, ap, ap₂, subst, inl, inr, arith, length-append, length-drop, length-take, length-set, replicate, nat_eq}
 use Rattle.std.specs.Prelude.{Option, Some, None, IfSome, slice_get}
 use Rattle.std.proofs.lemmas.Bool.{cases_Bool, eqb-true, eq-eqb}
@@ -30,7 +30,7 @@ module _ (names : KeysymNames) (sources : List Source) where
   by_index (o ∷ kept) zero k h = (omega arith, same_Some o (Some k) h)
   by_index (o ∷ kept) (suc source) k h = let behind = by_index kept source k h in (let l = behind.0 in omega arith, behind.1)
 
-  -- what an index has of a source is kept of it
+  -- what is found at an index is kept of the source with this index
   pub found_kept : (table : List Definition) (kept : List (Option KeptSource)) (source : ℕ) (k : KeptSource) → slice_get kept source ≡ Some (Some k) → AreKept names sources table kept
       → IsKept names sources table source k
   found_kept table kept source k h are = let found = by_index kept source k h in subst (λ o. IfSome o (IsKept names sources table source)) found.1 (are source None found.0)
@@ -46,18 +46,18 @@ module _ (names : KeysymNames) (sources : List Source) where
     definitions = piece_stays k.first k.count table more h.within ∙ h.definitions;
   }
 
-  -- what is kept stays right where more definitions are put behind the table
+  -- what is kept remains valid when more definitions are put after the table
   pub kept_stay : (table more new : List Definition) (kept : List (Option KeptSource)) → new ≡ table ++ more → AreKept names sources table kept → AreKept names sources new kept
   kept_stay table more new kept e h = subst (λ t. AreKept names sources t kept) (sym e) (λ source d l. source_stays table more source (get_or kept source d) (h source d l))
 
-  -- what is kept stays right where lines are read on
+  -- what is kept remains valid when more lines are read
   pub kept_on : (vs : List Visit) (p q : Progress) (kept : List (Option KeptSource)) → ((ws : List Visit) → reading_on names sources p (vs ++ ws) ≡ reading_on names sources q ws)
       → AreKept names sources p.draft.table kept → AreKept names sources q.draft.table kept
   kept_on vs p q kept reads h = kept_stay p.draft.table (given names sources vs) q.draft.table kept (read_through names sources vs p q reads).1 h
 
   -- ---- one more is kept
 
-  -- one more source that is kept leaves all of them right
+  -- with one more source that is kept, all of them are valid
   pub put_kept : (table : List Definition) (kept : List (Option KeptSource)) (source : ℕ) (k : KeptSource) → AreKept names sources table kept → IsKept names sources table source k
       → AreKept names sources table (set kept source (Some k))
   put_kept table kept source k h is other d l = elim (cases_Bool (nat_eq other source)) [
@@ -73,13 +73,13 @@ module _ (names : KeysymNames) (sources : List Source) where
   -- ---- a source that was read
 
   module _ (left source : ℕ) (p q : Progress) (reads : (ws : List Visit) → reading_on names sources p (visits_below sources left source ++ ws) ≡ reading_on names sources q ws) where
-    -- definitions were put behind the others
+    -- definitions were put after the others
     pub table_grew : length p.draft.table ≤ length q.draft.table
     table_grew =
         let grown = ap (λ t. length t) (read_through names sources (visits_below sources left source) p q reads).1 in
         let n = length-append p.draft.table (given names sources (visits_below sources left source)) in omega arith
 
-    -- once its lines are read, what their numbers and offsets say of a source may be kept
+    -- once its lines are read, their numbers and offsets may be kept for a source
     pub source_kept : (k : KeptSource) → k.left ≡ left → k.lines + p.lines ≡ q.lines → q.lines ≡ p.lines + length (visits_below sources left source) → k.first ≡ length p.draft.table
         → k.count ≡ length q.draft.table - length p.draft.table
         → IsKept names sources q.draft.table source k
@@ -109,11 +109,11 @@ module _ (names : KeysymNames) (sources : List Source) where
     again : IsAgain names sources before now
     again = source_again names sources k.left left source levels few is.faultless
 
-    -- a kept source has as many lines where fewer includes lead to it
+    -- a kept source has the same number of lines if fewer includes lead to it
     pub as_many : k.lines ≡ length now
     as_many = is.lines ∙ sym again.many
 
-    -- with the kept definitions put behind the table, reading goes on as if the lines of the source were read again
+    -- with the kept definitions put after the table, reading goes on as if the lines of the source were read again
     pub read_again : (after : Drafted) (lines : ℕ) → lines ≡ p.lines + k.lines → p.lines + k.lines ≤ 1000000 → length p.draft.table + k.count ≤ 100000
         → after.table ≡ p.draft.table ++ take k.count (drop k.first p.draft.table)
         → (ws : List Visit) → reading_on names sources p (now ++ ws) ≡ reading_on names sources (read_so_far lines after) ws

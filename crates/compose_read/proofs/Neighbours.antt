@@ -1,4 +1,4 @@
--- Rows in rising order are settled by looking at neighbours.
+-- Rows in rising order are settled by comparing neighbours.
 use Rattle.std.proofs.Common.{◌≡◌, ℕ, ◌+◌, suc, List, [], ◌∷◌, Bool, true, false, cond, not, ◌||◌, filter, map, refl, sym, ◌∙◌, ap, subst, inl, inr, Less, Equal, Greater, nat_cmp, arith}
 use Rattle.std.specs.Prelude.{Option, Some, None, Result, Ok, Err, is_some, unwrap_or, slice_index_or}
 use Rattle.std.specs.declared.cmp.Ordering.{Ordering}
@@ -81,7 +81,7 @@ above_rows : (s : List ℕ) (e : Definition) (rows : List Definition) → Before
 above_rows s e [] b a = (b, tt)
 above_rows s e (f ∷ rows) b a = (b, above_rows s f rows (before_later s e.sequence f.sequence b a.0) a.1)
 
--- ---- the leaves of rows behind one that comes before them all
+-- ---- the leaves of rows after one that comes before them all
 
 all_put : (P : List ℕ → Type 0) (x : List ℕ) (ys : List (List ℕ)) → P x → AllByRecursion P ys → AllByRecursion P (put (slice_cmp nat_cmp) x ys)
 all_put P x [] p a = (p, tt)
@@ -162,7 +162,7 @@ module _ (d : Definition) (rows : List Definition) (above : Above d.sequence row
       ∙ (λ i. cond (own_extended i) (Some d.sequence)
       (find_where (λ s. Before d.sequence s) (is_extended (d ∷ rows)) (is_extended rows) (leaves rows) behind_extended (above_leaves d.sequence rows above) i))
 
--- ---- what becomes of the first row
+-- ---- what happens to the first row
 
 put_in : (d : Definition) (rows : List Definition) (o : Option Overlap) → or_overlap o (d ∷ rows) ≡ put_if d (Ok true) (or_overlap o rows)
 put_in d rows None = refl
@@ -185,18 +185,18 @@ module _ (d : Definition) (rows : List Definition) (above : Above d.sequence row
       ap (with_extension (d ∷ rows)) (found_behind d rows above ∙ ap (λ b. cond b (Some d.sequence) (find (is_extended rows) (leaves rows))) h)
       ∙ prefix_extension d rows above (find (is_extended rows) (leaves rows)) (λ s e. found_has (λ s. Before d.sequence s) (is_extended rows) (leaves rows) s e (above_leaves d.sequence rows above))
 
-  -- a row that no other extends stays, and the others are settled as without it
+  -- a row that no other extends is kept, and the others are settled as if it were not there
   prefix_stays : (rule : Rule) → is_extended rows d.sequence ≡ false → settled rule (d ∷ rows) ≡ put_if d (Ok true) (settled rule rows)
   prefix_stays Refuse h = (λ i. or_overlap (overlap_behind h i) (prefix_in_order d rows above i)) ∙ put_in d (in_order rows) (overlap rows)
   prefix_stays Longest h =
       let kept : longest (d ∷ rows) ≡ d ∷ longest rows = longest_prefix ∙ ap (λ b. cond (not b) (d ∷ longest rows) (longest rows)) h in
       ap Ok (ap in_order kept ∙ prefix_in_order d (longest rows) above_longest)
 
-  -- where `Longest` leaves out what is extended
+  -- if it is extended, `Longest` leaves it out
   prefix_overridden : is_extended rows d.sequence ≡ true → settled Longest (d ∷ rows) ≡ settled Longest rows
   prefix_overridden h = ap (λ t. let r : Result (List Definition) Overlap = Ok (in_order t) in r) (longest_prefix ∙ ap (λ b. cond (not b) (d ∷ longest rows) (longest rows)) h)
 
-  -- where `Refuse` refuses it, beside the least of its extensions
+  -- and `Refuse` reports it with the least of its extensions
   prefix_refused : (e : List ℕ) (ss : List (List ℕ)) → leaves rows ≡ e ∷ ss → is_proper_prefix d.sequence e ≡ true → is_extended rows d.sequence ≡ true
       → settled Refuse (d ∷ rows) ≡ Err (record { short = d.sequence; long = e })
   prefix_refused e ss first is_prefix h =
@@ -231,14 +231,14 @@ none_extends s e (x ∷ rows) b h l = elim (cases_Bool (is_proper_prefix s x.seq
   | inr p ↦ ap (λ c. c || is_extended rows s) p ∙ none_extends s e rows b h l.1
 ]
 
--- of rows behind it, the first one tells whether a sequence is extended
+-- among the rows after a sequence, the first one decides whether the sequence is extended
 extended_by_first : (s : List ℕ) (e : Definition) (rows : List Definition) → Before s e.sequence → Ascends (e ∷ rows) → is_extended (e ∷ rows) s ≡ is_proper_prefix s e.sequence
 extended_by_first s e rows b a = elim (cases_Bool (is_proper_prefix s e.sequence)) [
   | inl h ↦ or_left (is_proper_prefix s e.sequence) (is_extended rows s) h ∙ sym h
   | inr h ↦ ap (λ c. c || is_extended rows s) h ∙ none_extends s e.sequence rows b h (later_rows e rows a) ∙ sym h
 ]
 
--- a row with the sequence of the next one says nothing
+-- a row with the sequence of the next one has no effect
 repeated : (d e : Definition) (rows : List Definition) → same d.sequence e.sequence ≡ true → IsSameTable (d ∷ e ∷ rows) (e ∷ rows)
 repeated d e rows h v = elim (cases_Bool (same v d.sequence)) [
   | inl s ↦ over (text_at (e ∷ rows) v) (sequence_text (e ∷ rows) v ∙ or_left (same v e.sequence) (is_sequence rows v) (ap (same v) (sym (same_is d.sequence e.sequence h)) ∙ s))
@@ -293,6 +293,6 @@ settled_in_turn rule (d ∷ e ∷ rows) a =
       | inr s ↦ ap (λ b. put_if d (cond b (Ok false) (cond (is_proper_prefix d.sequence e.sequence) (prefix_of_next rule d e) (Ok true))) (settled rule (e ∷ rows))) s ∙ unlike d e rows a s rule
     ]
 
--- sorted rows settle as the definitions that they were
+-- sorted rows settle to the same rows as the definitions that were sorted
 pub sorted_settled : (rule : Rule) (table rows : List Definition) → SequencesAscend rows → IsSameTable rows table → settled_neighbours rule rows ≡ settled rule table
 sorted_settled rule table rows ascend texts = settled_in_turn rule rows (ascends_from rows ascend) ∙ same_settled rule rows table texts

@@ -1,4 +1,4 @@
--- What is left to visit of open sources, as one is opened, read on and closed.
+-- What is still to be visited of open sources, as one is opened, read further and closed.
 use Rattle.std.proofs.Common.{◌≡◌, ◌≤◌, ◌<◌, ◌+◌, ◌-◌, ℕ, List, [], ◌∷◌, ◌++◌, Bool, true, false, cond, length, refl, sym, ◌∙◌, ap, ap₂, append_assoc, arith}
 use Rattle.std.specs.Prelude.{Option, Some, None, Result, Ok, Err, option_map, slice_get, flat_map}
 use Rattle.std.specs.Option.{option_and_then}
@@ -13,7 +13,7 @@ use Rattle.compose_read.specs.Visits.{said_include, raw_include, below, left_to_
 use Rattle.compose_read.proofs.ReadLines.{visits_are, next_line, plain_line, include_below}
 use Rattle.compose_read.specs.declared.open_source.OpenSource.{OpenSource}
 
--- a line includes the source that its raw text names
+-- a line includes the source with the name in its raw text
 pub included_is : (sources : List Source) (bytes : List ℕ) (name : Option (List ℕ)) → name ≡ raw_include bytes
     → option_and_then (λ n. included_by sources (Ok (include n))) name ≡ included sources bytes
 included_is sources bytes name e = ap (option_and_then (λ n. included_by sources (Ok (include n)))) e ∙ go (is_utf8 bytes) (reading_of bytes)
@@ -65,25 +65,25 @@ module _ (sources : List Source) where
         ∙ append_assoc (below sources (8 - depth) (record { source = p.source; line = p.line; bytes = bytes; depth = depth })) (left_in sources depth p) (left_from sources 0 os)
         ∙ ap (λ vs. below sources (8 - depth) (record { source = p.source; line = p.line; bytes = bytes; depth = depth }) ++ vs) (sym (left_from-last os after p pushed))
 
-  -- one of which no line is visited yet
+  -- one with no line visited yet
   pub all_left : (source depth : ℕ) (bytes : List ℕ) → depth ≤ 8 → source < length sources → option_map (λ (s : Source). s.bytes) (slice_get sources source) ≡ Some bytes
       → flat_map (below sources (8 - depth)) (numbered source depth 1 (source_lines bytes)) ≡ visits_below sources (8 - depth) source
   all_left source depth bytes few within is =
       let deep : depth ≡ 8 - (8 - depth) = omega arith in
       ap (λ d. flat_map (below sources (8 - depth)) (numbered source d 1 (source_lines bytes))) deep ∙ sym (visits_are sources (8 - depth) source bytes within is)
 
-  -- ---- the line that is taken
+  -- ---- the next line
 
   module _ (v : Visit) (old taken : List Visit) (took : old ≡ below sources (8 - v.depth) v ++ taken) where
-    -- where no level is left, what is left to visit is the line and what was left before
+    -- if no level is left, what is to be visited is the line and what was left before
     pub deepest_line : 8 ≤ v.depth → old ≡ v ∷ taken
     deepest_line deep = let none : 8 - v.depth ≡ 0 = omega arith in took ∙ ap (λ n. below sources n v ++ taken) none
 
-    -- behind a line that includes nothing, what is left to visit is what was left before
+    -- after a line that includes nothing, what is to be visited is what was left before
     pub other_line : included sources v.bytes ≡ None → old ≡ v ∷ taken
     other_line h = took ∙ ap (λ vs. vs ++ taken) (plain_line sources (8 - v.depth) v h)
 
-    -- behind an include what is left to visit is the line, all of the source that it opens, and then what was left before
+    -- at an include, what is to be visited is the line, all of the source that it opens, and then what was left before
     pub include_line : (source : ℕ) (os after : List OpenSource) (o : OpenSource) → v.depth < 8 → included sources v.bytes ≡ Some source → taken ≡ left_from sources 0 os → length os ≡ v.depth + 1
         → after ≡ os ++ o ∷ []
         → ((depth : ℕ) → depth ≤ 8 → left_in sources depth o ≡ visits_below sources (8 - depth) source) → old ≡ v ∷ left_from sources 0 after

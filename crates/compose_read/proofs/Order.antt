@@ -1,4 +1,4 @@
--- Sequences in their order: a proper prefix comes before its extensions, and is a prefix of all that stand between.
+-- Sequences in their order: a proper prefix comes before its extensions, and is a prefix of all that come between.
 use Rattle.std.proofs.Common.{◌≡◌, ℕ, List, [], ◌∷◌, Bool, true, false, cond, ◌&&◌, refl, sym, ◌∙◌, ap, inl, inr, Less, Equal, Greater, nat_cmp, nat_lt, eqb-true, arith}
 use Rattle.std.specs.Prelude.{◌==◌}
 use Rattle.std.specs.declared.cmp.Ordering.{Ordering}
@@ -14,7 +14,7 @@ use Rattle.compose_model.proofs.NodeLemmas.{same_is}
 abbrev pub Before : List ℕ → List ℕ → Type 0
 Before s t = slice_cmp nat_cmp s t ≡ Less
 
--- neither of two comes before the other
+-- of two lists, not each comes before the other
 pub not_both : (s t : List ℕ) → Before s t → Before t s → ⊥
 not_both s t e f = let g : Less ≡ Greater = sym e ∙ nat_list_cmp_total.antisymm s t ∙ ap ordering_reverse f in cc
 
@@ -27,14 +27,14 @@ not_itself s = go (slice_cmp nat_cmp s s) refl
     go Equal e = refl
     go Greater e = refl
 
--- a list that comes before another isn't the same
+-- a list that comes before another is not the same
 pub not_same : (s t : List ℕ) → Before s t → same t s ≡ false
 not_same s t h = elim (cases_Bool (same t s)) [
   | inl e ↦ absurd (let b : Before s s = ap (slice_cmp nat_cmp s) (sym (same_is t s e)) ∙ h in not_both s s b b)
   | inr e ↦ e
 ]
 
--- before s, and s does not come after t: before t
+-- what comes before s comes before t, if s does not come after t
 pub before_later : (r s t : List ℕ) → Before r s → is_lt (slice_cmp nat_cmp t s) ≡ false → Before r t
 before_later r s t h l = go (slice_cmp nat_cmp s t) refl
   where
@@ -76,7 +76,7 @@ not_own_prefix s = elim (cases_Bool (is_proper_prefix s s)) [
   | inr e ↦ e
 ]
 
--- what comes later is no prefix
+-- what comes later is not a prefix
 pub later_no_prefix : (s t : List ℕ) → Before s t → is_proper_prefix t s ≡ false
 later_no_prefix s t h = elim (cases_Bool (is_proper_prefix t s)) [
   | inl e ↦ absurd (not_both s t h (prefix_before t s e))

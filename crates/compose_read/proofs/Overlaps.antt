@@ -104,7 +104,7 @@ module _ (table : List Definition) (short : List ℕ) (found : find (is_extended
         nearest = λ t j p. ap not (found_least (is_proper_prefix short) (leaves table) long t (leaves_rise table) longer.1 (is_leaf table t ∙ j) p);
       })
 
--- an overlap that is refused is the least one of the table
+-- an overlap that `Refuse` reports is the least one of the table
 pub refused_least : (table : List Definition) (o : Overlap) → settled Refuse table ≡ Err o → IsLeastOverlap table o
 refused_least table o h = go (find (is_extended table) (leaves table)) refl h
   where
@@ -116,10 +116,10 @@ refused_least table o h = go (find (is_extended table) (leaves table)) refl h
         refused None k = cc
         refused (Some w) k = cc
 
--- a table that is settled without its overlaps had none
+-- a table that `Refuse` settles has no overlap
 pub settled_without : (table rows : List Definition) → settled Refuse table ≡ Ok rows → is_prefix_free table ≡ true
 settled_without table rows h = free_without_overlap table (kept table rows (overlap table) h).0
 
--- by the longest sequences no overlap is refused
+-- `Longest` reports no overlap
 pub never_refused : (table : List Definition) (o : Overlap) → settled Longest table ≡ Err o → ⊥
 never_refused table o h = cc

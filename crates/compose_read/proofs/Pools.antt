@@ -1,4 +1,4 @@
--- Rows in flat arrays stay what they are when more keysyms and texts are put behind them, and what is put there is one more row.
+-- Rows in flat arrays do not change when more keysyms and texts are appended, and what is appended is one more row.
 use Rattle.std.proofs.Common.{◌≡◌, ℕ, suc, ◌+◌, ◌-◌, ◌≤◌, ◌<◌, List, [], ◌∷◌, ◌++◌, true, length, take, drop, get_or, nat_lt, All, refl, sym, ◌∙◌, ap, ap₂, subst, arith, inl, inr}
 use Rattle.std.specs.Prelude.{Result, Ok, Err, OnOk, IsTrue}
 use Rattle.std.specs.Str.{IsUtf8, IsCharBoundary}
@@ -21,7 +21,7 @@ use Rattle.compose_read.specs.declared.rows.RowSpan.{RowSpan}
 
 -- ---- pieces
 
--- a piece stays where more is put behind
+-- a piece does not change when more is appended
 pub piece_stays : {X : Type 0} (a n : ℕ) (xs ys : List X) → a + n ≤ length xs → take n (drop a (xs ++ ys)) ≡ take n (drop a xs)
 piece_stays a n xs ys h =
     ap (take n) (drop-append-le a xs ys (omega arith)) ∙ take-append-le n (drop a xs) ys (let l = length-drop a xs in omega arith)
@@ -61,7 +61,7 @@ module _ (keysyms texts more text : List ℕ) (u : IsUtf8 text) where
     ends = boundary_stays texts text (p.first_byte + p.byte_count) u h.ends;
   }
 
-  -- spans stay in place where more keysyms and texts are put behind
+  -- spans stay in place when more keysyms and texts are appended
   pub all_placed_stay : (ps : List RowSpan) → ArePlaced keysyms texts ps → ArePlaced (keysyms ++ more) (texts ++ text) ps
   all_placed_stay ps h = λ k d l. placed_stays (get_or ps k d) (h k d l)
 
@@ -70,19 +70,19 @@ module _ (keysyms texts more text : List ℕ) (u : IsUtf8 text) where
       (piece_stays p.first_keysym p.keysym_count keysyms more h.keysyms_within)
       (piece_stays p.first_byte p.byte_count texts text h.ends.0)
 
-  -- rows stay what they are where more keysyms and texts are put behind
+  -- rows do not change when more keysyms and texts are appended
   pub rows_stay : (ps : List RowSpan) → ArePlaced keysyms texts ps → rows_of (keysyms ++ more) (texts ++ text) ps ≡ rows_of keysyms texts ps
   rows_stay [] h = refl
   rows_stay (p ∷ ps) h = ap₂ (λ d ds. d ∷ ds) (row_stays p (h 0 p (omega arith))) (rows_stay ps (λ k d l. h (suc k) d (omega arith)))
 
--- rows that stand before these offsets stand in the prefixes that end there
+-- rows that end before these offsets are in the prefixes that end there
 module _ (keysyms texts : List ℕ) (first_keysym first_byte : ℕ) (l : first_keysym ≤ length keysyms) (m : first_byte ≤ length texts) where
   piece_before : (end a n : ℕ) (xs : List ℕ) → end ≤ length xs → a + n ≤ end → take n (drop a (take end xs)) ≡ take n (drop a xs)
   piece_before end a n xs within h =
       sym (piece_stays a n (take end xs) (drop end xs) (let k = length-take-le end xs within in omega arith))
       ∙ ap (λ (ys : List ℕ). take n (drop a ys)) (take-append-drop end xs)
 
-  -- rows that stand before the offsets are what they are without the rest
+  -- rows that end before the offsets are the same without the rest
   pub rows_before : (ps : List RowSpan) → All (IsBefore first_keysym first_byte) ps → rows_of (take first_keysym keysyms) (take first_byte texts) ps ≡ rows_of keysyms texts ps
   rows_before [] h = refl
   rows_before (p ∷ ps) h = let here = h 0 p (omega arith) in ap₂ (λ d ds. d ∷ ds)
@@ -93,7 +93,8 @@ module _ (keysyms texts : List ℕ) (first_keysym first_byte : ℕ) (l : first_k
 
 -- ---- definitions that are being read
 
--- the spans are whole definitions in place, and the offsets, from where one more is being read, come after them
+-- the spans are those of complete definitions in place, and the offsets, at which one more is being read, come after
+-- them
 abbrev pub IsDrafted : List ℕ → List ℕ → List RowSpan → ℕ → ℕ → Type 0
 IsDrafted keysyms texts spans first_keysym first_byte =
     ArePlaced keysyms texts spans × (first_keysym ≤ length keysyms) × IsCharBoundary texts first_byte × IsTrue (is_table (rows_of keysyms texts spans)) × IsBehind spans first_keysym first_byte
@@ -127,7 +128,8 @@ module _ (ks ts : List ℕ) (ps : List RowSpan) (fk fb : ℕ) (is : IsDrafted ks
     same_rows : rows_of (take fk ks) (take fb ts) ps ≡ rows_of ks ts ps
     same_rows = rows_before ks ts fk fb is.1 is.2.0 ps is.4.each
 
-    -- without the definition that is being read, the keysyms, texts and spans hold the whole ones, and nothing behind them
+    -- without the definition that is being read, the keysyms, texts and spans hold the complete ones, and nothing after
+    -- them
     pub begun : IsDrafted prefix text ps fk fb
     begun = subst (λ a. IsDrafted a text ps fk fb) (sym k) (subst (λ b. IsDrafted (take fk ks) b ps fk fb) (sym t) (
       prefix_placed,
@@ -137,7 +139,7 @@ module _ (ks ts : List ℕ) (ps : List RowSpan) (fk fb : ℕ) (is : IsDrafted ks
       is.4,
     ))
 
-    -- a new definition begins empty, and the table stays
+    -- a new definition begins empty, and the table does not change
     pub drafted_begun : drafted prefix text ps fk fb ≡ with_row (drafted ks ts ps fk fb) no_row
     drafted_begun =
         ap₂ (λ a b. drafted a b ps fk fb) k t
@@ -148,11 +150,11 @@ module _ (ks ts : List ℕ) (ps : List RowSpan) (fk fb : ℕ) (is : IsDrafted ks
 
   -- with one more keysym
   module _ (new : List ℕ) (k : ℕ) (e : new ≡ ks ++ k ∷ []) where
-    -- one more keysym leaves the whole definitions and the one that is being read
+    -- one more keysym does not change the complete definitions, and is in the one that is being read
     pub with_keysym : IsDrafted new ts ps fk fb
     with_keysym = subst (λ ts. IsDrafted new ts ps fk fb) (append-nil ts) (subst (λ ks. IsDrafted ks (ts ++ []) ps fk fb) (sym e) (grown (k ∷ []) [] IsUtf8-nil))
 
-    -- one more keysym is the last one of the sequence that is being read, and the table stays
+    -- one more keysym is the last one of the sequence that is being read, and the table does not change
     pub drafted_keysym : drafted new ts ps fk fb ≡ with_row (drafted ks ts ps fk fb) (record { sequence = drop fk ks ++ k ∷ []; text = drop fb ts })
     drafted_keysym =
         (λ i. drafted (e i) (sym (append-nil ts) i) ps fk fb)
@@ -161,18 +163,18 @@ module _ (ks ts : List ℕ) (ps : List RowSpan) (fk fb : ℕ) (is : IsDrafted ks
 
   -- with more text
   module _ (new text : List ℕ) (e : new ≡ ts ++ text) (u : IsUtf8 text) where
-    -- more text leaves the whole definitions and the one that is being read
+    -- more text does not change the complete definitions, and is in the one that is being read
     pub with_text : IsDrafted ks new ps fk fb
     with_text = subst (λ ks. IsDrafted ks new ps fk fb) (append-nil ks) (subst (λ ts. IsDrafted (ks ++ []) ts ps fk fb) (sym e) (grown [] text u))
 
-    -- more text is put behind that of the definition that is being read, and the table stays
+    -- more text comes after that of the definition that is being read, and the table does not change
     pub drafted_text : drafted ks new ps fk fb ≡ with_row (drafted ks ts ps fk fb) (record { sequence = drop fk ks; text = drop fb ts ++ text })
     drafted_text =
         (λ i. drafted (sym (append-nil ks) i) (e i) ps fk fb)
         ∙ drafted_grown [] text u
         ∙ ap (λ sequence. let d : Drafted = record { table = rows_of ks ts ps; row = record { sequence = sequence; text = drop fb ts ++ text } } in d) (append-nil (drop fk ks))
 
-  -- with the text of a raw text, or as it was
+  -- with the text that a raw text stands for, or as before
   module _ (raw new : List ℕ) (r : Result (Unit {0}) LexFault) (said : Result (List ℕ) LexFault) (gives : PushGives ts new r said)
       (found : OnOk r ((bytes : List ℕ) × (new ≡ ts ++ bytes) × Unescapes raw bytes × IsText bytes)) where
     text_behind : (r : Result (Unit {0}) LexFault) → PushGives ts new r said → OnOk r ((bytes : List ℕ) × (new ≡ ts ++ bytes) × Unescapes raw bytes × IsText bytes)
@@ -184,15 +186,15 @@ module _ (ks ts : List ℕ) (ps : List RowSpan) (fk fb : ℕ) (is : IsDrafted ks
     abbrev behind : (text : List ℕ) × (new ≡ ts ++ text) × IsUtf8 text
     behind = text_behind r gives found
 
-    -- the text of a raw text, or its fault, leaves the whole definitions and the one that is being read
+    -- the text that a raw text stands for, or its fault, does not change the complete definitions
     pub with_raw_text : IsDrafted ks new ps fk fb
     with_raw_text = with_text new behind.0 behind.1 behind.2
 
-    -- the text of a raw text, or its fault, leaves the table as it was
+    -- the text that a raw text stands for, or its fault, does not change the table
     pub table_stays : rows_of ks new ps ≡ rows_of ks ts ps
     table_stays = ap (λ (d : Drafted). d.table) (drafted_text new behind.0 behind.1 behind.2)
 
-    -- what is pushed to the texts is pushed to the text of the definition that is being read
+    -- what is appended to the texts is appended to the text of the definition that is being read
     pub text_given : PushGives (drop fb ts) (drop fb new) r said
     text_given = go r gives
       where
@@ -210,9 +212,9 @@ module _ (ks ts : List ℕ) (ps : List RowSpan) (fk fb : ℕ) (is : IsDrafted ks
         go (Ok _) f = (f.0, ap (drop fb) f.1 ∙ drop-append-le fb ts f.0 is.2.0, f.2, f.3)
         go (Err e) f = tt
 
-  -- with some of the spans again
+  -- with some of the spans repeated
   module _ (first count : ℕ) (room : length (rows_of ks ts ps) + count ≤ max_definitions) (qs : List RowSpan) (e : qs ≡ ps ++ take count (drop first ps)) where
-    -- spans that are put again behind the others repeat their rows
+    -- spans that are repeated after the others repeat their rows
     pub rows_repeated : rows_of ks ts qs ≡ rows_of ks ts ps ++ take count (drop first (rows_of ks ts ps))
     rows_repeated =
         ap (rows_of ks ts) e ∙ map-append (definition_at ks ts) ps (take count (drop first ps))
@@ -245,7 +247,7 @@ module _ (ks ts : List ℕ) (ps : List RowSpan) (fk fb : ℕ) (is : IsDrafted ks
               (All-append (IsBefore fk fb) ps (take count (drop first ps)) all.each (All-take (IsBefore fk fb) count (drop first ps) (All-drop (IsBefore fk fb) first ps all.each)));
         }
 
-    -- spans that are put again leave the definition that is being read, where there is room for their rows
+    -- spans that are repeated do not change the definition that is being read, if there is room for their rows
     pub repeated : IsDrafted ks ts qs fk fb
     repeated = (
       subst (ArePlaced ks ts) (sym e) (All-append (IsPlaced ks ts) ps (take count (drop first ps)) is.0 (All-take (IsPlaced ks ts) count (drop first ps) (All-drop (IsPlaced ks ts) first ps is.0))),
@@ -257,7 +259,7 @@ module _ (ks ts : List ℕ) (ps : List RowSpan) (fk fb : ℕ) (is : IsDrafted ks
       behind_again,
     )
 
-  -- with the span of the one that was read
+  -- with the span of the definition that was read
   module _ (p : RowSpan) (keysym_from : p.first_keysym ≡ fk) (byte_from : p.first_byte ≡ fb) (keysym_count : p.keysym_count ≡ length ks - fk) (byte_count : p.byte_count ≡ length ts - fb)
       (definition : is_definition (record { sequence = drop fk ks; text = drop fb ts }) ≡ true) where
     row_there : definition_at ks ts p ≡ record { sequence = drop fk ks; text = drop fb ts }
@@ -265,7 +267,7 @@ module _ (ks ts : List ℕ) (ps : List RowSpan) (fk fb : ℕ) (is : IsDrafted ks
         (λ i. let d : Definition = record
         { sequence = rest_taken fk ks p.keysym_count p.first_keysym keysym_from keysym_count i; text = rest_taken fb ts p.byte_count p.first_byte byte_from byte_count i } in d)
 
-    -- the span of the definition that was read makes it the last row
+    -- with its span, the definition that was read is the last row
     pub table_finished : rows_of ks ts (ps ++ p ∷ []) ≡ rows_of ks ts ps ++ record { sequence = drop fk ks; text = drop fb ts } ∷ []
     table_finished = map-append (definition_at ks ts) ps (p ∷ []) ∙ ap (λ d. rows_of ks ts ps ++ d ∷ []) row_there
 
@@ -303,7 +305,7 @@ module _ (ks ts : List ℕ) (ps : List RowSpan) (fk fb : ℕ) (is : IsDrafted ks
           ),
     )
 
-    -- with its span behind the others, the definition that was read is the last row, and a new one begins behind it
+    -- with its span after the others, the definition that was read is the last row, and a new one begins after it
     pub finished_with : (qs : List RowSpan) → qs ≡ ps ++ p ∷ [] → length (rows_of ks ts ps) < max_definitions → (fk fb : ℕ) → fk ≡ length ks → fb ≡ length ts → IsDrafted ks ts qs fk fb
     finished_with qs e room fk fb k b =
         subst (λ ps. IsDrafted ks ts ps fk fb) (sym e) (subst (λ n. IsDrafted ks ts (ps ++ p ∷ []) n fb) (sym k) (subst (IsDrafted ks ts (ps ++ p ∷ []) (length ks)) (sym b) (finished room)))

@@ -1,4 +1,4 @@
--- What a row's sequence being a prefix of the next one's says of the row.
+-- What happens to a row whose sequence is a prefix of the next one's.
 use Rattle.std.proofs.Common.{◌≡◌, ℕ, ◌<◌, List, [], ◌∷◌, Bool, true, false, cond, ◌&&◌, ◌||◌, length, nat_eq, get_or, take, get_or-take, eq-eqb, refl, sym, ◌∙◌, ap, inl, inr, arith}
 use Rattle.std.specs.Prelude.{Ok, ◌==◌}
 use Rattle.std.specs.List.{starts_with}
@@ -24,7 +24,7 @@ prefix_is (y ∷ s) (x ∷ p) = go (x == y) (prefix_is s p)
     go true h = h
     go false h = refl
 
--- where two sequences differ at an index, neither is a prefix of the other
+-- if two sequences differ at an index, neither is a prefix of the other
 pub differs_at : (s p : List ℕ) (k x y : ℕ) → k < length p → x ≡ get_or p k x → y ≡ get_or s k y → nat_eq x y ≡ false → starts_with nat_eq s p ≡ false
 differs_at s p k x y l at_p at_s differ = elim (cases_Bool (starts_with nat_eq s p)) [
   | inl h ↦ absurd (
@@ -42,19 +42,19 @@ module _ (rule : Rule) (d e : Definition) where
   neither true b h = cc
   neither false b h = (refl, h)
 
-  -- a row stays before a next one that doesn't begin with its sequence
+  -- a row is kept before a next one that does not begin with its sequence
   pub stays_apart : starts_with nat_eq e.sequence d.sequence ≡ false → stays_before rule d e ≡ Ok true
   stays_apart h =
       let n = neither (same d.sequence e.sequence) (is_proper_prefix d.sequence e.sequence) (sym (prefix_is e.sequence d.sequence) ∙ h) in decide false false n.0 n.1
 
-  -- a row goes where the next one has the same sequence
+  -- a row is left out if the next one has the same sequence
   pub stays_repeated : starts_with nat_eq e.sequence d.sequence ≡ true → length e.sequence ≡ length d.sequence → stays_before rule d e ≡ Ok false
   stays_repeated h l = elim (or_cases (same d.sequence e.sequence) (is_proper_prefix d.sequence e.sequence) (sym (prefix_is e.sequence d.sequence) ∙ h)) [
     | inl s ↦ decide true (is_proper_prefix d.sequence e.sequence) s refl
     | inr p ↦ (let longer = prefix_shorter d.sequence e.sequence p in absurd (omega arith))
   ]
 
-  -- of a row whose sequence is a proper prefix of the next one the rule decides
+  -- if the sequence of a row is a proper prefix of the next one, the rule decides
   pub stays_prefix : starts_with nat_eq e.sequence d.sequence ≡ true → (length e.sequence ≡ length d.sequence → ⊥) → stays_before rule d e ≡ prefix_of_next rule d e
   stays_prefix h l = elim (cases_Bool (same d.sequence e.sequence)) [
     | inl s ↦ absurd (l (ap length (sym (same_is d.sequence e.sequence s))))

@@ -18,12 +18,12 @@ use Rattle.compose_read.specs.declared.ReadFault.{ReadFault}
 use Rattle.compose_read.specs.declared.ReadFault.TheVariants as faults
 use Rattle.compose_read.specs.declared.reading.Progress.{Progress}
 
--- where a line includes no source, it is all that is visited
+-- if a line includes no source, only the line is visited
 pub plain_line : (sources : List Source) (left : ℕ) (v : Visit) → included sources v.bytes ≡ None → below sources left v ≡ v ∷ []
 plain_line sources zero v h = refl
 plain_line sources (suc left) v h = ap (λ o. v ∷ option_map_or (visits_below sources left) o []) h
 
--- behind a line that includes a source, the lines of that source are visited one level deeper
+-- after a line that includes a source, the lines of that source are visited one level deeper
 pub include_below : (sources : List Source) (left : ℕ) (v : Visit) (source : ℕ) → 0 < left → included sources v.bytes ≡ Some source → below sources left v ≡ v ∷ visits_below sources (left - 1) source
 include_below sources zero v source l h = absurd (omega arith)
 include_below sources (suc left) v source l h =
@@ -61,7 +61,7 @@ module _ (sources : List Source) (left source depth line : ℕ) (rest bytes behi
   abbrev next : Visit
   next = record { source = source; line = line + 1; bytes = bytes; depth = depth }
 
-  -- what is left of a source is its next line, those below it, and what is left behind it
+  -- what is left of a source is its next line, those below it, and what is left after it
   pub next_line : left_to_visit sources left source depth line rest ≡ below sources left next ++ left_to_visit sources left source depth (line + 1) behind
   next_line =
       let one : 1 + line ≡ line + 1 = omega arith in
@@ -72,7 +72,7 @@ module _ (sources : List Source) (left source depth line : ℕ) (rest bytes behi
   lines_left = ap (λ vs. length vs) next_line ∙ length-append (below sources left next) (left_to_visit sources left source depth (line + 1) behind)
 
   module _ (before total : ℕ) (counted : before + length (left_to_visit sources left source depth line rest) ≡ total) where
-    -- how many lines are read with a line that includes nothing
+    -- the number of lines that are read with a line that includes nothing
     pub plain_counted : (after : ℕ) → included sources bytes ≡ None → after ≡ before + 1 → after + length (left_to_visit sources left source depth (line + 1) behind) ≡ total
     plain_counted after h e =
         let all = lines_left in let one = ap (λ vs. length vs) (plain_line sources left next h) in omega arith
@@ -119,7 +119,7 @@ module _ (names : KeysymNames) (sources : List Source) (left source depth line :
         sym (f (visits_below sources (left - 1) included_source ++ (left_behind ++ ws)))
         ∙ ap (λ vs. reading_on names sources p (vs ++ (left_behind ++ ws))) (sym (include_below sources left v included_source deep h)) ∙ opened ws
 
-    -- a line that includes a source, and the lines of this one
+    -- a line that includes a source, and the lines of that source
     pub include_turn : (r : Progress) → ((us : List Visit) → reading_on names sources q (visits_below sources (left - 1) included_source ++ us) ≡ reading_on names sources r us)
         → (ws : List Visit) → reading_on names sources r (left_behind ++ ws) ≡ reading_on names sources old (whole ++ ws)
     include_turn r g ws = sym (g (left_behind ++ ws)) ∙ into_source ws
@@ -130,13 +130,13 @@ module _ (names : KeysymNames) (sources : List Source) (left source depth line :
     include_refused r s faults.NoMemory e = tt
     include_refused r s fault e = λ ws. sym (into_source ws) ∙ e (left_behind ++ ws)
 
--- behind the last line the whole is read
+-- after the last line the whole is read
 module _ (names : KeysymNames) (sources : List Source) (left source depth line : ℕ) (rest : List ℕ) (lines : lines_of rest ≡ []) where
-  -- where no line is left of a source, nothing is left to visit
+  -- if no line is left of a source, nothing is left to visit
   pub none_left : length (left_to_visit sources left source depth line rest) ≡ 0
   none_left = ap (λ ls. length (flat_map (below sources left) (numbered source depth (1 + line) ls))) lines
 
-  -- where no line is left of a source, all of its lines lead to what is read so far
+  -- if no line is left of a source, its lines lead to what was read so far
   pub whole_read : (p old : Progress) (whole : List Visit)
       → ((ws : List Visit) → reading_on names sources p (left_to_visit sources left source depth line rest ++ ws) ≡ reading_on names sources old (whole ++ ws))
       → (ws : List Visit) → reading_on names sources old (whole ++ ws) ≡ reading_on names sources p ws

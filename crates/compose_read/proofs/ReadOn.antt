@@ -21,7 +21,7 @@ none_behind : (table : List Definition) (r : Result (List Definition) ReadFault)
 none_behind table (Ok more) = refl
 none_behind table (Err e) = refl
 
--- what is read behind a line that gives this
+-- what is read after a line with this result
 abbrev goes_on : KeysymNames → List Source → Progress → List Visit → Option Definition → Result (List Definition) ReadFault
 goes_on names sources p ws found = read_on names sources (1 + p.lines) (length (option_to_list found) + length p.draft.table) ws >>= (λ table. Ok (option_to_list found ++ table))
 
@@ -32,7 +32,7 @@ line_taken names sources p v ws found l h =
     (lt-leb max_lines p.lines l)
     ∙ ap (λ r. with_prefix p.draft.table ((r >>= with_room v (length p.draft.table)) >>= goes_on names sources p ws)) h
 
--- a line without a fault and without a definition gives nothing
+-- a line without a fault and without a definition adds nothing
 pub nothing_read : (names : KeysymNames) (sources : List Source) (p : Progress) (v : Visit) (ws : List Visit) → p.lines < 1000000 → line_gives names sources v ≡ Ok None
     → reading_on names sources p (v ∷ ws) ≡ reading_on names sources (read_so_far (p.lines + 1) p.draft) ws
 nothing_read names sources p v ws l h =
@@ -41,7 +41,7 @@ nothing_read names sources p v ws l h =
     ∙ none_behind p.draft.table (read_on names sources (1 + p.lines) (0 + length p.draft.table) ws)
     ∙ ap₂ (λ n m. with_prefix p.draft.table (read_on names sources n m ws)) one same
 
--- a line with a definition puts it behind the others
+-- the definition on a line is put after the others
 pub definition_read : (names : KeysymNames) (sources : List Source) (p : Progress) (after : Drafted) (v : Visit) (d : Definition) (ws : List Visit) → after.table ≡ p.draft.table ++ d ∷ []
     → p.lines < 1000000 → line_gives names sources v ≡ Ok (Some d) → length p.draft.table < 100000
     → reading_on names sources p (v ∷ ws) ≡ reading_on names sources (read_so_far (p.lines + 1) after) ws

@@ -1,4 +1,4 @@
--- Tables that say the same of every sequence settle to the same rows, and a stable sort keeps what a table says.
+-- Tables with the same text for each sequence settle to the same rows, and a stable sort does not change these texts.
 use Rattle.std.proofs.Common.{◌≡◌, ℕ, List, [], ◌∷◌, Bool, true, false, cond, not, ◌&&◌, filter, map, refl, sym, ◌∙◌, ap, ap₂, ◌⊎◌, inl, inr}
 use Rattle.std.specs.Prelude.{Option, Some, None, Ok, unwrap_or}
 use Rattle.std.specs.Option.{option_or}
@@ -24,7 +24,7 @@ or_none : {X : Type 0} (o : Option X) → o ≡ option_or o None
 or_none None = refl
 or_none (Some x) = refl
 
--- where the part keeps none
+-- if the part has no definition of v
 text_left_out : (p : Definition → Bool) (v : List ℕ) (table : List Definition) → ((d : Definition) → same v d.sequence ≡ true → p d ≡ false) → text_at (filter p table) v ≡ None
 text_left_out p v [] f = refl
 text_left_out p v (d ∷ table) f = go (p d) (same v d.sequence) (f d) (text_left_out p v table f) refl
@@ -37,7 +37,7 @@ text_left_out p v (d ∷ table) f = go (p d) (same v d.sequence) (f d) (text_lef
 -- ---- a stable sort
 
 module _ {X : Type 0} (f : X → Definition) where
-  -- where the part keeps each definition of v
+  -- if the part has each definition of v
   text_of_part : (p : X → Bool) (v : List ℕ) (xs : List X) → ((x : X) → same v (f x).sequence ≡ true → p x ≡ true) → text_at (map f (filter p xs)) v ≡ text_at (map f xs) v
   text_of_part p v [] h = refl
   text_of_part p v (x ∷ xs) h = go (p x) (same v (f x).sequence) (h x) (text_of_part p v xs h) refl
@@ -63,7 +63,7 @@ module _ {X : Type 0} (f : X → Definition) where
   abbrev pub SameTie : (X → X → Bool) → Type 0
   SameTie lt = (x y : X) → (f x).sequence ≡ (f y).sequence → ties lt x y ≡ true
 
-  -- a stable order gives each sequence the same text, where equal sequences tie
+  -- in a stable order each sequence has the same text, if equal sequences tie
   pub stable_same : (lt : X → X → Bool) (xs ys : List X) → SameTie lt → IsStableBy lt xs ys → IsSameTable (map f ys) (map f xs)
   stable_same lt xs ys tie stable v = elim (with_sequence ys v) [
     | inl t ↦ by t.0 t.1
@@ -92,7 +92,7 @@ map_sequences table = map (λ (d : Definition). d.sequence) table
 abbrev rows : (List ℕ → Option (List ℕ)) → List (List ℕ) → List Definition
 rows texts ss = map (λ s. let d : Definition = record { sequence = s; text = unwrap_or (texts s) [] } in d) ss
 
--- a sequence that is extended has no text where the longest stay
+-- a sequence that is extended has no text once only the longest are kept
 overridden : (table : List Definition) (v : List ℕ) → is_extended table v ≡ true → text_at (longest table) v ≡ None
 overridden table v e = text_left_out (λ d. not (is_extended table d.sequence)) v table (λ d h. ap not (ap (is_extended table) (sym (same_is v d.sequence h)) ∙ e))
 
@@ -118,7 +118,7 @@ module _ (a b : List Definition) (texts : IsSameTable a b) where
     | inr e ↦ longest_text a v e ∙ texts v ∙ sym (longest_text b v (sym (same_extended a b texts v) ∙ e))
   ]
 
--- tables that say the same of every sequence settle to the same rows
+-- tables with the same text for each sequence settle to the same rows
 pub same_settled : (rule : Rule) (a b : List Definition) → IsSameTable a b → settled rule a ≡ settled rule b
 same_settled Refuse a b texts = λ i. or_overlap (same_overlap a b texts i) (same_in_order a b texts i)
 same_settled Longest a b texts = ap Ok (same_in_order (longest a) (longest b) (same_longest a b texts))

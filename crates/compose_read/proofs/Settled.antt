@@ -1,4 +1,4 @@
--- Settling keeps what the table says, and gives rising rows that don't overlap.
+-- Settling keeps the text of each sequence, and results in rising rows without overlaps.
 use Rattle.std.proofs.Common.{◌≡◌, ℕ, List, [], ◌∷◌, Bool, true, false, cond, not, ◌&&◌, ◌||◌, map, refl, sym, ◌∙◌, ap, nat_cmp}
 use Rattle.std.specs.Prelude.{Option, Some, None, Ok, is_some, unwrap_or}
 use Rattle.std.specs.Option.{option_or}
@@ -24,7 +24,7 @@ use Rattle.compose_read.specs.Settle.{row, in_order, Overlap, with_extension, ov
 use Rattle.compose_model.specs.declared.Rule.{Rule}
 use Rattle.compose_model.specs.declared.Rule.TheVariants.{Refuse, Longest}
 
--- ---- the rows say what the table says
+-- ---- the rows have the texts of the table
 
 -- the leaves of a table are its sequences
 pub is_leaf : (table : List Definition) (v : List ℕ) → list_any (same v) (leaves table) ≡ is_sequence table v
@@ -41,7 +41,7 @@ rows_say table v (s ∷ ss) = ap (λ o. option_or o (cond (same v s) (Some (unwr
     go false true e = ap (λ t. Some (unwrap_or (text_at table t) [])) (sym (same_is v s e))
     go false false e = refl
 
--- the rows of a table in order say the same of every sequence as the table
+-- the rows of a table in order have the same text for each sequence as the table
 pub in_order_same : (table : List Definition) → IsSameTable (in_order table) table
 in_order_same table v =
     rows_say table v (leaves table)
@@ -73,7 +73,7 @@ rows_pass p table (s ∷ ss) f =
     and_from (p s) (list_all (λ (d : Definition). p d.sequence) (map (row table) ss)) (f s (or_left (same s s) (list_any (same s) ss) (same_from s s refl)))
     (rows_pass p table ss (λ t h. f t (or_right (same t s) (list_any (same t) ss) h)))
 
--- where no sequence of a table is a prefix of another, none of the rows in order is
+-- if no sequence of a table is a prefix of another, none of the rows in order is
 pub in_order_free : (table : List Definition) → is_prefix_free table ≡ true → is_prefix_free (in_order table) ≡ true
 in_order_free table free =
     rows_pass (λ s. not (is_extended (in_order table) s)) table (leaves table)
@@ -108,12 +108,12 @@ free_without_overlap table h = go (find (is_extended table) (leaves table)) refl
         ∙ sym (list_any-rising (slice_cmp nat_cmp) exact_bytes (is_extended table) (map (λ (d : Definition). d.sequence) table))
         ∙ none_found (is_extended table) (leaves table) e)
 
--- where `Refuse` settles, there is no overlap
+-- if `Refuse` settles a table, it has no overlap
 pub kept : (table rows : List Definition) (o : Option Overlap) → or_overlap o (in_order table) ≡ Ok rows → (o ≡ None) × (in_order table ≡ rows)
 kept table rows None h = (refl, cc)
 kept table rows (Some o) h = cc
 
--- every run of keys over the settled rows is that over the table
+-- every run over the settled rows is the one over the table
 pub settled_runs : (names : KeysymNames) (rule : Rule) (table rows : List Definition) (keys : List ℕ) → settled rule table ≡ Ok rows → run names rows keys ≡ run names table keys
 settled_runs names Refuse table rows keys h = ap (λ t. run names t keys) (sym (kept table rows (overlap table) h).1) ∙ same_run (in_order table) table (in_order_same table) names keys
 settled_runs names Longest table rows keys h =

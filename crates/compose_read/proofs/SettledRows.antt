@@ -1,4 +1,4 @@
--- Settling the places of rows settles what the rows say.
+-- Settling the spans of rows settles the rows.
 use Rattle.std.proofs.Common.{◌≡◌, ℕ, List, sym, subst}
 use Rattle.compose_model.specs.Table.{Definition, IsSameTable}
 use Rattle.compose_model.specs.declared.Rule.{Rule}
@@ -10,11 +10,11 @@ use Rattle.compose_read.proofs.Neighbours.{sorted_settled}
 
 -- what was sorted, among the same keysyms
 module _ (rule : Rule) (table : List Definition) (keysyms seen texts : List ℕ) (spans sorted : List RowSpan) (here : seen ≡ keysyms) where
-  -- sorted spans stand where the keysyms and texts do, if sorting leaves them in place
+  -- sorted spans are in place if sorting leaves them in place
   pub sorted_placed : (ArePlaced seen texts spans → ArePlaced seen texts sorted) → ArePlaced keysyms texts spans → ArePlaced keysyms texts sorted
   sorted_placed f h = subst (λ ks. ArePlaced ks texts sorted) here (f (subst (λ ks. ArePlaced ks texts spans) (sym here) h))
 
-  -- settles as the table
+  -- they settle to the same rows as the table
   pub sorted_settle : SequencesAscend (rows_of seen texts sorted) → IsSameTable (rows_of seen texts sorted) (rows_of seen texts spans) → rows_of keysyms texts spans ≡ table
       → settled_neighbours rule (rows_of keysyms texts sorted) ≡ settled rule table
   sorted_settle ascend same is =

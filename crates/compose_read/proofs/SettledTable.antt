@@ -1,4 +1,4 @@
--- Settled rows are definitions, as those that they come from.
+-- Settled rows are definitions, like those that they come from.
 use Rattle.std.proofs.Common.{◌≡◌, ◌≤◌, ◌+◌, ℕ, length, List, [], ◌∷◌, Bool, true, false, cond, not, filter, map, refl, sym, ◌∙◌, ap, ap₂, Less, Equal, Greater, nat_cmp, arith}
 use Rattle.std.specs.declared.cmp.Ordering.{Ordering}
 use Rattle.std.specs.Cmp.Lexicographic.{slice_cmp}
@@ -65,7 +65,7 @@ settled_table Longest table rows h e =
 pub settled_is : (rule : Rule) (table rows : List Definition) → is_table table ≡ true → settled rule table ≡ Ok rows → IsSettled rows
 settled_is rule table rows h e = record { definitions = settled_table rule table rows h e; rise = settled_rises rule table rows e; prefix_free = settled_free rule table rows e }
 
--- ---- they are no more
+-- ---- there are no more of them
 
 few_put : (x : List ℕ) (ys : List (List ℕ)) → length (put (slice_cmp nat_cmp) x ys) ≤ 1 + length ys
 few_put x [] = omega arith

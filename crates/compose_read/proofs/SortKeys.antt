@@ -1,4 +1,4 @@
--- Spans in the order of their sort keys: those of one sequence stay in the order in which they were.
+-- Spans in the order of their sort keys: those of one sequence keep their order.
 use Rattle.std.proofs.Common.{◌≡◌, ℕ, suc, ◌+◌, ◌*◌, ◌%◌, ◌≤◌, ◌<◌, List, [], ◌∷◌, Bool, true, false, cond, not, ◌&&◌, nat_cmp, nat_lt, ◌++◌, Less, Equal, Greater, filter, length, map, take, drop, get_or, refl, sym, subst, ◌∙◌, ap, inl, inr, arith}
 use Rattle.std.specs.List.{All, sum_by, take-map}
 use Rattle.std.specs.List.Sorted.{IsPermutation, IsSorted, IsStableBy, IsNonDecreasing, IsNonDecreasingBy, ties}
@@ -20,7 +20,7 @@ use Rattle.compose_read.specs.SortKeys.{by_sequence, keysym_sort_key, prefix_sor
 use Rattle.compose_read.specs.Rows.{sequence_at}
 use Rattle.compose_read.specs.declared.rows.RowSpan.{RowSpan}
 
--- ---- numbers that rise are told by the sums over them
+-- ---- rising numbers are determined by the sums over them
 
 abbrev HaveSameSums : List ℕ → List ℕ → Type 0
 HaveSameSums xs ys = (f : ℕ → ℕ) → sum_by f xs ≡ sum_by f ys
@@ -38,7 +38,7 @@ none_below y (z ∷ ys) h =
     let not_it : below y z ≡ 0 = ap (λ b. cond b 1 0) (le-ltb z y least) in
     omega arith
 
--- no number of the one is below the least of the other
+-- no number of one list is below the least of the other
 first_least : (x y : ℕ) (xs ys : List ℕ) → All (λ z. y ≤ z) (y ∷ ys) → HaveSameSums (x ∷ xs) (y ∷ ys) → y ≤ x
 first_least x y xs ys h same = elim (cases_lt x y) [
   | inl l ↦ absurd (
@@ -70,7 +70,7 @@ sum_by-filter f p (x ∷ xs) = go (p x) ∙ ap (λ n. cond (p x) (f x) 0 + n) (s
     go true = sum_by-cons f x (filter p xs)
     go false = omega arith
 
--- what a test keeps of numbers in two orders, where it rises in both
+-- the numbers that pass a test, in two orders, are the same if they rise in both
 kept_same : (p : ℕ → Bool) (xs ys : List ℕ) → IsPermutation xs ys → IsNonDecreasing (filter p xs) → IsNonDecreasing (filter p ys) → filter p ys ≡ filter p xs
 kept_same p xs ys permuted up up' =
     rising_same (filter p ys) (filter p xs) up' up
@@ -87,11 +87,11 @@ filter-map p f (n ∷ ns) = ap (λ l. cond (p (f n)) (f n ∷ l) l) (filter-map 
 -- ---- a part of a list is put in another order
 
 module _ {X : Type 0} (xs ys : List X) (a k : ℕ) (zs : List X) where
-  -- where a part of a permutation is permuted, the whole is one
+  -- if a part of a permutation is permuted, the whole is a permutation
   pub permuted_part : IsPermutation xs ys → IsPermutation (mid_of a k ys) zs → IsPermutation xs (put_mid a k ys zs)
   permuted_part h part = IsPermutation-trans xs ys (put_mid a k ys zs) h (IsPermutation-put_mid a k ys zs part)
 
-  -- where a part of a stable order is put in a stable order, the whole is one
+  -- if a part of a stable order is put in a stable order, the whole is in a stable order
   pub stable_part : (lt : X → X → Bool) → IsStableBy lt xs ys → IsStableBy lt (mid_of a k ys) zs → IsStableBy lt xs (put_mid a k ys zs)
   stable_part lt h part x =
       let tied = ties lt x in let prefix_sort_key = filter tied (take a ys) in let back = post_of a k ys in
@@ -111,7 +111,7 @@ prefix_sort_key_of_part keysyms keysym_sort_keys p are =
     ∙ ap (λ ds. prefix_sort_key (take p.keysym_count ds)) (drop-map keysym_sort_key p.first_keysym keysyms)
     ∙ ap prefix_sort_key (take-map keysym_sort_key p.keysym_count (drop p.first_keysym keysyms))
 
--- of two sort keys that differ by the index alone, the one of the earlier index is not above the other
+-- of two sort keys that differ only in the index, the one with the earlier index is not greater
 in_turn : (m n prefix_sort_key prefix_sort_key' : ℕ) → m ≡ prefix_sort_key * 131072 + m % 131072 → n ≡ prefix_sort_key' * 131072 + n % 131072 → prefix_sort_key ≡ prefix_sort_key'
     → m % 131072 ≤ n % 131072 → m ≤ n
 in_turn m n prefix_sort_key prefix_sort_key' a b same le = let scaled = ap (λ f. f * 131072) same in omega (a, b, scaled, le, arith)
@@ -133,7 +133,7 @@ tied_sequences keysyms p q e = go (slice_cmp nat_cmp s t) refl (nat_list_cmp_tot
         absurd (let less : slice_cmp nat_cmp t s ≡ Less = back ∙ ap ordering_reverse is in
         let clash : false ≡ true = sym (ap (λ o. not (is_lt Greater) && not (is_lt o)) less) ∙ sym (ap (λ o. not (is_lt o) && not (is_lt (slice_cmp nat_cmp t s))) is) ∙ e in cc)
 
--- a span of nothing at the beginning
+-- an empty span at the beginning
 pub none : RowSpan
 none = record { first_keysym = 0; first_byte = 0; keysym_count = 0; byte_count = 0 }
 
@@ -198,6 +198,6 @@ module _ (keysyms : List ℕ) (spans : List RowSpan) (sort_keys : List ℕ) (are
 
 -- ---- vectors
 
--- what a vector holds after a write to all its elements
+-- the elements of a vector after a write to all of them
 pub given_back : {X : Type 0} (count : ℕ) (new old : List X) → count ≡ length new → take count (new ++ drop (length new) old) ≡ new
 given_back count new old long = ap (λ n. take n (new ++ drop (length new) old)) long ∙ take-append_seam new (drop (length new) old)

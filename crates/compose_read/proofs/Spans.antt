@@ -1,4 +1,4 @@
--- Places in the order of the sequences that stand there, and passes over them.
+-- Spans in the order of their sequences, and passes over them.
 use Rattle.std.proofs.Common.{◌≡◌, ℕ, suc, ◌+◌, ◌≤◌, List, [], ◌∷◌, ◌++◌, true, false, length, map, drop, sym, subst, ◌∙◌, ap, ap₂, arith}
 use Rattle.std.specs.Prelude.{Ok}
 use Rattle.std.specs.List.{All}
@@ -13,7 +13,7 @@ use Rattle.compose_read.specs.Rows.{sequence_at, definition_at, rows_of, IsPlace
 use Rattle.compose_read.proofs.Turns.{put_all, turn_kept, turn_left}
 use Rattle.compose_read.specs.declared.rows.RowSpan.{RowSpan}
 
--- the rows of sorted spans don't descend
+-- the rows of sorted spans do not descend
 pub rows_ascend : (keysyms texts : List ℕ) (ps : List RowSpan) → IsSortedBy (by_sequence keysyms) ps → SequencesAscend (rows_of keysyms texts ps)
 rows_ascend keysyms texts ps h = λ k d low l.
     let n = length-map ps (definition_at keysyms texts) in
@@ -28,7 +28,7 @@ module _ {X : Type 0} (P : X → Type 0) (x : X) (xs : List X) (h : All P (x ∷
   pub first_of : P x
   first_of = h 0 x (omega arith)
 
-  -- what holds of all elements holds of those behind the first
+  -- what holds of all elements holds of those after the first
   pub others_of : All P xs
   others_of = λ k d l. h (suc k) d (omega arith)
 
@@ -38,7 +38,7 @@ module _ {X : Type 0} (P : X → Type 0) (x : X) (xs : List X) (h : All P (x ∷
 abbrev pub few : RowSpan → Type 0
 few p = p.keysym_count ≤ 32
 
--- with these kept and these left, the pass gives what all places give
+-- with these kept and these left, the result of the pass is that of all spans
 abbrev pub PassesOn : List ℕ → Rule → List RowSpan → List RowSpan → List RowSpan → Type 0
 PassesOn keysyms rule spans kept left =
     ((texts : List ℕ) → put_all (rows_of keysyms texts kept) (settled_neighbours rule (rows_of keysyms texts left)) ≡ settled_neighbours rule (rows_of keysyms texts spans))
@@ -46,7 +46,7 @@ PassesOn keysyms rule spans kept left =
     × ((texts : List ℕ) → ArePlaced keysyms texts spans → ArePlaced keysyms texts kept × ArePlaced keysyms texts left)
 
 module _ (keysyms : List ℕ) (rule : Rule) (spans kept left : List RowSpan) (p q : RowSpan) (pass : PassesOn keysyms rule spans kept (p ∷ q ∷ left)) where
-  -- a row that stays is kept
+  -- a row that is kept is appended
   pub pass_kept : (pushed : List RowSpan) → pushed ≡ kept ++ p ∷ [] → ((texts : List ℕ) → stays_before rule (definition_at keysyms texts p) (definition_at keysyms texts q) ≡ Ok true)
       → PassesOn keysyms rule spans pushed (q ∷ left)
   pass_kept pushed e stays = (
@@ -64,7 +64,7 @@ module _ (keysyms : List ℕ) (rule : Rule) (spans kept left : List RowSpan) (p 
         ),
   )
 
-  -- another one is passed over
+  -- another one is left out
   pub pass_left : ((texts : List ℕ) → stays_before rule (definition_at keysyms texts p) (definition_at keysyms texts q) ≡ Ok false) → PassesOn keysyms rule spans kept (q ∷ left)
   pass_left stays = (
     λ texts. let f = definition_at keysyms texts in sym (turn_left rule (map f kept) (f p) (f q) (map f left) (stays texts)) ∙ pass.0 texts,

@@ -1,4 +1,4 @@
--- The lines of a text are texts, since a text may be cut before and behind a newline.
+-- The lines of a text are UTF-8, since a text may be cut before and after a newline.
 use Rattle.std.proofs.Common.{◌≡◌, ◌≢◌, ◌≤◌, ◌<◌, ℕ, zero, suc, ◌+◌, List, [], ◌∷◌, length, take, drop, get_or, Bool, true, false, refl, sym, ◌∙◌, subst, nat_lt, arith, length-drop}
 use Rattle.std.specs.Prelude.{◌==◌}
 use Rattle.std.specs.List.{All, position_or_len}
@@ -13,11 +13,11 @@ use Rattle.compose_text.proofs.LineParts.{lines-some, lines-whole}
 abbrev is_newline : ℕ → Bool
 is_newline b = b == 10
 
--- the index of the first newline, or else the end
+-- the index of the first newline, or else the length
 abbrev cut : List ℕ → ℕ
 cut text = position_or_len is_newline text
 
--- where what follows the first newline has such lines, so has the whole
+-- if the lines after the first newline are UTF-8, all lines are
 module _ (text : List ℕ) (u : IsUtf8 text) (some : text ≢ [])
     (others : length (drop (suc (cut text)) text) < length text → IsUtf8 (drop (suc (cut text)) text) → All IsUtf8 (lines_of (drop (suc (cut text)) text))) where
   other : (i : ℕ) → i < cut text → get_or text i 0 ≢ 10
@@ -47,6 +47,6 @@ up_to (suc n) (b ∷ bytes) l u =
 pub text_lines : (text : List ℕ) → IsUtf8 text → All IsUtf8 (lines_of text)
 text_lines text u = up_to (length text) text (omega arith) u
 
--- the first line, and those behind it
+-- the first line, and those after it
 pub next_text : (rest line behind : List ℕ) → lines_of rest ≡ line ∷ lines_of behind → All IsUtf8 (lines_of rest) → IsUtf8 line × All IsUtf8 (lines_of behind)
 next_text rest line behind lines h = let all = subst (All IsUtf8) lines h in (all 0 [] (omega arith), λ k d l. all (suc k) d (omega arith))

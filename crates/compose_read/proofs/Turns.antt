@@ -19,15 +19,15 @@ put_twice kept d (Err o) = refl
 put_twice kept d (Ok rows) = ap Ok (sym (append_assoc kept (d ∷ []) rows))
 
 module _ (rule : Rule) (kept : List Definition) (d e : Definition) (rows : List Definition) where
-  -- a row that stays goes behind those that are kept
+  -- a row that is kept goes after those that were kept before
   pub turn_kept : stays_before rule d e ≡ Ok true → put_all kept (settled_neighbours rule (d ∷ e ∷ rows)) ≡ put_all (kept ++ d ∷ []) (settled_neighbours rule (e ∷ rows))
   turn_kept h = ap (λ b. put_all kept (put_if d b (settled_neighbours rule (e ∷ rows)))) h ∙ put_twice kept d (settled_neighbours rule (e ∷ rows))
 
-  -- and one that does not is passed over
+  -- and one that is not is left out
   pub turn_left : stays_before rule d e ≡ Ok false → put_all kept (settled_neighbours rule (d ∷ e ∷ rows)) ≡ put_all kept (settled_neighbours rule (e ∷ rows))
   turn_left h = ap (λ b. put_all kept (put_if d b (settled_neighbours rule (e ∷ rows)))) h
 
--- a fault says the same whatever a value would have been
+-- a fault does not depend on the type of the value
 pub fault_says : {X Y Z : Type 0} (view : X → Z) (other : Y → Z) (fault : SettleFault) (said : Result Z Overlap) → SettleGives view (Err fault) said → SettleGives other (Err fault) said
 fault_says view other (faults.Overlap short long) said h = h
 fault_says view other faults.NoMemory said h = tt

@@ -1,4 +1,4 @@
--- Sources, and all the lines that are visited from one of them, includes in place.
+-- Sources, and all the lines that are visited from one of them, with included lines after their include.
 use Rattle.std.specs.Prelude.{ℕ, ◌+◌, ◌-◌, nat_eq, nat_lt, zero, suc, if◌then◌else◌, List, [], ◌∷◌, length, drop, flat_map, Option, Some, None, Result, Ok, bytes_eq, get_or}
 use Rattle.std.specs.List.{position_or_len, starts_with}
 use Rattle.std.specs.Option.{option_map_or}
@@ -15,7 +15,7 @@ pub record Source : Type 0 where
 
 -- ---- the lines of a source
 
--- the bytes without a UTF-8 byte order mark at their beginning
+-- the bytes without a leading UTF-8 byte order mark
 abbrev pub without_mark : List ℕ → List ℕ
 without_mark bytes = if starts_with nat_eq bytes (0xef ∷ 0xbb ∷ 0xbf ∷ []) then drop 3 bytes else bytes
 
@@ -25,7 +25,8 @@ source_lines bytes = lines_of (without_mark bytes)
 
 -- ---- visits
 
--- a line as it is met: the source's index, the line's number from 1, its bytes, and how many includes lead to it
+-- a line as it is visited: the index of the source, the number of the line counted from 1, its bytes, and the number of
+-- includes that lead to it
 pub record Visit : Type 0 where
   pub source : ℕ
   pub line : ℕ
@@ -35,20 +36,20 @@ pub record Visit : Type 0 where
 abbrev pub max_depth : ℕ
 max_depth = 8
 
--- the source with this name, or the number of sources
+-- the index of the source with this name, or the number of sources
 abbrev pub source_named : List Source → List ℕ → ℕ
 source_named sources name = position_or_len (λ (s : Source). bytes_eq name s.name) sources
 
--- the source that an include names, if there is one
+-- the index of the source that an include names, if there is one
 abbrev pub included_by : List Source → Result Reading LexFault → Option ℕ
 included_by sources (Ok (include name)) = if nat_lt (source_named sources name) (length sources) then Some (source_named sources name) else None
 included_by sources _ = None
 
--- the source that a line includes, where nothing is wrong with the line but perhaps its place
+-- the index of the source that a line includes, if the line has no fault, except perhaps that it is nested too deeply
 abbrev pub included : List Source → List ℕ → Option ℕ
 included sources bytes = if is_utf8 bytes then included_by sources (reading_of bytes) else None
 
--- the lines, numbered on from this number
+-- the lines, numbered from this number on
 abbrev pub numbered : ℕ → ℕ → ℕ → List (List ℕ) → List Visit
 numbered source depth number [] = []
 numbered source depth number (line ∷ lines) = record { source = source; line = number; bytes = line; depth = depth } ∷ numbered source depth (1 + number) lines
@@ -56,7 +57,7 @@ numbered source depth number (line ∷ lines) = record { source = source; line =
 abbrev pub own_lines : List Source → ℕ → ℕ → List Visit
 own_lines sources source depth = numbered source depth 1 (source_lines (get_or sources source (record { name = []; bytes = [] })).bytes)
 
--- each line, and behind an include the lines visited from the included source, where `left` levels are left below this one
+-- each line, and after an include the lines visited from the included source, if `left` levels are left below this one
 abbrev pub visits_below : List Source → ℕ → ℕ → List Visit
 visits_below sources zero source = own_lines sources source max_depth
 visits_below sources (suc left) source =

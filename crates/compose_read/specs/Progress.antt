@@ -1,4 +1,4 @@
--- What is read so far, and what is read on from there. Words for private functions.
+-- What was read so far, and how reading goes on from there. Definitions for private functions.
 use Rattle.std.specs.Prelude.{◌≡◌, ◌<◌, [], ◌++◌, ℕ, List, length, Option, Some, None, Result, Ok, Err, IsTrue}
 use Rattle.std.specs.Option.{option_map_or}
 use Rattle.keysym_core.specs.Names.{KeysymNames, text}
@@ -17,15 +17,15 @@ use Rattle.compose_read.specs.declared.reading.Progress.{Progress}
 
 -- ---- one line
 
--- the line with these bytes at the place
+-- the line with these bytes at the position
 abbrev pub visit : Place → List ℕ → Visit
 visit place bytes = record { source = place.source; line = place.line; bytes = bytes; depth = place.depth }
 
--- what a line gives that defines nothing
+-- the result of a line without a definition
 abbrev pub no_definition : Option Definition
 no_definition = None
 
--- a fault of a line's part at the place
+-- the fault of a part of the line at the position
 abbrev pub lifted : Place → LexFault → ReadFault
 lifted place lex_faults.NoMemory = faults.NoMemory
 lifted place fault = faults.Lex place.source place.line fault
@@ -34,7 +34,7 @@ lifted place fault = faults.Lex place.source place.line fault
 abbrev pub keysym_text : KeysymNames → Option ℕ → List ℕ
 keysym_text names keysym = option_map_or (text names) keysym []
 
--- what is found on a line is what the line gives, the definition d or none, or the source that it includes
+-- what is found on a line is the result of the line: no definition, the definition d, or the source that it includes
 abbrev pub IsFound : KeysymNames → List Source → Visit → Definition → Found → Type 0
 IsFound names sources v d found.Nothing = (line_gives names sources v ≡ Ok None) × (included sources v.bytes ≡ None)
 IsFound names sources v d (found.Include source) = (line_gives names sources v ≡ Ok None) × (included sources v.bytes ≡ Some source) × (v.depth < max_depth) × (source < length sources)
@@ -47,20 +47,20 @@ FindsLine names sources v d (Err e) = line_gives names sources v ≡ Err e
 
 -- ---- all lines
 
--- these definitions before those that are read
+-- the result with these definitions put before its own
 abbrev pub with_prefix : List Definition → Result (List Definition) ReadFault → Result (List Definition) ReadFault
 with_prefix table (Ok more) = Ok (table ++ more)
 with_prefix table (Err e) = Err e
 
--- so many lines are read, and what they gave
+-- this many lines were read, with this draft as the result
 abbrev pub read_so_far : ℕ → Drafted → Progress
 read_so_far lines draft = record { lines = lines; draft = draft }
 
--- all definitions, where these lines come after what is read so far
+-- all definitions, if these lines come after what was read so far
 abbrev pub reading_on : KeysymNames → List Source → Progress → List Visit → Result (List Definition) ReadFault
 reading_on names sources p vs = with_prefix p.draft.table (read_on names sources p.lines (length p.draft.table) vs)
 
--- these lines lead from the one to the other, whatever comes after them, or to the fault
+-- reading these lines leads from the one to the other, or to the fault, whatever comes after them
 abbrev pub ReadsOn : {X : Type 0} → KeysymNames → List Source → List Visit → Progress → Progress → Result X ReadFault → Type 0
 ReadsOn names sources vs before after (Ok x) = (ws : List Visit) → reading_on names sources before (vs ++ ws) ≡ reading_on names sources after ws
 ReadsOn names sources vs before after (Err faults.NoMemory) = Unit {0}

@@ -1,4 +1,4 @@
--- The keysyms of a definition's sequence. Words for private functions.
+-- The keysyms in the sequence of a definition. Definitions for private functions.
 use Rattle.std.specs.Prelude.{ℕ, Bool, not, ◌&&◌, List, IsTrue}
 use Rattle.std.specs.List.{list_all}
 use Rattle.keysym_core.specs.Keysym.{is_keysym, is_ignored}

@@ -1,4 +1,4 @@
--- The settled sequences of a table: in rising order, each with its last definition, and none that is a prefix of another.
+-- The settled sequences of a table: in rising order, each with its last definition, and none a prefix of another.
 use Rattle.std.specs.Prelude.{ℕ, Bool, true, not, ◌&&◌, List, [], ◌∷◌, map, Option, Some, None, Result, Ok, Err, unwrap_or, IsTrue}
 use Rattle.std.specs.List.{find}
 use Rattle.compose_model.specs.Table.{Definition, is_proper_prefix, is_sequence, is_extended, text_at, longest, comes_before, is_table, is_prefix_free}
@@ -18,7 +18,7 @@ pub record Overlap : Type 0 where
   pub short : List ℕ
   pub long : List ℕ
 
--- with its least extension
+-- and its least extension
 abbrev pub with_extension : List Definition → Option (List ℕ) → Option Overlap
 with_extension table None = None
 with_extension table (Some short) = Some (record { short = short; long = unwrap_or (find (is_proper_prefix short) (leaves table)) [] })
@@ -31,12 +31,12 @@ abbrev pub or_overlap : Option Overlap → List Definition → Result (List Defi
 or_overlap None table = Ok table
 or_overlap (Some o) table = Err o
 
--- the rows of the table by the rule, or the overlap that `Refuse` refuses
+-- the rows of the table by the rule, or the overlap because of which `Refuse` rejects it
 abbrev pub settled : Rule → List Definition → Result (List Definition) Overlap
 settled Refuse table = or_overlap (overlap table) (in_order table)
 settled Longest table = Ok (in_order (longest table))
 
--- ---- what a list of rows is by its type
+-- ---- the properties of a list of rows
 
 -- each sequence comes before the next one
 abbrev pub sequences_rise : List Definition → Bool
@@ -50,7 +50,7 @@ pub record IsSettled (table : List Definition) : Type 0 where
   pub rise : IsTrue (sequences_rise table)
   pub prefix_free : IsTrue (is_prefix_free table)
 
--- ---- what a reported overlap is
+-- ---- the properties of a reported overlap
 
 -- two sequences of the table: the least one that is a prefix of another one, and the least one that it is a prefix of
 pub record IsLeastOverlap (table : List Definition) (o : Overlap) : Type 0 where

@@ -1,4 +1,4 @@
--- Sources as they are kept, and why one more is refused.
+-- Sources, and the reason why one more cannot be added.
 use Rattle.std.specs.Prelude.{ℕ, nat_le, nat_lt, ◌≤◌, if◌then◌else◌, List, length, map, Option, Some, None, string_bytes, IsUtf8}
 use Rattle.std.specs.List.{AllByRecursion, IsDistinct}
 use Rattle.std.specs.Str.{bytes_eq}
@@ -15,13 +15,13 @@ sources_of files = map (λ f. record { name = string_bytes f.0; bytes = f.1.item
 abbrev pub max_sources : ℕ
 max_sources = 64
 
--- why a source of this name is not added: the name is taken, else there are as many sources as may be
+-- the reason why a source with this name cannot be added: the name is taken, else there are as many sources as possible
 abbrev pub add_fault : List Source → List ℕ → Option SourceFault
 add_fault sources name =
     if nat_lt (source_named sources name) (length sources) then Some NameTaken else
     if nat_le max_sources (length sources) then Some TooManySources else None
 
--- what any sources are: no more than may be, by distinct names, which are text
+-- the properties of any sources: not too many, with distinct names, which are UTF-8
 pub record AreSources (sources : List Source) : Type 0 where
   pub few : length sources ≤ max_sources
   pub text : AllByRecursion (λ s. IsUtf8 s.name) sources

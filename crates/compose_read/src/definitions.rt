@@ -3,7 +3,8 @@ use crate::rows::Rows;
 use keysym_core::Keysym;
 use std::marker::Model;
 
-/// The definitions of a table in reading order, with repeated and overlapping sequences as they were read. They are at most 100,000.
+/// The definitions of a table in reading order, including repeated and overlapping sequences; at
+/// most 100,000.
 #[derive(Drop)]
 pub struct Definitions {
     rows: Rows,
@@ -26,7 +27,7 @@ impl Definitions {
     ghost use Rattle.compose_model.specs.Table.{is_table};
     ghost use Rattle.compose_read.specs.Read.{max_definitions};
 
-    /// The definitions of these rows.
+    /// Returns the definitions of these rows.
     pub(crate) fn from_rows(rows: Rows) -> Definitions
         requires table { IsTrue (is_table rows) }
         requires few { length rows ≤ max_definitions }
@@ -35,7 +36,7 @@ impl Definitions {
         Definitions { rows }
     }
 
-    /// How many definitions there are, at most 100,000. O(1).
+    /// Returns the number of definitions, at most 100,000. O(1).
     pub fn len(&self) -> usize
         ensures count { result ≡ length self.now }
         ensures table { IsTrue (is_table self.now) }
@@ -44,7 +45,7 @@ impl Definitions {
         self.rows.len()
     }
 
-    /// The sequence of the definition at this index. O(1).
+    /// Returns the sequence of the definition at this index. O(1).
     pub fn sequence(&self, index: usize) -> &[Keysym]
         requires { index < length self.now }
         ensures { option_map (λ d. d.sequence) (slice_get self.now index) ≡ Some result.now }
@@ -52,7 +53,7 @@ impl Definitions {
         self.rows.sequence(index)
     }
 
-    /// The text of the definition at this index. O(1).
+    /// Returns the text of the definition at this index. O(1).
     pub fn text(&self, index: usize) -> &str
         requires { index < length self.now }
         ensures { option_map (λ d. d.text) (slice_get self.now index) ≡ Some result.now }
@@ -60,7 +61,7 @@ impl Definitions {
         self.rows.text(index)
     }
 
-    /// The rows of the definitions.
+    /// Returns the rows of the definitions.
     pub(crate) fn into_rows(self) -> Rows
         ensures same { result ≡ self }
         ensures table { IsTrue (is_table self) }

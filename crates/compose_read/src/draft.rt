@@ -1,6 +1,8 @@
 //! Definitions that are being read.
 //!
-//! The keysyms and the text of a definition are put behind those of the others as they are read, so that none is copied. Where it is whole, its span is noted. At most 100,000 definitions of at most 32 keysyms and 255 bytes fit where each offset is a `u32`.
+//! The keysyms and the text of a definition are appended to those of the others as they are read,
+//! so that none is copied. When the definition is complete, its span is added. The offsets are
+//! `u32`s: at most 100,000 definitions of at most 32 keysyms and 255 bytes fit.
 use crate::definitions::Definitions;
 use crate::rows::{RowSpan, Rows};
 use compose_lex::{LexFault, push_text};
@@ -8,7 +10,7 @@ use keysym_core::Keysym;
 use std::alloc::{AllocError, Global};
 use std::marker::Model;
 
-/// Definitions in flat arrays, and one behind them that is being read.
+/// Definitions in flat arrays, and after them one that is being read.
 #[derive(Drop)]
 pub(crate) struct Draft {
     keysyms: Vec<Keysym>,
@@ -44,7 +46,7 @@ impl Draft {
     ghost use Rattle.compose_read.specs.Read.{max_definitions};
     ghost use Rattle.compose_read.specs.Rows.{with_row, no_row};
 
-    /// No definitions, and none that is being read. Takes no memory.
+    /// Returns a draft without definitions. Takes no memory.
     pub(crate) fn new(alloc: Global) -> Draft
         ensures { result ≡ record { table = []; row = no_row } }
     {
@@ -57,7 +59,8 @@ impl Draft {
         }
     }
 
-    /// Asks for room for so many more definitions of three keysyms and three bytes of text. A refusal only leaves less room. O(definitions) at most.
+    /// Reserves room for this many more definitions of three keysyms and three bytes of text. If
+    /// memory runs out, there is only less room. O(definitions) at most.
     pub(crate) fn reserve(&mut self, definitions: usize)
         ensures { self.new ≡ self.old }
     {
@@ -67,7 +70,7 @@ impl Draft {
         let _ = self.spans.reserve(definitions);
     }
 
-    /// How many definitions there are. O(1).
+    /// Returns the number of complete definitions. O(1).
     pub(crate) fn len(&self) -> usize
         ensures { result ≡ length self.now.table }
     {
@@ -82,7 +85,7 @@ impl Draft {
         self.texts.truncate(self.first_byte);
     }
 
-    /// Puts a keysym behind those of the definition that is being read. A refusal changes nothing. O(1).
+    /// Appends a keysym to the definition that is being read. An error changes nothing. O(1).
     pub(crate) fn push_keysym(&mut self, keysym: Keysym) -> Result<(), AllocError>
         ensures pushed { OnOk result
             (self.new
@@ -98,7 +101,7 @@ impl Draft {
         Ok(())
     }
 
-    /// Puts the text that a raw text stands for behind that of the definition. O(bytes).
+    /// Appends the text that a raw text stands for to that of the definition. O(bytes).
     pub(crate) fn push_raw_text(&mut self, raw: &str) -> Result<(), LexFault>
         ensures exact { PushGives self.old.row.text self.new.row.text result (text_of raw.now) }
         ensures found { OnOk result
@@ -110,7 +113,7 @@ impl Draft {
         push_text(&mut self.texts, raw)
     }
 
-    /// Puts a character behind the text of the definition. A refusal changes nothing. O(1).
+    /// Appends a character to the text of the definition. An error changes nothing. O(1).
     pub(crate) fn push_character(&mut self, character: char) -> Result<(), AllocError>
         ensures pushed { OnOk result
             (self.new
@@ -126,7 +129,7 @@ impl Draft {
         Ok(())
     }
 
-    /// Puts the definition that is being read behind the others. A refusal changes nothing. O(1).
+    /// Adds the definition that is being read to the complete ones. An error changes nothing. O(1).
     pub(crate) fn finish(&mut self) -> Result<(), AllocError>
         requires definition { IsTrue (is_definition self.old.row) }
         requires room { length self.old.table < max_definitions }
@@ -145,7 +148,8 @@ impl Draft {
         Ok(())
     }
 
-    /// Puts so many definitions from this index on after the others again; they share their keysyms and texts. A refusal changes nothing. O(definitions).
+    /// Repeats this many definitions, from this index on, after the others; they share keysyms and
+    /// texts. An error changes nothing. O(definitions).
     pub(crate) fn repeat(&mut self, first: usize, count: usize) -> Result<(), AllocError>
         requires within { first + count ≤ length self.old.table }
         requires room { length self.old.table + count ≤ max_definitions }
@@ -157,7 +161,7 @@ impl Draft {
         Ok(())
     }
 
-    /// The definitions, without the one that is being read. O(1).
+    /// Returns the complete definitions. O(1).
     pub(crate) fn into_definitions(self) -> Definitions
         ensures same { result ≡ self.table }
         ensures table { IsTrue (is_table self.table) }

@@ -1,29 +1,30 @@
-//! What is kept of sources that were read, so that an include of one that was read before costs its definitions and not its bytes.
+//! A record of the sources that were read, so that including one again costs its definitions and
+//! not its bytes.
 ghost use Rattle.std.specs.Prelude.{◌≡◌, ◌≤◌, ◌<◌, Some, None, replicate, slice_get, slice_set, IfSome};
 
 use crate::sources::Sources;
 
-/// What a source gave when it was last read to its end.
+/// The result of reading a source to its end, the last time.
 #[derive(Clone, Copy)]
 pub(crate) struct KeptSource {
-    /// How many levels of includes were left below it.
+    /// The number of levels of includes that were left below it.
     pub(crate) left: usize,
-    /// How many lines were read, those of included sources too.
+    /// The number of lines that were read, including those of included sources.
     pub(crate) lines: usize,
     /// The index of its first definition among all definitions.
     pub(crate) first: usize,
-    /// How many definitions it gave.
+    /// The number of its definitions.
     pub(crate) count: usize,
 }
 
-/// What is kept of each source, by its index; 2.5 KB, which ask for no memory.
+/// What is kept of each source, by the index of the source; 2.5 KB, without an allocation.
 #[derive(Drop)]
 pub(crate) struct Kept {
     by_source: [Option<KeptSource>; Sources::MOST],
 }
 
 impl Kept {
-    /// Nothing is kept.
+    /// Returns a value in which nothing is kept.
     pub(crate) fn new() -> Kept
         ensures { result.by_source ≡ replicate 64 None }
     {
@@ -32,7 +33,8 @@ impl Kept {
         }
     }
 
-    /// What is kept of a source, where it was read with no more levels left than these. O(1).
+    /// Returns what is kept of a source, if at most this many levels were left below it when it was
+    /// read. O(1).
     pub(crate) fn find(&self, source: usize, left: usize) -> Option<KeptSource>
         requires { source < 64 }
         ensures { IfSome result
@@ -45,7 +47,7 @@ impl Kept {
         Some(kept)
     }
 
-    /// Keeps what a source gave, in place of what it gave before. O(1).
+    /// Keeps the result of reading a source, in place of an earlier one. O(1).
     pub(crate) fn put(&mut self, source: usize, gave: KeptSource)
         requires { source < 64 }
         ensures { self.new.by_source ≡ slice_set self.old.by_source source (Some gave) }

@@ -1,6 +1,11 @@
-//! What a table says is decided by all its files in order: sources, their includes, definitions and settling.
+//! From files to the settled sequences of a table: sources, their includes, definitions and
+//! settling.
 //!
-//! [`Sources`] keep files by the names under which includes find them. [`read_definitions`] reads one of them with all that it includes, and gives the [`Definitions`] in reading order, or the fault of the first faulty line. [`settle`] gives [`Sequences`]: in rising order, each once with the text of its last definition, and none that is a prefix of another. Typing with these is typing with the definitions as they were read.
+//! [`Sources`] hold files under the names by which includes find them. [`read_definitions`] reads
+//! one of them with all that it includes, and returns the [`Definitions`] in reading order, or the
+//! fault of the first faulty line. [`settle`] returns [`Sequences`]: in rising order, each once
+//! with the text of its last definition, and none a prefix of another. Typing with these is the
+//! same as typing with the definitions as they were read.
 //!
 //! ```text
 //! r:   <Multi_key> <apostrophe> <e> : "x"
@@ -43,33 +48,35 @@ use std::alloc::{AllocError, AllocFailed};
 use thiserror::Error;
 pub use visits::{VisitedLine, Visits};
 
-/// The first fault of what is read. `source` is the index of the source, from 0; `line` counts from 1; `index` is that of the event, from 0, or the number of events for the result's name.
+/// The first fault of the lines that are read. `source` is the index of the source, counted from 0;
+/// `line` is the number of the line in it, counted from 1; `index` is that of the event, counted
+/// from 0, or the number of events if the name is that of the result.
 #[derive(Debug, PartialEq, Eq, Drop, Error)]
 pub enum ReadFault {
-    /// No source has the root's name.
+    /// No source has the name of the root.
     #[error("1 MissingRoot")]
     MissingRoot,
-    /// A line whose bytes are not UTF-8.
+    /// A line that is not UTF-8.
     #[error("2 NotUtf8 source={source} line={line}")]
     NotUtf8 {
         source: usize,
         line: usize,
     },
-    /// A line with a syntax error, or whose string is no text.
+    /// A line with a syntax error, or with a string whose raw text has a fault.
     #[error("3 Lex source={source} line={line}: {fault}")]
     Lex {
         source: usize,
         line: usize,
         fault: LexFault,
     },
-    /// A name that no keysym has.
+    /// A name that is not that of a keysym.
     #[error("4 UnknownKeysym source={source} line={line} index={index}")]
     UnknownKeysym {
         source: usize,
         line: usize,
         index: usize,
     },
-    /// An event whose keysym a compose state passes over.
+    /// An event with a keysym that a compose state ignores.
     #[error("5 IgnoredKeysym source={source} line={line} index={index}")]
     IgnoredKeysym {
         source: usize,
@@ -82,7 +89,7 @@ pub enum ReadFault {
         source: usize,
         line: usize,
     },
-    /// An include on a line to which eight includes lead.
+    /// An include in a source that is nested eight includes deep.
     #[error("7 IncludeDepth source={source} line={line}")]
     IncludeDepth {
         source: usize,
@@ -100,7 +107,7 @@ pub enum ReadFault {
         source: usize,
         line: usize,
     },
-    /// Memory was refused in this call.
+    /// Memory ran out.
     #[error("10 NoMemory")]
     NoMemory,
 }
@@ -121,7 +128,8 @@ impl<T: Drop> From<AllocFailed<T>> for ReadFault {
     }
 }
 
-/// Settling by either rule changes no run; its rows rise, each sequence once, and none is a prefix of another.
+/// Settling by either rule changes no run. The sequences of its rows rise, without duplicates, and
+/// none is a prefix of another.
 pub fn law_settle()
     ensures runs { (names : KeysymNames) (rule : rules.Rule) (table rows : List Definition)
         (keys : List ℕ) → settled rule table ≡ Ok rows
@@ -132,7 +140,8 @@ pub fn law_settle()
         → settled rule table ≡ Ok rows → IsTrue (sequences_rise rows) }
 {}
 
-/// What `Refuse` refuses is the least overlap; a table without one is settled, and `Longest` refuses none.
+/// The overlap that `Refuse` reports is the least one. A table without an overlap is settled, and
+/// `Longest` reports none.
 pub fn law_overlap()
     ensures least { (table : List Definition) (o : Overlap) → settled Refuse table ≡ Err o
         → IsLeastOverlap table o }

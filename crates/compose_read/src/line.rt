@@ -1,4 +1,4 @@
-//! What one line gives: nothing, a definition, an included source, or a fault.
+//! Reading one line: nothing, a definition, an included source, or a fault.
 ghost use Rattle.std.specs.Prelude.{◌≡◌, ◌≤◌, ◌<◌, ℕ, List, [], map, length, Option, Some, None, Ok, Err, IfOk, IfErr, IfSome, OnOk, IsTrue, MatchOption, IsUtf8, option_copied};
 ghost use Rattle.std.specs.List.{list_all};
 ghost use Rattle.keysym_core.specs.Names.{text, value};
@@ -19,10 +19,11 @@ use compose_lex::{LexFault, Said, lex_line_into};
 use keysym_core::{Keysym, Names};
 use std::alloc::AllocError;
 
-/// The most includes that lead to a line.
+/// The greatest number of nested includes.
 pub(crate) const MAX_DEPTH: usize = 8;
 
-/// Where a line stands: the index of its source, its number from 1, and how many includes lead to it.
+/// The position of a line: the index of its source, counted from 0, its number in the source,
+/// counted from 1, and the number of includes that lead to it.
 #[derive(Clone, Copy)]
 pub(crate) struct Place {
     pub(crate) source: usize,
@@ -30,7 +31,7 @@ pub(crate) struct Place {
     pub(crate) depth: usize,
 }
 
-/// What is found on a line; a definition is left in the draft.
+/// The result of reading a line. Its definition is left in the draft.
 #[derive(Drop)]
 pub(crate) enum Found {
     Nothing,
@@ -38,10 +39,10 @@ pub(crate) enum Found {
     Definition,
 }
 
-/// The names of the events of the line that was read last. Each line uses the list anew.
+/// The names of the events of the last line that was read. The list is cleared for each line.
 pub(crate) type Events<'a> = ArrayVec<&'a str, 32>;
 
-/// What the line at this place gives. Where it is known to be a text, it is not tested for UTF-8.
+/// Reads the line at this position. If it is known to be UTF-8, that is not checked again.
 pub(crate) fn read_line<'a>(
     names: &Names,
     sources: &Sources,
@@ -82,7 +83,7 @@ pub(crate) fn read_line<'a>(
     }
 }
 
-/// The line as a text, if it is one. Where it is known to be one, it is not tested.
+/// Returns the line as text, if it is UTF-8. If that is known already, it is not checked.
 fn line_text(bytes: &[u8], is_text: bool) -> Option<&str>
     requires { IsTrue is_text → IsUtf8 bytes.now }
     ensures { MatchOption result (¬ (IsUtf8 bytes.now))
@@ -94,7 +95,7 @@ fn line_text(bytes: &[u8], is_text: bool) -> Option<&str>
     str::from_utf8(bytes).ok()
 }
 
-/// The source that an include names.
+/// Returns the index of the source with the name in an include.
 fn include(sources: &Sources, place: Place, name: &str) -> Result<usize, ReadFault>
     ensures exact { (bytes : List ℕ)
         → ReadGives (λ (s : ℕ). no_definition) result
@@ -113,7 +114,7 @@ fn include(sources: &Sources, place: Place, name: &str) -> Result<usize, ReadFau
     Ok(included)
 }
 
-/// The fault of a line's part at this place.
+/// Returns the fault of a part of the line at this position.
 fn lex_fault(place: Place, fault: LexFault) -> ReadFault
     ensures { result ≡ lifted place fault }
 {
@@ -160,7 +161,7 @@ fn read_production(
     Ok(())
 }
 
-/// Reads the keysyms of the events into a draft that has none yet.
+/// Reads the keysyms of the events into a draft that has none of them yet.
 fn read_sequence(
     names: &Names,
     place: Place,
@@ -182,7 +183,7 @@ fn read_sequence(
     Ok(())
 }
 
-/// The keysym of the event at this index.
+/// Returns the keysym of the event at this index.
 fn event_keysym(names: &Names, place: Place, index: usize, event: &str) -> Result<Keysym, ReadFault>
     ensures exact { (bytes : List ℕ)
         → ReadGives (λ (k : ℕ). k) result
@@ -205,7 +206,7 @@ fn event_keysym(names: &Names, place: Place, index: usize, event: &str) -> Resul
     Ok(keysym)
 }
 
-/// Reads the text of a raw text into a draft that has none yet.
+/// Reads the text that a raw text stands for into a draft that has no text yet.
 fn read_string(place: Place, raw: &str, draft: &mut Draft) -> Result<(), ReadFault>
     requires { draft.old.row.text ≡ [] }
     ensures exact { (bytes : List ℕ)
@@ -221,7 +222,7 @@ fn read_string(place: Place, raw: &str, draft: &mut Draft) -> Result<(), ReadFau
     }
 }
 
-/// The result keysym, if its name stands.
+/// Returns the result keysym, if the production names one.
 fn result_keysym(
     names: &Names,
     place: Place,
@@ -243,7 +244,7 @@ fn result_keysym(
     Ok(Some(keysym))
 }
 
-/// Puts the text of a result keysym, if there is one, into a draft that has none yet.
+/// Appends the text of the result keysym, if there is one, to a draft that has no text yet.
 fn push_keysym_text(
     names: &Names,
     keysym: Option<Keysym>,

@@ -16,10 +16,14 @@ use arrayvec::ArrayVec;
 use keysym_core::Names;
 use std::alloc::{AllocError, Global};
 
-/// The faults of the lines that are read from the root, in reading order: the first `most` of them. A root that no source has is the one
-/// fault. No more than the first 1,000,000 lines are read, and definitions are not counted: that there are too many lines or definitions is
-/// told by [`read_definitions`](crate::read_definitions) alone. O(bytes of the lines that are visited) time, and memory for the faults and
-/// one definition.
+/// Returns the faults of the lines that are read from the root, in reading order: the first `most`
+/// of them. If no source has the name of the root, that is the only fault. At most the first
+/// 1,000,000 lines are read, and definitions are not counted: only
+/// [`read_definitions`](crate::read_definitions) reports that there are too many lines or
+/// definitions. O(bytes of the lines that are visited) time, and memory for the faults and one
+/// definition.
+///
+/// Errors: `AllocError` if memory runs out.
 pub fn read_faults(
     alloc: Global,
     names: &Names,
@@ -36,7 +40,7 @@ pub fn read_faults(
     }
 }
 
-/// The fault of a root that no source has, if a fault is asked for.
+/// Returns the fault of a root whose name no source has, unless `most` is 0.
 fn missing_root(alloc: Global, most: usize) -> Result<Vec<ReadFault>, AllocError>
     ensures { IfOk result (λ faults. faults.items ≡ take most (MissingRoot ∷ [])) }
 {
@@ -47,7 +51,7 @@ fn missing_root(alloc: Global, most: usize) -> Result<Vec<ReadFault>, AllocError
     Ok(faults)
 }
 
-/// The first `most` faults of these lines, of which 1,000,000 are read at most.
+/// Returns the first `most` faults of these lines; at most 1,000,000 lines are read.
 fn faults_in(
     alloc: Global,
     names: &Names,
@@ -76,7 +80,7 @@ fn faults_in(
     Ok(faults)
 }
 
-/// The fault of a line, if it has one. Its definition is left in the draft.
+/// Returns the fault of a line, if it has one. Its definition is left in the draft.
 fn line_fault<'a>(
     names: &Names,
     sources: &Sources,

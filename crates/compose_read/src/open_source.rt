@@ -4,7 +4,8 @@ ghost use Rattle.std.specs.Prelude.{◌<◌, ◌+◌, ◌^◌, length};
 use crate::reading::without_mark;
 use crate::sources::Sources;
 
-/// A source whose lines are visited: its place, the number of the last line that was, and the bytes that follow it.
+/// A source whose lines are being visited: its index, the number of the last line that was visited,
+/// and the bytes after that line.
 #[derive(Clone, Copy)]
 pub(crate) struct OpenSource<'a> {
     pub(crate) source: usize,
@@ -29,7 +30,7 @@ impl<'a> OpenSource<'a> {
     ghost use Rattle.compose_read.specs.Lines.{visits_below, max_depth};
     ghost use Rattle.compose_read.specs.Visits.{left_in};
 
-    /// The source at this index, of which no line is visited yet. O(1).
+    /// Returns the source at this index, with no line visited yet. O(1).
     pub(crate) fn new(sources: &'a Sources, source: usize) -> OpenSource<'a>
         requires { source < length sources.now }
         ensures { (depth : ℕ) → depth ≤ max_depth

@@ -18,23 +18,29 @@ use compose_text::first_line;
 use keysym_core::Names;
 use std::alloc::Global;
 
-/// The most lines that are read, included ones each time.
+/// The greatest number of lines that are read; those of a source count each time it is included.
 pub(crate) const MAX_LINES: usize = 1_000_000;
 
-/// The most definitions that are read.
+/// The greatest number of definitions that are read.
 pub(crate) const MAX_DEFINITIONS: usize = 100_000;
 
-/// How many bytes of a source go with one definition. It is an estimate, for the room that is asked for.
+/// An estimate of the bytes of a source for each definition, which decides how much room is
+/// reserved.
 const BYTES_A_DEFINITION: usize = 80;
 
-/// How many lines are read so far, and the draft of their definitions.
+/// The number of lines that were read so far, and the draft of their definitions.
 #[derive(Drop)]
 pub(crate) struct Progress {
     pub(crate) lines: usize,
     pub(crate) draft: Draft,
 }
 
-/// The definitions that are read from the root in reading order, or the fault of the first faulty line. O(b + d) in the bytes of all sources and the definitions: a source is gone through again only where it stands deeper than before, nine times at most, and on the way to a fault.
+/// Returns the definitions that are read from the root, in reading order. O(b + d) in the bytes of
+/// all sources and the definitions: the lines of a source are read again only if it is included
+/// more deeply than before, so at most nine times, or if a limit would be exceeded.
+///
+/// Errors: the fault of the first faulty line; `MissingRoot` if no source has the name of the root;
+/// `NoMemory` if memory runs out.
 pub fn read_definitions(
     alloc: Global,
     names: &Names,
@@ -66,7 +72,9 @@ pub fn read_definitions(
     Ok(progress.draft.into_definitions())
 }
 
-/// Reads all lines of a source on, and behind each include those of the included source; so many levels are left below it. What it gives is kept, and where that is known, its lines are not gone through again.
+/// Reads all lines of a source, and after each include those of the included source; `left` is the
+/// number of levels that are left below it. The result is kept, and if it was kept before, the
+/// lines are not read again.
 fn read_source<'a>(
     names: &Names,
     sources: &'a Sources,
@@ -124,7 +132,8 @@ fn read_source<'a>(
     Ok(())
 }
 
-/// What is kept of a source, if it was read where no more levels were left below it, and if it passes no limit when it is read on from here.
+/// Returns what is kept of a source, if no more levels were left below it then, and if repeating it
+/// here exceeds no limit.
 fn kept_source(kept: &Kept, source: usize, left: usize, progress: &Progress) -> Option<KeptSource>
     requires { source < 64 }
     ensures found { IfSome result
@@ -143,7 +152,7 @@ fn kept_source(kept: &Kept, source: usize, left: usize, progress: &Progress) -> 
     Some(again)
 }
 
-/// Reads the line at this place on. Where it includes a source, the answer is the index of this one.
+/// Reads the line at this position. If it includes a source, returns the index of that source.
 fn take_line<'a>(
     names: &Names,
     sources: &Sources,
@@ -188,7 +197,7 @@ fn take_line<'a>(
     }
 }
 
-/// The bytes without a UTF-8 byte order mark at their beginning.
+/// Returns the bytes without a leading UTF-8 byte order mark.
 pub(crate) fn without_mark(bytes: &[u8]) -> &[u8]
     ensures { result.now ≡ without_mark bytes.now }
 {

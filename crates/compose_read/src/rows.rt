@@ -1,4 +1,4 @@
-//! Rows that stand one behind another in flat arrays.
+//! Rows one after another in flat arrays.
 //!
 //! `<a> <b> : "x"` and `<c> : "yz"` make
 //!
@@ -15,7 +15,7 @@ ghost use Rattle.compose_read.specs.Rows.{sequence_at};
 use keysym_core::Keysym;
 use std::marker::Model;
 
-/// Where the keysyms and the text of a row stand, in 12 bytes without a gap.
+/// The position of the keysyms and of the text of a row, in 12 bytes without padding.
 #[derive(Clone, Copy)]
 pub(crate) struct RowSpan {
     pub(crate) first_keysym: u32,
@@ -24,7 +24,7 @@ pub(crate) struct RowSpan {
     pub(crate) byte_count: u16,
 }
 
-/// Definitions in flat arrays: 12 bytes a row, and its keysyms and its text.
+/// Definitions in flat arrays: 12 bytes for each row, and its keysyms and its text.
 #[derive(Drop)]
 pub(crate) struct Rows {
     pub(crate) keysyms: Vec<Keysym>,
@@ -47,14 +47,14 @@ impl Model for Rows {
 impl Rows {
     ghost use Rattle.std.specs.Prelude.{◌≡◌, ◌<◌, length, Some, slice_get, option_map};
 
-    /// How many rows there are. O(1).
+    /// Returns the number of rows. O(1).
     pub(crate) fn len(&self) -> usize
         ensures { result ≡ length self.now }
     {
         self.spans.len()
     }
 
-    /// The sequence of the row at this index. O(1).
+    /// Returns the sequence of the row at this index. O(1).
     pub(crate) fn sequence(&self, index: usize) -> &[Keysym]
         requires { index < length self.now }
         ensures { option_map (λ d. d.sequence) (slice_get self.now index) ≡ Some result.now }
@@ -62,7 +62,7 @@ impl Rows {
         keysyms_at(&self.keysyms, self.spans[index])
     }
 
-    /// The text of the row at this index. O(1).
+    /// Returns the text of the row at this index. O(1).
     pub(crate) fn text(&self, index: usize) -> &str
         requires { index < length self.now }
         ensures { option_map (λ d. d.text) (slice_get self.now index) ≡ Some result.now }
@@ -74,14 +74,14 @@ impl Rows {
     }
 }
 
-/// The keysyms of a row with this span; none after the end. O(1).
+/// Returns the keysyms of a row with this span; none if it lies after the end. O(1).
 pub(crate) fn keysyms_at(keysyms: &[Keysym], span: RowSpan) -> &[Keysym]
     ensures { result.now ≡ sequence_at keysyms.now span }
 {
     part_at(keysyms, span)
 }
 
-/// The part that a row's span of keysyms has; nothing after the end. O(1).
+/// Returns the items in a row's span of keysyms; none if it lies after the end. O(1).
 pub(crate) fn part_at<T>(items: &[T], span: RowSpan) -> &[T]
     ensures { result.now ≡ take span.keysym_count (drop span.first_keysym items.now) }
 {

@@ -3,7 +3,8 @@ use crate::rows::Rows;
 use keysym_core::Keysym;
 use std::marker::Model;
 
-/// The settled sequences of a table, in rising order, each once, and none of which is a prefix of another. They are at most 100,000.
+/// The settled sequences of a table, in rising order, without duplicates, and none a prefix of
+/// another; at most 100,000.
 #[derive(Drop)]
 pub struct Sequences {
     rows: Rows,
@@ -27,7 +28,7 @@ impl Sequences {
     ghost use Rattle.compose_read.specs.Read.{max_definitions};
     ghost use Rattle.compose_read.specs.Settle.{IsSettled};
 
-    /// The sequences of these rows.
+    /// Returns the sequences of these rows.
     pub(crate) fn from_rows(rows: Rows) -> Sequences
         requires settled { IsSettled rows }
         requires few { length rows ≤ max_definitions }
@@ -36,7 +37,7 @@ impl Sequences {
         Sequences { rows }
     }
 
-    /// How many sequences there are, at most 100,000. O(1).
+    /// Returns the number of sequences, at most 100,000. O(1).
     pub fn len(&self) -> usize
         ensures count { result ≡ length self.now }
         ensures settled { IsSettled self.now }
@@ -45,7 +46,7 @@ impl Sequences {
         self.rows.len()
     }
 
-    /// The sequence at this index. O(1).
+    /// Returns the sequence at this index. O(1).
     pub fn sequence(&self, index: usize) -> &[Keysym]
         requires { index < length self.now }
         ensures { option_map (λ d. d.sequence) (slice_get self.now index) ≡ Some result.now }
@@ -53,7 +54,7 @@ impl Sequences {
         self.rows.sequence(index)
     }
 
-    /// The text of the sequence at this index. O(1).
+    /// Returns the text of the sequence at this index. O(1).
     pub fn text(&self, index: usize) -> &str
         requires { index < length self.now }
         ensures { option_map (λ d. d.text) (slice_get self.now index) ≡ Some result.now }

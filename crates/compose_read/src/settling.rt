@@ -1,4 +1,4 @@
-//! Settling: each sequence once, in rising order, and none that is a prefix of another.
+//! Settling: each sequence once, in rising order, and none a prefix of another.
 ghost use Rattle.std.specs.Prelude.{◌≡◌, ◌≤◌, ◌<◌, ℕ, List, length, nat_eq, true, false, IfOk};
 ghost use Rattle.compose_model.specs.Table.{Definition};
 ghost use Rattle.keysym_core.specs.Names.{KeysymNames};
@@ -21,12 +21,14 @@ use keysym_core::{KeyList, Keysym};
 use std::alloc::{AllocError, AllocFailed, Global};
 use thiserror::Error;
 
-/// Why definitions are not settled.
+/// The reason why definitions cannot be settled.
 #[derive(Debug, PartialEq, Eq, Drop, Error)]
 pub enum SettleFault {
-    /// The least sequence that is a prefix of another one, and the least that it is a prefix of.
+    /// An overlap: the least sequence that is a prefix of another one, and the least one that it is
+    /// a prefix of.
     #[error("1 Overlap short={short} long={long}")]
     Overlap { short: KeyList, long: KeyList },
+    /// Memory ran out.
     #[error("2 NoMemory")]
     NoMemory,
 }
@@ -47,7 +49,12 @@ impl<T: Drop> From<AllocFailed<T>> for SettleFault {
     }
 }
 
-/// The sequences of the definitions in rising order, each with the text of its last definition. Where one is a prefix of another, the rule decides: the table is refused, or the longer one overrides the shorter one (libxkbcommon). O(n log n) comparisons of sequences.
+/// Returns the sequences of the definitions in rising order, each with the text of its last
+/// definition. If one is a prefix of another, the rule decides: the table is rejected, or the
+/// longer one overrides the shorter one (libxkbcommon). O(n log n) comparisons of sequences.
+///
+/// Errors: `Overlap` if one sequence is a prefix of another and the rule is `Refuse`; `NoMemory` if
+/// memory runs out.
 pub fn settle(alloc: Global, definitions: Definitions, rule: Rule) -> Result<Sequences, SettleFault>
     ensures exact { SettleGives (λ (rows : List Definition). rows) result
         (settled rule definitions) }
@@ -67,7 +74,7 @@ pub fn settle(alloc: Global, definitions: Definitions, rule: Rule) -> Result<Seq
     }))
 }
 
-/// The spans of the rows that stay of these, which rise.
+/// Returns the spans of the rows that are kept, given all spans in rising order.
 fn settle_sorted(
     alloc: Global,
     keysyms: &[Keysym],
@@ -101,7 +108,8 @@ fn settle_sorted(
     Ok(kept)
 }
 
-/// Leaves out a row whose sequence is a prefix of that of the next one, or refuses it where that one is longer and the rule says so.
+/// Leaves out a row whose sequence is a prefix of that of the next one, or reports an overlap if
+/// the next one is longer and the rule is `Refuse`.
 fn leave_out(short: &[Keysym], long: &[Keysym], rule: Rule) -> Result<(), SettleFault>
     requires few { (length short.now ≤ 32) × (length long.now ≤ 32) }
     requires is_prefix { starts_with nat_eq long.now short.now ≡ true }
@@ -120,7 +128,8 @@ fn leave_out(short: &[Keysym], long: &[Keysym], rule: Rule) -> Result<(), Settle
     }
 }
 
-/// Whether the first of two sequences is a prefix of the second one. Where it does not, the keysym at its end mostly tells.
+/// Returns whether the first of two sequences is a prefix of the second one. If it is not,
+/// comparing the last keysym first mostly shows that at once.
 fn is_prefix(short: &[Keysym], long: &[Keysym]) -> bool
     ensures { result ≡ starts_with nat_eq long.now short.now }
 {
@@ -131,7 +140,7 @@ fn is_prefix(short: &[Keysym], long: &[Keysym]) -> bool
     short[last] == long[last] && long.starts_with(short)
 }
 
-/// A copy of at most 32 keysyms.
+/// Returns a copy of at most 32 keysyms.
 fn key_list(keys: &[Keysym]) -> KeyList
     requires { length keys.now ≤ 32 }
     ensures { result.0.items ≡ keys.now }

@@ -1,4 +1,5 @@
-//! The order in which definitions are settled: by their sequences, and those of one sequence as they were read. Sort keys do most of it.
+//! The order in which definitions are settled: by their sequences, and those of one sequence in
+//! reading order. Sort keys do most of it.
 ghost use Rattle.std.specs.Prelude.{◌≡◌, ◌≤◌, ◌<◌, ◌+◌, ◌*◌, ◌%◌, ℕ, List, length, map, slice_index, slice_index_or, IfOk, OnOk};
 ghost use Rattle.compose_model.specs.Table.{IsSameTable};
 ghost use Rattle.compose_read.specs.Read.{max_definitions};
@@ -13,7 +14,8 @@ use crate::rows::{RowSpan, keysyms_at, part_at};
 use keysym_core::Keysym;
 use std::alloc::{AllocError, Global};
 
-/// The spans in rising order of their sequences, those of one sequence in the order in which they were. The order of the sort keys leaves little to the sort.
+/// Returns the spans in rising order of their sequences; those of one sequence keep their order.
+/// After the sort by sort keys, little is left to sort.
 pub(crate) fn sorted(
     alloc: Global,
     keysyms: &[Keysym],
@@ -35,7 +37,9 @@ pub(crate) fn sorted(
     Ok(sorted)
 }
 
-/// The spans in the order of their sort keys, and those whose sort keys differ by the index alone in that of their sequences. It is quick, since numbers are sorted, and few sequences.
+/// Returns the spans in the order of their sort keys, and those whose sort keys differ only in the
+/// index in the order of their sequences. This is fast: mostly numbers are sorted, and few
+/// sequences.
 fn sorted_by_prefix(
     alloc: Global,
     keysyms: &[Keysym],
@@ -52,7 +56,8 @@ fn sorted_by_prefix(
     Ok(picked)
 }
 
-/// Puts each run of spans whose sort keys differ by the index alone in the order of their sequences. O(n) for runs of one, O(n log n) comparisons of sequences at most.
+/// Sorts each run of spans whose sort keys differ only in the index by their sequences. O(n) if
+/// each run is a single span, O(n log n) comparisons of sequences at most.
 fn sort_runs(
     alloc: Global,
     keysyms: &[Keysym],
@@ -73,7 +78,8 @@ fn sort_runs(
     sort_run(alloc, keysyms, &mut spans[start..])
 }
 
-/// Puts spans in the order of their sequences, those of one sequence in the order in which they were. O(n log n) comparisons, O(n) where they are in order.
+/// Sorts spans by their sequences; those of one sequence keep their order. O(n log n) comparisons,
+/// O(n) if they are sorted already.
 fn sort_run(alloc: Global, keysyms: &[Keysym], run: &mut [RowSpan]) -> Result<(), AllocError>
     ensures permutation { IsPermutation run.old run.new }
     ensures sorted { OnOk result (IsSortedBy (by_sequence keysyms.now) run.new) }
@@ -88,7 +94,7 @@ fn sort_run(alloc: Global, keysyms: &[Keysym], run: &mut [RowSpan]) -> Result<()
     )
 }
 
-/// The spans at the indexes that these sort keys have in their low 17 bits.
+/// Returns the spans at the indexes in the low 17 bits of these sort keys.
 fn picked(alloc: Global, spans: &[RowSpan], sort_keys: &[u64]) -> Result<Vec<RowSpan>, AllocError>
     requires { All (λ n. n % 131072 < length spans.now) sort_keys.now }
     ensures { IfOk result
@@ -102,7 +108,7 @@ fn picked(alloc: Global, spans: &[RowSpan], sort_keys: &[u64]) -> Result<Vec<Row
     Ok(picked)
 }
 
-/// The sort keys of the spans.
+/// Returns the sort keys of the spans.
 fn sort_keys(alloc: Global, keysyms: &[Keysym], spans: &[RowSpan]) -> Result<Vec<u64>, AllocError>
     requires { length spans.now < 131072 }
     ensures { IfOk result (λ r. AreSortKeys keysyms.now spans.now r.items) }
@@ -115,7 +121,7 @@ fn sort_keys(alloc: Global, keysyms: &[Keysym], spans: &[RowSpan]) -> Result<Vec
     Ok(sort_keys)
 }
 
-/// The sort keys of these keysyms.
+/// Returns the sort keys of these keysyms.
 fn keysym_sort_keys(alloc: Global, keysyms: &[Keysym]) -> Result<Vec<u16>, AllocError>
     ensures { IfOk result (λ r. r.items ≡ map keysym_sort_key keysyms.now) }
 {
@@ -125,13 +131,14 @@ fn keysym_sort_keys(alloc: Global, keysyms: &[Keysym]) -> Result<Vec<u16>, Alloc
         .collect(alloc)
 }
 
-/// How many indexes a sort key can have: more than there are definitions.
+/// The number of indexes that a sort key can have: more than there are definitions.
 const INDEXES: u64 = 1 << 17;
 
-/// Each sort key of a keysym is below this.
+/// The sort key of a keysym is below this.
 const KEYSYM_SORT_KEYS: u64 = 1 << 15;
 
-/// The sort key of a span: those of its sequence's first three keysyms, and its index in the 17 bits below them.
+/// Returns the sort key of a span: those of the first three keysyms of its sequence, and its index
+/// in the 17 bits below them.
 #[tactic(auto, unfolding(crate::specs::SortKeys::prefix_sort_key))]
 fn sort_key_of(keysym_sort_keys: &[u16], index: u32) -> u64
     ensures { result ≡ prefix_sort_key keysym_sort_keys.now * 131072 + index }
@@ -143,7 +150,7 @@ fn sort_key_of(keysym_sort_keys: &[u16], index: u32) -> u64
     prefix_sort_key * INDEXES + u64::from(index)
 }
 
-/// The keysym's sort key at this index; 0 after the end.
+/// Returns the sort key of the keysym at this index; 0 after the end.
 fn keysym_sort_key_at(keysym_sort_keys: &[u16], index: usize) -> u64
     ensures same { result ≡ slice_index keysym_sort_keys.now index }
     ensures fits { result < 65536 }
@@ -154,7 +161,9 @@ fn keysym_sort_key_at(keysym_sort_keys: &[u16], index: usize) -> u64
     }
 }
 
-/// The sort key of a keysym, which never falls where keysyms rise. Keysyms below 0x2100, those from 0xfe00 to 0xffff and Unicode keysyms up to U+5CFF have one each.
+/// Returns the sort key of a keysym, which is never less than that of a lesser keysym. Keysyms
+/// below 0x2100, those from 0xfe00 to 0xffff and Unicode keysyms up to U+5CFF have sort keys of
+/// their own.
 fn keysym_sort_key(keysym: Keysym) -> u16
     ensures { result ≡ keysym_sort_key keysym }
 {

@@ -9,13 +9,16 @@ use std::alloc::{AllocError, AllocFailed, Global};
 use std::marker::Model;
 use thiserror::Error;
 
-/// Why a source is not added.
+/// The reason why a source cannot be added.
 #[derive(Clone, Copy, Debug, PartialEq, Eq, Drop, Error)]
 pub enum SourceFault {
+    /// There is a source with this name already.
     #[error("1 NameTaken")]
     NameTaken,
+    /// There are 64 sources already.
     #[error("2 TooManySources")]
     TooManySources,
+    /// Memory ran out.
     #[error("3 NoMemory")]
     NoMemory,
 }
@@ -36,7 +39,8 @@ impl<T: Drop> From<AllocFailed<T>> for SourceFault {
     }
 }
 
-/// Files by the names under which includes find them, in the order in which they were added; at most 64.
+/// Files under the names by which includes find them, in the order in which they were added; at
+/// most 64.
 #[derive(Drop)]
 pub struct Sources {
     files: IndexMap<String, Vec<u8>>,
@@ -55,10 +59,10 @@ impl Model for Sources {
 }
 
 impl Sources {
-    /// The most sources.
+    /// The greatest number of sources.
     pub const MOST: usize = 64;
 
-    /// No sources. It takes no memory.
+    /// Returns an empty list of sources. It takes no memory.
     pub fn new(alloc: Global) -> Sources
         ensures { result ≡ [] }
     {
@@ -67,7 +71,7 @@ impl Sources {
         }
     }
 
-    /// How many sources there are: at most 64, whose names are distinct. O(1).
+    /// Returns the number of sources: at most 64, whose names are distinct. O(1).
     pub fn count(&self) -> usize
         ensures count { result ≡ length self.now }
         ensures sound { AreSources self.now }
@@ -75,7 +79,7 @@ impl Sources {
         self.files.len()
     }
 
-    /// The name of the source at this index, if there is one. O(1).
+    /// Returns the name of the source at this index, if there is one. O(1).
     pub fn name(&self, index: usize) -> Option<&str>
         ensures { option_copied result ≡ option_map (λ s. s.name) (slice_get self.now index) }
     {
@@ -83,7 +87,11 @@ impl Sources {
         Some(name.as_str())
     }
 
-    /// Adds a source behind the others. A refusal changes nothing. O(1) in the sources, beside the copy of the name.
+    /// Adds a source after the others. An error changes nothing. O(1) in the number of sources, and
+    /// a copy of the name.
+    ///
+    /// Errors: `NameTaken` if there is a source with this name, else `TooManySources` if there are
+    /// 64 sources; `NoMemory` if memory runs out.
     pub fn add(&mut self, name: &str, bytes: Vec<u8>) -> Result<(), SourceFault>
         ensures ok { OnOk result
             ((add_fault self.old name.now ≡ None)
@@ -103,7 +111,7 @@ impl Sources {
         Ok(())
     }
 
-    /// The index of the source with this name, if there is one. O(1).
+    /// Returns the index of the source with this name, if there is one. O(1).
     pub(crate) fn index_of(&self, name: &str) -> Option<usize>
         ensures index { result ≡ position (λ s. bytes_eq name.now s.name) self.now }
         ensures within { IfSome result (λ i. i < length self.now) }
@@ -112,7 +120,7 @@ impl Sources {
         self.files.get_index_of(name)
     }
 
-    /// The bytes of the source at this index. O(1).
+    /// Returns the bytes of the source at this index. O(1).
     pub fn bytes(&self, index: usize) -> &[u8]
         requires { index < length self.now }
         ensures { option_map (λ s. s.bytes) (slice_get self.now index) ≡ Some result.now }
@@ -120,7 +128,7 @@ impl Sources {
         self.files[index].as_slice()
     }
 
-    /// Puts a source with a new name behind the others, if there is memory.
+    /// Adds a source with a new name after the others.
     fn append(&mut self, name: &str, bytes: Vec<u8>) -> Result<(), AllocError>
         requires new { position (λ s. bytes_eq name.now s.name) self.old ≡ None }
         requires room { length self.old < 64 }

@@ -13,14 +13,14 @@ use compose_lex::{Said, lex_line_into};
 use compose_text::{blank_len, first_line};
 use std::marker::Model;
 
-/// A line as it is met in reading order.
+/// A line as it is visited in reading order.
 #[derive(Clone, Copy, Debug, PartialEq, Eq)]
 pub struct VisitedLine<'a> {
-    /// The index of its source among the sources, from 0.
+    /// The index of its source, counted from 0.
     pub source: usize,
-    /// Its number in that source, from 1.
+    /// Its number in that source, counted from 1.
     pub line: usize,
-    /// How many includes lead to it, at most eight.
+    /// The number of includes that lead to it, at most eight.
     pub depth: usize,
     /// Its bytes, without the newline.
     pub bytes: &'a [u8],
@@ -29,8 +29,9 @@ pub struct VisitedLine<'a> {
 /// The open sources, each included by the one before it.
 type OpenSources<'a> = ArrayVec<OpenSource<'a>, 9>;
 
-/// The lines that are left to visit of a root and all that it includes, each include's lines after the include. It takes no memory. All lines
-/// together cost O(bytes of the lines that are visited).
+/// The lines of a root and all that it includes that are still to be visited, the lines of an
+/// included source after the include. It takes no memory. All lines together cost O(bytes of the
+/// lines that are visited).
 #[derive(Drop)]
 pub struct Visits<'a> {
     sources: &'a Sources,
@@ -53,7 +54,8 @@ impl Sources {
     ghost use Rattle.std.specs.Prelude.{◌≡◌, nat_lt, if◌then◌else◌, length, Some, None};
     ghost use Rattle.compose_read.specs.Lines.{source_named, visits};
 
-    /// All lines that are read from the source with the root's name, in reading order; none where no source has that name. O(1).
+    /// Returns all lines that are read from the source with the root's name, in reading order;
+    /// `None` if no source has that name. O(1).
     pub fn visits(&self, root: &str) -> Option<Visits<'_>>
         ensures { result
             ≡ (if nat_lt (source_named self.now root.now) (length self.now) then Some
@@ -86,7 +88,7 @@ impl<'a> Iterator for Visits<'a> {
     }
 }
 
-/// The next line of the last open source that has one; those that have none are closed.
+/// Returns the next line of the last open source that has one; those that have none are closed.
 fn take_line<'a>(opened: &mut OpenSources<'a>) -> Option<VisitedLine<'a>>
     requires { length opened.old.items ≤ 9 }
     ensures lines { (sources : List Source)
@@ -115,7 +117,8 @@ fn take_line<'a>(opened: &mut OpenSources<'a>) -> Option<VisitedLine<'a>>
     None
 }
 
-/// Opens the source that a line of the last open source includes, unless too many includes lead to that line.
+/// Opens the source that a line of the last open source includes, unless too many includes lead to
+/// that line.
 fn open_included<'a>(sources: &'a Sources, visited: VisitedLine<'a>, opened: &mut OpenSources<'a>)
     requires depth { (length opened.old.items ≡ visited.depth + 1) × (visited.depth ≤ max_depth) }
     ensures lines { below sources.now (max_depth - visited.entry.depth) (visit_of visited.entry)
@@ -131,7 +134,8 @@ fn open_included<'a>(sources: &'a Sources, visited: VisitedLine<'a>, opened: &mu
     }
 }
 
-/// The source that a line includes, where nothing is wrong with the line but perhaps its place. O(bytes).
+/// Returns the index of the source that a line includes, if the line has no fault, except perhaps
+/// that it is nested too deeply. O(bytes).
 fn included(sources: &Sources, bytes: &[u8]) -> Option<usize>
     ensures included { result ≡ included sources.now bytes.now }
     ensures within { IfSome result (λ s. s < length sources.now) }
@@ -140,7 +144,8 @@ fn included(sources: &Sources, bytes: &[u8]) -> Option<usize>
     sources.index_of(name)
 }
 
-/// The raw text of the line's include, if it is one. O(bytes), and O(blanks) of a line that begins with another word.
+/// Returns the raw text of the line's include, if it is one. O(bytes), and O(blanks) if the line
+/// begins with another word.
 fn raw_include(line: &[u8]) -> Option<&str>
     ensures { option_copied result ≡ raw_include line.now }
 {
@@ -157,7 +162,7 @@ fn raw_include(line: &[u8]) -> Option<&str>
     }
 }
 
-/// Whether the line begins with the word `include`, after blanks.
+/// Returns whether the line begins with the word `include`, after blanks.
 fn begins_include(line: &[u8]) -> bool
     ensures { result ≡ starts_with nat_eq (skip_blanks line.now) (codes "include") }
 {

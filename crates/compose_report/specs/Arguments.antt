@@ -1,4 +1,5 @@
--- What is printed of arguments that are no command (this project's profile): help on standard output, a refusal on standard error.
+-- What is printed if the arguments are not a command (defined by this project): help on standard
+-- output, a refusal on standard error.
 use Rattle.std.specs.Prelude.{◌≡◌, ℕ, List, [], None, string_bytes, codes}
 use Rattle.clap.specs.declared.error.kind.ErrorKind.{ErrorKind}
 use Rattle.clap.specs.declared.error.kind.ErrorKind.TheVariants.{DisplayHelp, DisplayVersion, OutOfMemory}
@@ -6,13 +7,14 @@ use Rattle.compose_shown.specs.Shown.{shown_lines}
 use Rattle.compose_report.specs.Ends.{arguments_end}
 use Rattle.compose_report.specs.declared.outcome.Outcome.{Outcome}
 
--- the help, or the version, that is asked for
+-- the help or the version, if it is asked for
 abbrev pub help_lines : ErrorKind → List ℕ → List ℕ
 help_lines DisplayHelp text = text
 help_lines DisplayVersion text = text
 help_lines kind text = []
 
--- why they are refused, as a terminal may show it; that memory was refused is said in this program's words
+-- why the arguments are refused, as a terminal may show it; this program has its own words if
+-- memory runs out
 abbrev pub error_lines : ErrorKind → List ℕ → List ℕ
 error_lines DisplayHelp text = []
 error_lines DisplayVersion text = []

@@ -1,4 +1,4 @@
--- What is printed of an exchange with a service (this project's profile).
+-- What is printed for an exchange with a service (this project's format).
 use Rattle.std.specs.Prelude.{◌≡◌, ℕ, List, [], None, string_bytes, codes}
 use Rattle.compose_session.specs.declared.told.End.{End}
 use Rattle.compose_session.specs.declared.told.End.TheVariants.{Answered, Refused, Closed, Unexpected}
@@ -6,7 +6,7 @@ use Rattle.compose_session.specs.declared.told.Report.{Report}
 use Rattle.compose_report.specs.Ends.{exchange_end}
 use Rattle.compose_report.specs.declared.outcome.Outcome.{Outcome}
 
--- why it has no end; nothing where it has one
+-- why the exchange is incomplete; nothing if it is complete
 abbrev pub refusal_of : End → List ℕ
 refusal_of Answered = []
 refusal_of Refused = []

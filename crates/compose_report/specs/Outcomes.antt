@@ -1,5 +1,5 @@
--- What a run prints and how it ends (this project's profile).
--- `own` is what the fault of an invalid certificate, or a refusal, is printed as: these texts are derived, and no contract speaks of them.
+-- What a run prints and how it ends (defined by this project). `own` is the printed form of the
+-- fault of an invalid certificate, or of a refusal: it is derived, and no contract describes it.
 use Rattle.std.specs.Prelude.{◌≡◌, ℕ, Bool, true, false, List, [], ◌∷◌, ◌++◌, map, slice_get, None, Result, Ok, Err, string_bytes, codes}
 use Rattle.std.specs.Option.{option_map_or}
 use Rattle.keysym_core.specs.Printed.{shown_keysym}
@@ -19,7 +19,7 @@ use Rattle.compose_details.specs.Refusals.{IsRefusalDetails}
 use Rattle.compose_details.specs.declared.given.Given.{Given}
 use Rattle.compose_report.specs.declared.outcome.Outcome.{Outcome}
 
--- ---- what is printed by a run with one text
+-- ---- a run that prints one text
 
 pub record PrintsOutput (text : List ℕ) (ended : Ended) (outcome : Outcome) : Type 0 where
   pub notes : string_bytes outcome.notes ≡ []
@@ -52,7 +52,7 @@ answer_text own (No text) = string_bytes text
 answer_text own (Invalid fault) = codes "no: " ++ (own ++ 10 ∷ [])
 answer_text own (FreshNotAllowed keysym) = codes "no: 16 FreshNotAllowed keysym=" ++ (shown_keysym keysym ++ 10 ∷ [])
 
--- the line of the argument with this index, which has no keysym
+-- the line of a refused argument: the one with this index, which has no keysym
 abbrev pub key_line : List ℕ → List (List ℕ) → ℕ → List ℕ
 key_line own arguments index = option_map_or (λ argument. codes "refused: key: " ++ (shown_text argument ++ 10 ∷ [])) (slice_get arguments index) (own ++ 10 ∷ [])
 
@@ -70,13 +70,15 @@ abbrev pub error_text : List ℕ → List (List ℕ) → Result Answer Refusal �
 error_text own arguments (Ok answer) = []
 error_text own arguments (Err refusal) = refusal_line own arguments refusal
 
--- the line of a refusal and its details; for people, where the line is not asked for, the details alone if there are some
+-- the line of a refusal and its details; for people (not `numbered`) the details alone, if there
+-- are any
 abbrev pub told_text : Bool → List ℕ → List ℕ → List ℕ
 told_text true line details = line ++ details
 told_text false line [] = line
 told_text false line (b ∷ details) = b ∷ details
 
--- the outcome of what is answered, or refused, to these arguments, with these details, for people unless it is numbered
+-- the outcome of an answer or a refusal on these arguments, with these details; for people unless
+-- `numbered`
 pub record IsTold (numbered : Bool) (own : List ℕ) (arguments : List (List ℕ)) (details : List ℕ) (answered : Result Answer Refusal) (outcome : Outcome) : Type 0 where
   pub notes : string_bytes outcome.notes ≡ []
   pub output : string_bytes outcome.output ≡ output_text own answered
@@ -94,7 +96,8 @@ IsDetailed false given answered details = details ≡ []
 IsDetailed true given (Ok answer) details = IsAnswerDetails given answer details
 IsDetailed true given (Err refusal) details = IsRefusalDetails given refusal details
 
--- the outcome of what is answered, or refused, to what was given, with what `-v` adds where it is asked for, for people unless it is numbered
+-- the outcome of an answer or a refusal on the input, with what `-v` adds if `verbose`; for people
+-- unless `numbered`
 pub record IsWorded (numbered verbose : Bool) (given : Given) (answered : Result Answer Refusal) (outcome : Outcome) : Type 0 where
   pub own : List ℕ
   pub details : List ℕ
@@ -105,7 +108,7 @@ pub record IsWorded (numbered verbose : Bool) (given : Given) (answered : Result
 abbrev pub IsReported : Bool → Given → Result Answer Refusal → Outcome → Type 0
 IsReported verbose given answered outcome = IsWorded true verbose given answered outcome
 
--- ---- what can't be read
+-- ---- unreadable input
 
 abbrev pub fault_end : Fault → Ended
 fault_end FaultNoMemory = ends.NoMemory
@@ -115,6 +118,6 @@ fault_end fault = ends.Refused
 abbrev pub IsFaultOutcome : Bool → Fault → Outcome → Type 0
 IsFaultOutcome verbose fault outcome = (own : List ℕ) × PrintsErrors (fault_lines own verbose fault) (fault_end fault) outcome
 
--- the same for people: where the fault is, and why
+-- the same for people: the place of the fault, and the reason
 abbrev pub IsFaultWorded : Fault → Outcome → Type 0
 IsFaultWorded fault outcome = (own : List ℕ) × PrintsErrors (fault_words own fault) (fault_end fault) outcome

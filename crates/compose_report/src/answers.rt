@@ -1,4 +1,4 @@
-//! The outcome of an answer, or of why there is none.
+//! The outcome of an answer or of a refusal.
 ghost use Rattle.std.specs.Prelude.{◌≡◌, ◌++◌, ℕ, true, List, map, Err, IfOk, string_bytes};
 ghost use Rattle.compose_report.specs.Outcomes as outcomes;
 ghost use Rattle.compose_report.specs.Outcomes.{IsDetailed, IsOutcome, IsReported, IsTold, IsWorded};
@@ -10,9 +10,11 @@ use compose_shown::Shown;
 use compose_tree::ComposeTable;
 use std::alloc::{AllocError, Global};
 
-/// The outcome of an answer, or of a refusal, to what was given: the answer on standard output, or one line on standard error, and with
-/// `verbose` below it what there is to say of it: of a refusal each faulty line with its file, line and column, and hints; of `no` the keys
-/// and the places of their sequences. O(bytes of the answer), and with `verbose` at the cost of reading the tables once more.
+/// Returns the outcome of an answer to the input, or of a refusal: the answer on standard output,
+/// or one line on standard error. With `verbose` the details follow: for a refusal each faulty line
+/// with its file, line and column, and hints; for `no` the keys, and the places of their sequences.
+/// O(bytes of the answer); with `verbose` the tables are read once more.
+/// Errors: `AllocError` if memory runs out.
 pub fn outcome_of<T: ComposeTable>(
     alloc: Global,
     verbose: bool,
@@ -24,7 +26,9 @@ pub fn outcome_of<T: ComposeTable>(
     worded_outcome::<T>(alloc, true, verbose, given, answered)
 }
 
-/// The same outcome, for people unless `numbered`: the line of a refusal is printed only where nothing is below it. At the same cost.
+/// Returns the same outcome; unless `numbered`, for people, who get the line of a refusal only if
+/// there are no details. Takes the same time.
+/// Errors: `AllocError` if memory runs out.
 pub fn worded_outcome<T: ComposeTable>(
     alloc: Global,
     numbered: bool,
@@ -38,7 +42,9 @@ pub fn worded_outcome<T: ComposeTable>(
     told_outcome(alloc, numbered, given.arguments, answered, &details)
 }
 
-/// The outcome of a refusal of what was given, with what `-v` adds, for people unless `numbered`. At the cost of reading the tables once more.
+/// Returns the outcome of a refusal of the input, with what `-v` adds; for people unless
+/// `numbered`. The tables are read once more.
+/// Errors: `AllocError` if memory runs out.
 pub fn worded_refusal(
     alloc: Global,
     numbered: bool,
@@ -51,7 +57,7 @@ pub fn worded_refusal(
     told_outcome(alloc, numbered, given.arguments, Err(refusal), &details)
 }
 
-/// What `-v` adds to an answer, or to why there is none; nothing where it is not asked for.
+/// Returns what `-v` adds to an answer or to a refusal; an empty text unless `verbose`.
 fn details_of<T: ComposeTable>(
     alloc: Global,
     verbose: bool,
@@ -70,7 +76,9 @@ fn details_of<T: ComposeTable>(
     }
 }
 
-/// The outcome of an answer, or of a refusal, to these arguments, with these details below it. O(bytes).
+/// Returns the outcome of an answer or a refusal on these arguments, followed by these details.
+/// O(bytes).
+/// Errors: `AllocError` if memory runs out.
 pub fn outcome_with(
     alloc: Global,
     arguments: &[&str],
@@ -85,7 +93,7 @@ pub fn outcome_with(
     told_outcome(alloc, true, arguments, answered, &details)
 }
 
-/// The same outcome, for people unless `numbered`.
+/// Returns the same outcome; for people unless `numbered`.
 fn told_outcome(
     alloc: Global,
     numbered: bool,
@@ -102,7 +110,8 @@ fn told_outcome(
     outcome_by(alloc, numbered, arguments, answered, details, &own)
 }
 
-/// What the fault of an invalid certificate, or a refusal, is printed as; nothing of another answer.
+/// Returns the printed form of the fault of an invalid certificate, or of a refusal; an empty text
+/// for another answer.
 fn own_text(alloc: Global, answered: &Result<Answer, Refusal>) -> Result<String, AllocError> {
     match answered {
         Ok(Answer::Invalid(fault)) => format!(in alloc; "{fault}"),
@@ -111,7 +120,7 @@ fn own_text(alloc: Global, answered: &Result<Answer, Refusal>) -> Result<String,
     }
 }
 
-/// The same outcome, by what the fault or the refusal is printed as.
+/// Returns the same outcome, given the printed form of the fault or of the refusal.
 fn outcome_by(
     alloc: Global,
     numbered: bool,
@@ -136,7 +145,9 @@ fn outcome_by(
     })
 }
 
-/// The line of a refusal and what there is to say of it; this alone where there is something, unless `numbered`. O(bytes).
+/// Returns the line of a refusal followed by its details; unless `numbered`, the details alone, if
+/// there are any. O(bytes).
+/// Errors: `AllocError` if memory runs out.
 pub fn told_text(
     alloc: Global,
     numbered: bool,
@@ -156,7 +167,7 @@ pub fn told_text(
     }
 }
 
-/// A text, and another one after it.
+/// Returns a text followed by another one.
 fn joined(first: String, second: &str) -> Result<String, AllocError>
     ensures { IfOk result (λ text. string_bytes text ≡ string_bytes first ++ second.now) }
 {
@@ -165,7 +176,7 @@ fn joined(first: String, second: &str) -> Result<String, AllocError>
     Ok(text)
 }
 
-/// What is printed to standard output.
+/// Returns what is printed to standard output.
 fn output_text(
     alloc: Global,
     answered: Result<Answer, Refusal>,
@@ -181,7 +192,7 @@ fn output_text(
     }
 }
 
-/// The line of a refusal; nothing of an answer.
+/// Returns the line of a refusal; an empty text for an answer.
 fn error_text(
     alloc: Global,
     arguments: &[&str],
@@ -201,7 +212,7 @@ fn error_text(
     }
 }
 
-/// The line of the argument with this index, which has no keysym.
+/// Returns the line of a refused argument: the one with this index, which has no keysym.
 fn key_line(
     alloc: Global,
     arguments: &[&str],

@@ -1,4 +1,4 @@
-//! The outcome of arguments that are no command.
+//! The outcome of arguments that are not a command.
 ghost use Rattle.std.specs.Prelude.{◌≡◌, IfOk, string_bytes};
 ghost use Rattle.compose_report.specs.Arguments as words;
 ghost use Rattle.compose_report.specs.Arguments.{IsArgumentsOutcome};
@@ -10,8 +10,10 @@ use compose_answer::Ended;
 use compose_shown::ShownLines;
 use std::alloc::{AllocError, Global};
 
-/// The outcome of arguments of which clap says this text, which is of this kind: the help that they ask for on standard output, or why
-/// they are refused on standard error. O(bytes).
+/// Returns the outcome of arguments for which clap returns this text, of this kind: on standard
+/// output the help or the version that they ask for, or on standard error why they are refused.
+/// O(bytes).
+/// Errors: `AllocError` if memory runs out.
 pub fn arguments_outcome(alloc: Global, kind: ErrorKind, text: &str) -> Result<Outcome, AllocError>
     ensures { IfOk result (λ outcome. IsArgumentsOutcome kind text.now outcome) }
 {
@@ -24,7 +26,7 @@ pub fn arguments_outcome(alloc: Global, kind: ErrorKind, text: &str) -> Result<O
     })
 }
 
-/// The help, or the version, that is asked for; nothing of arguments that are refused.
+/// Returns the help or the version, if it is asked for; an empty text if the arguments are refused.
 fn help_lines(alloc: Global, kind: ErrorKind, text: &str) -> Result<String, AllocError>
     ensures { IfOk result (λ lines. string_bytes lines ≡ words.help_lines kind text.now) }
 {
@@ -34,7 +36,7 @@ fn help_lines(alloc: Global, kind: ErrorKind, text: &str) -> Result<String, Allo
     }
 }
 
-/// Why the arguments are refused; nothing where they ask for help or the version.
+/// Returns why the arguments are refused; an empty text if they ask for help or the version.
 fn error_lines(alloc: Global, kind: ErrorKind, text: &str) -> Result<String, AllocError>
     ensures { IfOk result (λ lines. string_bytes lines ≡ words.error_lines kind text.now) }
 {
@@ -45,7 +47,8 @@ fn error_lines(alloc: Global, kind: ErrorKind, text: &str) -> Result<String, All
     }
 }
 
-/// How a run ends whose arguments are no command: yes where they ask for help or the version.
+/// Returns how a run ends whose arguments are not a command: `Yes` if they ask for help or the
+/// version.
 fn end_of_arguments(kind: ErrorKind) -> Ended
     ensures { result ≡ arguments_end kind }
 {

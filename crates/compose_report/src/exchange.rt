@@ -9,7 +9,9 @@ use compose_answer::Ended;
 use compose_session::{End, Report};
 use std::alloc::{AllocError, Global};
 
-/// The outcome of an exchange: what is printed of the replies, and on standard error why it has no end where it has none. O(1).
+/// Returns the outcome of an exchange: what is printed for the replies, and on standard error, if
+/// the exchange is incomplete, why. O(1).
+/// Errors: `AllocError` if memory runs out.
 pub fn exchange_outcome(alloc: Global, report: Report) -> Result<Outcome, AllocError>
     ensures { IfOk result (λ outcome. IsExchangeOutcome report outcome) }
 {
@@ -23,7 +25,7 @@ pub fn exchange_outcome(alloc: Global, report: Report) -> Result<Outcome, AllocE
     })
 }
 
-/// Why an exchange has no end; nothing where it has one.
+/// Returns why an exchange is incomplete; an empty text if it is complete.
 fn refusal_of(end: End) -> &'static str
     ensures { result.now ≡ exchange.refusal_of end }
 {
@@ -34,7 +36,7 @@ fn refusal_of(end: End) -> &'static str
     }
 }
 
-/// How a run ends after an exchange.
+/// Returns how a run ends after an exchange.
 fn end_of_exchange(end: End) -> Ended
     ensures { result ≡ exchange_end end }
 {

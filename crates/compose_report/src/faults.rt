@@ -1,4 +1,4 @@
-//! The outcome of a run whose input can't be read.
+//! The outcome of a run with unreadable input.
 ghost use Rattle.std.specs.Prelude.{◌≡◌, IfOk};
 ghost use Rattle.compose_report.specs.Outcomes as outcomes;
 ghost use Rattle.compose_report.specs.Outcomes.{IsFaultOutcome, IsFaultWorded};
@@ -9,8 +9,9 @@ use compose_details::{fault_text, fault_words};
 use compose_input::Fault;
 use std::alloc::{AllocError, Global};
 
-/// The outcome of a run whose input can't be read: the refusal on standard error, and with `verbose` below it where the fault is, and
-/// why. O(bytes of a refused manifest).
+/// Returns the outcome of a run with unreadable input: the refusal on standard error, followed, if
+/// `verbose`, by the place of the fault and the reason. O(bytes of a refused manifest).
+/// Errors: `AllocError` if memory runs out.
 pub fn fault_outcome(alloc: Global, verbose: bool, fault: &Fault) -> Result<Outcome, AllocError>
     ensures { IfOk result (λ outcome. IsFaultOutcome verbose fault.now outcome) }
 {
@@ -18,8 +19,9 @@ pub fn fault_outcome(alloc: Global, verbose: bool, fault: &Fault) -> Result<Outc
     Ok(Outcome::of_errors(alloc, text, end_of_fault(fault)))
 }
 
-/// The same outcome for people: where the fault is, and why, and the refusal only where nothing more is to be said. O(bytes of a refused
-/// manifest).
+/// Returns the same outcome for people: the place of the fault and the reason, and the refusal only
+/// if there are no details. O(bytes of a refused manifest).
+/// Errors: `AllocError` if memory runs out.
 pub fn fault_worded(alloc: Global, fault: &Fault) -> Result<Outcome, AllocError>
     ensures { IfOk result (λ outcome. IsFaultWorded fault.now outcome) }
 {
@@ -27,7 +29,7 @@ pub fn fault_worded(alloc: Global, fault: &Fault) -> Result<Outcome, AllocError>
     Ok(Outcome::of_errors(alloc, text, end_of_fault(fault)))
 }
 
-/// How a run ends whose input can't be read.
+/// Returns how a run with unreadable input ends.
 fn end_of_fault(fault: &Fault) -> Ended
     ensures { result ≡ outcomes.fault_end fault.now }
 {

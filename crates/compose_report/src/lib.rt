@@ -1,7 +1,8 @@
-//! What a command prints, and how its run then ends: an [`Outcome`] is a value, which is made of an answer or a refusal with what `-v` adds to
-//! it, of why the input can't be read, of an exchange with a service, or of what clap says of the arguments. One function prints it.
-//! What a stream does with a text can't be said in a contract: how a run ends is said for both, a text that was written and one that
-//! could not be.
+//! What a command prints, and how its run ends. An [`Outcome`] is a value. It is made from an
+//! answer or a refusal (with what `-v` adds), from unreadable input, from an exchange with a
+//! service, or from clap's response to the arguments. One function prints it. A contract can't say
+//! whether a stream accepts a text. So the end of a run is specified for both cases: the text was
+//! written, or it could not be.
 //!
 //! ```text
 //! let outcome = outcome_of::<PackedTable>(alloc, verbose, &given, answered)?;

@@ -4,16 +4,17 @@ ghost use Rattle.std.specs.Prelude.{string_bytes};
 use compose_answer::Ended;
 use std::alloc::Global;
 
-/// What a run prints, in this order, and how it then ends. A run whose answer can't be written ends as refused.
+/// What a run prints, in this order, and how it then ends. If the answer can't be written, the run
+/// ends as refused.
 #[derive(Debug, PartialEq, Eq, Drop)]
 pub struct Outcome {
-    /// What is printed to standard error first: notes on what was read.
+    /// Notes about the files that were read, printed to standard error first.
     pub notes: String,
-    /// What is printed to standard output, or written to the file.
+    /// The output, printed to standard output or written to `file`.
     pub output: String,
-    /// What is printed to standard error last.
+    /// The errors, printed to standard error last.
     pub errors: String,
-    /// The path of the file to which the output is written in the place of standard output.
+    /// The path of the file to which the output is written instead of standard output.
     pub file: Option<String>,
     /// How the run ends.
     pub ended: Ended,
@@ -22,7 +23,8 @@ pub struct Outcome {
 impl Outcome {
     ghost use Rattle.compose_report.specs.Outcomes.{IsNoted, PrintsOutput, PrintsErrors};
 
-    /// The outcome of a run that prints this text to standard output alone. It takes no memory.
+    /// Returns the outcome of a run that prints this text to standard output alone. Takes no
+    /// memory.
     pub fn of_output(alloc: Global, output: String, ended: Ended) -> Outcome
         ensures { PrintsOutput (string_bytes output) ended result }
     {
@@ -35,7 +37,7 @@ impl Outcome {
         }
     }
 
-    /// The outcome of a run that prints this text to standard error alone. It takes no memory.
+    /// Returns the outcome of a run that prints this text to standard error alone. Takes no memory.
     pub fn of_errors(alloc: Global, errors: String, ended: Ended) -> Outcome
         ensures { PrintsErrors (string_bytes errors) ended result }
     {
@@ -48,7 +50,7 @@ impl Outcome {
         }
     }
 
-    /// The same outcome, with these notes.
+    /// Returns the same outcome, with these notes.
     pub fn with_notes(self, notes: String) -> Outcome
         ensures { IsNoted (string_bytes notes) self result }
     {

@@ -9,8 +9,8 @@ use compose_answer::Ended;
 use std::io;
 use std::process::ExitCode;
 
-/// Prints an outcome: its notes, its output, and its errors. Gives how the run ends: as the outcome says, or as refused where the output
-/// can't be written.
+/// Prints an outcome: its notes, its output, and its errors. Returns how the run ends: as the
+/// outcome says, or as refused if the output can't be written.
 pub fn print(rt: &(impl Print + Eprint), outcome: &Outcome) -> Ended
     ensures { EndsPrinted outcome.now.ended result }
 {
@@ -20,7 +20,8 @@ pub fn print(rt: &(impl Print + Eprint), outcome: &Outcome) -> Ended
     ended
 }
 
-/// Prints what else is to be said by an outcome whose output was written to its file: its notes, and its errors. Gives how the run ends.
+/// Prints the rest of an outcome whose output was written to its file: its notes, and its errors.
+/// Returns how the run ends.
 pub fn print_beside_file(rt: &impl Eprint, outcome: &Outcome) -> Ended
     ensures { result ≡ outcome.now.ended }
 {
@@ -28,8 +29,10 @@ pub fn print_beside_file(rt: &impl Eprint, outcome: &Outcome) -> Ended
     outcome.ended
 }
 
-/// How a run ends that has printed this, and would end so. An answer that can't be written is refused, and nothing is said of it where
-/// nobody reads on; a run without an answer ends as it does, whether that can be printed or not.
+/// Returns how a run ends after printing its output with this result, if it would otherwise end as
+/// `ended`. If an answer can't be written, the run ends as refused, and `refused: output` is
+/// printed, unless the reader has closed the pipe. A run without an answer ends as `ended` in
+/// either case.
 pub fn written(rt: &impl Eprint, printed: io::Result<()>, ended: Ended) -> Ended
     ensures { result ≡ written_end printed ended }
 {
@@ -42,14 +45,15 @@ pub fn written(rt: &impl Eprint, printed: io::Result<()>, ended: Ended) -> Ended
     }
 }
 
-/// Prints that the answer can't be written, unless that is since its reader has closed the pipe.
+/// Prints that the answer can't be written, unless its reader has closed the pipe.
 fn print_unwritten(rt: &impl Eprint, error: &io::Error) {
     if error.kind() != io::ErrorKind::BrokenPipe {
         let _ = eprintln!(rt; "refused: output");
     }
 }
 
-/// The end of a run for which memory was refused, which it prints. A line that can't be written does not change it.
+/// Prints that memory ran out, and returns this end of a run. If the line can't be written, the end
+/// is the same.
 pub fn no_memory(rt: &impl Eprint) -> Ended
     ensures { result ≡ Ended.NoMemory }
 {
@@ -57,7 +61,8 @@ pub fn no_memory(rt: &impl Eprint) -> Ended
     Ended::NoMemory
 }
 
-/// The exit code of a run that ends so: 0 for yes, 1 for no, 2 where the input is refused, 3 where memory was. O(1).
+/// Returns the exit code for this end of a run: 0 for yes, 1 for no, 2 if the input is refused, 3
+/// if memory ran out. O(1).
 pub fn exit_code(ended: Ended) -> ExitCode
     ensures status { exit_status result ≡ status_of ended }
     ensures few { exit_status result ≤ 3 }

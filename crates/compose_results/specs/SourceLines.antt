@@ -1,4 +1,4 @@
--- The lines of sources, by their places. Words for private functions.
+-- The lines of sources, by their places. Definitions for private functions.
 use Rattle.std.specs.Prelude.{ℕ, List, map, slice_get, Option}
 use Rattle.std.specs.Option.{option_and_then}
 use Rattle.compose_read.specs.Lines.{Source, source_lines}

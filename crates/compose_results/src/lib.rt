@@ -1,8 +1,8 @@
 //! The result keysyms of a table's sequences.
 //!
-//! A line of a Compose file gives a string, the name of a keysym, or both. A table keeps the texts;
-//! [`read_results`] reads a table and tells besides, for each of its leaves, the keysym that the
-//! line names which counts, or else the first keysym of the text's character.
+//! A line of a Compose file gives a string, the name of a keysym, or both. A table keeps the texts.
+//! [`read_results`] reads a table and besides finds a keysym for each of its leaves: the one named
+//! on the line that counts, or otherwise the first keysym of the text's character.
 //!
 //! ```text
 //! <a> : "x" F1       # F1

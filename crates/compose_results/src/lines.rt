@@ -28,7 +28,7 @@ impl<'a> Model for SourceLines<'a> {
 impl<'a> SourceLines<'a> {
     ghost use Rattle.std.specs.Prelude.{◌≡◌, option_copied, slice_get};
 
-    /// The line at this index, if there is one. O(1).
+    /// Returns the line at this index, if there is one. O(1).
     fn line(&self, index: usize) -> Option<&'a [u8]>
         ensures { option_copied result ≡ slice_get self.now index }
     {
@@ -37,7 +37,7 @@ impl<'a> SourceLines<'a> {
     }
 }
 
-/// The lines of each source. O(bytes of all sources).
+/// Collects the lines of each source. O(bytes of all sources).
 pub(crate) fn all_lines<'a>(
     alloc: Global,
     sources: &'a Sources,
@@ -52,7 +52,7 @@ pub(crate) fn all_lines<'a>(
     Ok(all)
 }
 
-/// The lines of these bytes. O(bytes).
+/// Collects the lines of these bytes. O(bytes).
 fn lines_of<'a>(alloc: Global, bytes: &'a [u8]) -> Result<SourceLines<'a>, AllocError>
     ensures { IfOk result (λ lines. lines ≡ source_lines bytes.now) }
 {
@@ -65,14 +65,14 @@ fn lines_of<'a>(alloc: Global, bytes: &'a [u8]) -> Result<SourceLines<'a>, Alloc
     Ok(SourceLines { lines })
 }
 
-/// The bytes without a UTF-8 byte order mark at their beginning.
+/// Returns the bytes without a UTF-8 byte order mark at their start.
 fn without_mark(bytes: &[u8]) -> &[u8]
     ensures { result.now ≡ words.without_mark bytes.now }
 {
     bytes.strip_prefix(&[0xef, 0xbb, 0xbf]).unwrap_or(bytes)
 }
 
-/// The line at this place, if there is one. O(1).
+/// Returns the line at this place, if there is one. O(1).
 pub(crate) fn line_at<'a>(all: &[SourceLines<'a>], place: DefinitionPlace) -> Option<&'a [u8]>
     ensures { option_copied result ≡ line_in all.now place }
 {

@@ -11,7 +11,8 @@ use compose_lex::{Said, lex_line_into};
 use compose_places::DefinitionPlace;
 use keysym_core::{Keysym, Names};
 
-/// The name of the result keysym that the line writes, if it reads as a definition and writes one. O(bytes).
+/// Returns the name of the result keysym that is written on the line, if it is a definition and has
+/// one. O(bytes).
 fn result_name(line: &[u8]) -> Option<&str>
     ensures { option_copied result ≡ words.result_name line.now }
 {
@@ -25,7 +26,7 @@ fn result_name(line: &[u8]) -> Option<&str>
     }
 }
 
-/// The keysym that the line at this place names. O(bytes of the line).
+/// Returns the keysym that the line at this place names. O(bytes of the line).
 pub(crate) fn named_at(
     names: &Names,
     all: &[SourceLines<'_>],

@@ -23,11 +23,12 @@ use std::alloc::{AllocError, Global};
 pub struct ResultTable<T: ComposeTable> {
     /// The table.
     pub table: T,
-    /// For each leaf, by its number, its result keysym; 0 where it has none.
+    /// For each leaf, by its number, its result keysym; 0 (XKB_KEY_NoSymbol) if it has none.
     pub results: Vec<Keysym>,
 }
 
-/// The keysym that the line names, if there is a line and it names one. O(bytes of the line).
+/// Returns the keysym that the line names, if there is a line and it names one. O(bytes of the
+/// line).
 fn named_by(
     names: &Names,
     all: &[SourceLines<'_>],
@@ -42,7 +43,7 @@ fn named_by(
     }
 }
 
-/// The result keysym of a sequence with this text, where its line names this keysym, or none.
+/// Returns the result keysym of a sequence with this text, whose line names this keysym, or none.
 /// O(bytes + log characters of the names).
 fn result_of(names: &Names, named: Option<Keysym>, text: &str) -> Keysym
     ensures { IsResult names.now named text.now result }
@@ -56,7 +57,7 @@ fn result_of(names: &Names, named: Option<Keysym>, text: &str) -> Keysym
     }
 }
 
-/// The result keysym of a leaf of which this is the line that counts.
+/// Returns the result keysym of a leaf; this is the line that counts for it.
 fn leaf_result<T: ComposeTable>(
     names: &Names,
     all: &[SourceLines<'_>],
@@ -74,7 +75,7 @@ fn leaf_result<T: ComposeTable>(
     result_of(names, named, text)
 }
 
-/// The result keysym of each leaf, of which these are the lines that count.
+/// Returns the result keysym of each leaf; these are the lines that count for them.
 fn results_of<T: ComposeTable>(
     alloc: Global,
     names: &Names,
@@ -97,10 +98,12 @@ fn results_of<T: ComposeTable>(
     Ok(results)
 }
 
-/// The table that is read from the root by the rule, as by `read_table`, and the result keysym of
-/// each of its leaves: that which the line names that counts for its sequence, else the first
-/// keysym of the text's character, else 0. At the cost of `read_placed_table`, with O(bytes of all
-/// sources + leaves × log characters of the names) more.
+/// Reads the table from the root by the rule, as `read_table` does, and finds the result keysym of
+/// each of its leaves: the one named on the line that counts for its sequence, or the first keysym
+/// of the text's character, or 0. It costs what `read_placed_table` does, and O(bytes of all
+/// sources + leaves × log characters of the names).
+///
+/// Errors: those of `read_table`, for the same inputs; `NoMemory` if memory runs out.
 pub fn read_results<T: ComposeTable>(
     alloc: Global,
     names: &Names,
@@ -122,7 +125,8 @@ pub fn read_results<T: ComposeTable>(
     Ok(ResultTable { table, results })
 }
 
-/// The same, where the root is the first source. Without a source, the root is missing.
+/// Does the same with the first source as the root. Errors: those of `read_results`; without a
+/// source, the fault is that the root is missing.
 pub fn read_first_results<T: ComposeTable>(
     alloc: Global,
     names: &Names,

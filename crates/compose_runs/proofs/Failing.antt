@@ -1,20 +1,20 @@
--- A fault that is answered.
+-- A fault that is returned.
 use Rattle.std.proofs.Common.{◌≡◌, sym, subst, inl, inr}
 use Rattle.std.specs.Prelude.{Result, Ok, Err, IfErr, IsErrAnd}
 use Rattle.compose_input.specs.declared.fault.Fault.{Fault}
 use Rattle.compose_input.specs.declared.fault.Fault.TheVariants.{NoMemory}
 use Rattle.compose_runs.specs.Faults.{OrMemory}
 
--- what is known of the fault, said of the result
+-- a property of the fault, as one of the result
 pub fails : {X : Type 0} (P : Fault → Type 0) (r : Result X Fault) (fault : Fault) → r ≡ Err fault → P fault → IfErr r P
 fails P r fault is p = subst (λ r. IfErr r P) (sym is) p
 
--- another fact of the fault, where there is one
+-- another property of the fault, if there is one
 pub err_map : {X E : Type 0} (P Q : E → Type 0) (r : Result X E) → ((e : E) → P e → Q e) → IfErr r P → IfErr r Q
 err_map P Q (Ok x) f h = tt
 err_map P Q (Err e) f h = f e h
 
--- the fault that `?` hands over
+-- the fault that `?` passes on
 pub handed : {X : Type 0} (P : Fault → Type 0) (r : Result X Fault) (fault : Fault) → IsErrAnd r (λ e. e ≡ fault) → P fault → IfErr r P
 handed P (Ok x) fault h p = tt
 handed P (Err e) fault h p = subst P (sym h) p
@@ -24,7 +24,7 @@ pub memory : {X : Type 0} (P : Fault → Type 0) (r : Result X Fault) → IsErrA
 memory P (Ok x) h p = tt
 memory P (Err fault) h p = subst P (sym h) p
 
--- memory ran out, or another fact of the fault
+-- memory ran out, or another property of the fault
 pub or_map : (P Q : Fault → Type 0) (fault : Fault) → (P fault → Q fault) → OrMemory P fault → OrMemory Q fault
 or_map P Q fault f (inl memory) = inl memory
 or_map P Q fault f (inr p) = inr (f p)

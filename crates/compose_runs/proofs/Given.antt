@@ -1,4 +1,4 @@
--- What was given, of its parts.
+-- The input of a migration, by its parts.
 use Rattle.std.proofs.Common.{◌≡◌, ◌∙◌, ap, ℕ, List}
 use Rattle.compose_migration.specs.Migration.{TableSources, GivenMigration}
 

@@ -1,4 +1,4 @@
--- The report of the lines that are left out of tables.
+-- The report of the skipped lines of tables.
 use Rattle.std.proofs.Common.{◌≡◌, ◌∙◌, ◌+◌, ap, sym, ℕ, List, [], ◌∷◌, ◌++◌, length, append-nil, arith, length-append}
 use Rattle.compose_read.specs.declared.ReadFault.{ReadFault}
 use Rattle.compose_input.specs.declared.tables.TableFiles.{TableFiles}
@@ -8,7 +8,7 @@ use Rattle.compose_skipped.specs.Reported.{Reported, count_line, fault_lines, no
 zero_count : (n : ℕ) → 0 + n ≡ n
 zero_count n = omega arith
 
--- of two
+-- the report for two tables
 pub two_report : (header : List ℕ) (old new : TableFiles)
     → report_of (with_faults (with_faults nothing old (skipped_faults header old)) new (skipped_faults header new)) ≡ report_text header (old ∷ new ∷ [])
 two_report header old new =
@@ -18,7 +18,7 @@ two_report header old new =
     ∙ ap (λ (count : ℕ). (lines ++ (fault_lines new after ++ [])) ++ count_line count)
     (sym (length-append before after) ∙ ap (λ (more : List ReadFault). length (before ++ more)) (sym (append-nil after)))
 
--- the report after both tables are added to one of nothing
+-- the report after both tables are added to an empty one
 pub two_said : (header : List ℕ) (old new : TableFiles) (first second : List ℕ) (r0 r1 r2 : Reported) (text : List ℕ) → first ≡ header → second ≡ header
     → r0 ≡ nothing → r1 ≡ with_faults r0 old (skipped_faults first old) → r2 ≡ with_faults r1 new (skipped_faults second new)
     → text ≡ report_of r2 → text ≡ report_text header (old ∷ new ∷ [])

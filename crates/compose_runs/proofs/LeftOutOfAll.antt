@@ -1,4 +1,4 @@
--- The report of the lines that are left out of the tables of `lint`, one table after another.
+-- The report of the skipped lines of the tables of `lint`, one table after another.
 use Rattle.std.proofs.Common.{◌≡◌, ◌∙◌, ◌+◌, ◌<◌, ap, sym, add-one, ℕ, List, [], ◌∷◌, ◌++◌, get_or, length, length-append, map, take}
 use Rattle.std.specs.Prelude.{flat_map}
 use Rattle.std.proofs.Math.Seq.{take-suc}
@@ -19,7 +19,7 @@ lines_in header read = fault_lines read.table (skipped_faults header read.table)
 abbrev said : List ℕ → ℕ → Reported
 said lines count = record { lines = lines; count = count }
 
--- what is reported of these tables
+-- the report for these tables
 abbrev pub reported_in : List ℕ → List ReadTable → Reported
 reported_in header tables = said (flat_map (lines_in header) tables) (length (flat_map (faults_in header) tables))
 
@@ -27,7 +27,7 @@ take_more : (tables : List ReadTable) (i : ℕ) (read : ReadTable) → i < lengt
 take_more tables i read within at =
     ap (λ (r : ReadTable). take i tables ++ r ∷ []) at ∙ (sym (take-suc tables i read within) ∙ ap (λ n. take n tables) (sym (add-one i)))
 
--- one table more
+-- another table
 pub reported_more : (header : List ℕ) (tables : List ReadTable) (i : ℕ) (read : ReadTable) → i < length tables → read ≡ get_or tables i read
     → with_faults (reported_in header (take i tables)) read.table (skipped_faults header read.table) ≡ reported_in header (take (i + 1) tables)
 reported_more header tables i read within at =
@@ -39,7 +39,7 @@ reported_more header tables i read within at =
     ap (λ (lines : List ℕ). said lines count) lines_more
     ∙ (ap (λ (n : ℕ). said (flat_map (lines_in header) more) n) count_more ∙ ap (reported_in header) (take_more tables i read within at))
 
--- of all of them
+-- the report for all of them
 pub report_all : (header : List ℕ) (tables : List ReadTable) → report_of (reported_in header tables) ≡ report_text header (map (λ (read : ReadTable). read.table) tables)
 report_all header tables =
     ap (λ (lines : List ℕ). lines ++ count_line (length (flat_map (faults_in header) tables)))

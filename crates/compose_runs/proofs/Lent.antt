@@ -9,12 +9,12 @@ module _ {X : Type 0} where
   copied_or None b = refl
   copied_or (Some x) b = refl
 
-  -- the value of an option, or of what stands in for it
+  -- the value of an option, or that of its default
   pub now_unwrap_or : (a : Option (Bor X)) (d : Bor X) → (unwrap_or a d).now ≡ unwrap_or (option_copied a) d.now
   now_unwrap_or None d = refl
   now_unwrap_or (Some x) d = refl
 
-  -- the value of the first of two options, or of what stands in for both
+  -- the value of the first of two options, or that of a default for both
   pub now_or : (r : Bor X) (o a b : Option (Bor X)) (d : Bor X) → r ≡ unwrap_or o d → o ≡ option_or a b
       → r.now ≡ unwrap_or (option_or (option_copied a) (option_copied b)) d.now
   now_or r o a b d e f = ap (λ (x : Bor X). x.now) e ∙ (now_unwrap_or o d ∙ ap (λ (x : Option X). unwrap_or x d.now) (ap option_copied f ∙ copied_or a b))

@@ -14,7 +14,7 @@ use Rattle.compose_runs.specs.Variables.{without_slashes}
 abbrev slash : ℕ → Bool
 slash = nat_eq 47
 
--- one more slash
+-- another slash
 more : (r : List ℕ) → suffix_len slash (r ++ 47 ∷ []) ≡ 1 + suffix_len slash r
 more r =
     let m = r ++ 47 ∷ [] in
@@ -24,14 +24,14 @@ more r =
     ∙ (suffix_len-take_yes slash m (length m) 0 (omega (arith, long)) (omega arith) (ap slash (ap (λ n. get_or m n 0) before ∙ get_or-append_seam r 47 [] 0))
     ∙ ap (λ l. 1 + suffix_len slash l) (ap (λ n. take n m) before ∙ take-append_seam r (47 ∷ [])))
 
--- is taken away as the others are
+-- is removed like the others
 pub cut_one : (r : List ℕ) → without_slashes (r ++ 47 ∷ []) ≡ without_slashes r
 cut_one r =
     let m = r ++ 47 ∷ [] in
     let fewer : length m - suffix_len slash m ≡ length r - suffix_len slash r = omega (arith, length-append r (47 ∷ []), more r) in
     ap (λ n. take n m) fewer ∙ take-append-le (length r - suffix_len slash r) r (47 ∷ []) (omega arith)
 
--- a path of which slashes are cut off its end
+-- a path whose last slashes are cut off
 cut : (path : List ℕ) (ns : List ℕ) (rest : List ℕ) → CutsSuffixes (FindsCharSuffix 47) path ns rest → without_slashes path ≡ without_slashes rest
 cut path [] rest e = ap without_slashes (sym e)
 cut path (n ∷ ns) rest h =
@@ -40,7 +40,7 @@ cut path (n ∷ ns) rest h =
     let ends : m ≡ short ++ 47 ∷ [] = sym (take-append-drop (length m - n) m) ∙ ap (λ l. short ++ l) (drop_at_char 47 m (length m - n) (length m) h.2.1 (omega arith) ∙ ap (λ l. 47 ∷ l) (drop-length m)) in
     cut path ns m h.1 ∙ (ap without_slashes ends ∙ (cut_one short ∙ ap without_slashes (sym h.3)))
 
--- a path that ends in no slash
+-- a path that does not end in a slash
 whole_by : (path : List ℕ) (is : Bool) → slash (get_or path (length path - 1) 0) ≡ is → 0 < length path → ((front : List ℕ) → path ≡ front ++ encode_utf8 47 → ⊥) → without_slashes path ≡ path
 whole_by path false e some other =
     let none : suffix_len slash path ≡ 0 = ap (suffix_len slash) (sym (take-length path)) ∙ suffix_len-take_no slash path (length path) 0 some (omega arith) e in
@@ -60,6 +60,6 @@ kept : (rest : List ℕ) (o : Option ℕ) → FindsCharSuffix 47 rest o → IfSo
 kept rest None other e = whole rest other
 kept rest (Some n) found e = absurd (omega (arith, e, found.0))
 
--- what is cut off the end of a path until it ends in no slash
+-- the path after its last slashes are cut off
 pub trimmed : (path rest : List ℕ) → IsTrimEndMatches (FindsCharSuffix 47) path rest → rest ≡ without_slashes path
 trimmed path rest h = sym (cut path h.0.0 rest h.0.1 ∙ kept rest h.1.0 h.1.1 h.1.2)

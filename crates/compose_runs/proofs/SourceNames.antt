@@ -9,7 +9,7 @@ use Rattle.compose_read.specs.Lines.{Source}
 abbrev name_of : Source → List ℕ
 name_of source = source.name
 
--- the source that has the name
+-- the source with this name
 named : (o : Option Source) (name : List ℕ) → option_map name_of o ≡ Some name → (s : Source) × (o ≡ Some s) × (s.name ≡ name)
 named None name is = cc
 named (Some s) name is = (s, refl, same_Some s.name name is)
@@ -19,7 +19,8 @@ take_more sources i s e =
     let l = slice_get_within sources i s e in
     ap (λ n. take n sources) (add-one i) ∙ take-suc sources i s l ∙ ap (λ (y : Source). take i sources ++ y ∷ []) (get_or_from_slice_get sources i s s e)
 
--- the names of the first sources, and then that of the next one, are those of one source more
+-- the names of the first sources, and then that of the next one, are those of the sources up to the
+-- next one
 pub next_name : (sources : List Source) (i : ℕ) (name : List ℕ) → option_map (λ s. s.name) (slice_get sources i) ≡ Some name
     → map (λ s. s.name) (take (i + 1) sources) ≡ map (λ s. s.name) (take i sources) ++ name ∷ []
 next_name sources i name is =

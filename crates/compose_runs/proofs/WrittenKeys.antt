@@ -1,4 +1,4 @@
--- Words that were read one by one.
+-- Words that are read one by one.
 use Rattle.std.proofs.Common.{◌≡◌, ◌∙◌, ◌<◌, ◌+◌, ap, sym, subst, ℕ, List, [], ◌∷◌, ◌++◌, map, take, length, get_or, Bor, string_bytes, Global}
 use Rattle.std.proofs.lemmas.List.{map-append, take_more}
 use Rattle.std.specs.declared.string.String.{String}
@@ -8,7 +8,7 @@ use Rattle.compose_runs.specs.WrittenKeys.{AreNamed, IsWritten}
 abbrev pub now_of : Bor (List ℕ) → List ℕ
 now_of b = b.now
 
--- one more word
+-- another word
 pub named_more : (names : KeysymNames) (words keys : List (List ℕ)) (word key : List ℕ) → AreNamed names words keys → IsWritten names word key → AreNamed names (words ++ word ∷ []) (keys ++ key ∷ [])
 named_more names [] [] word key are is = (is, tt)
 named_more names [] (k ∷ ks) word key are is = absurd are

@@ -1,4 +1,4 @@
--- Two lists side by side, one item more of each.
+-- Two lists side by side, when an item is added to each.
 use Rattle.std.proofs.Common.{◌≡◌, ◌∙◌, ℕ, ◌+◌, ◌<◌, List, [], ◌∷◌, ◌++◌, length, take, map, drop, get_or, ap, sym, subst}
 use Rattle.std.specs.List.{AllZip}
 use Rattle.std.proofs.lemmas.List.{take_more, map-append, take-append-drop, drop_more}
@@ -9,7 +9,8 @@ zip_more R [] (b ∷ ys) x y all one = absurd all
 zip_more R (a ∷ xs) [] x y all one = absurd all
 zip_more R (a ∷ xs) (b ∷ ys) x y all one = (all.0, zip_more R xs ys x y all.1 one)
 
--- the same, where the first list is a beginning of another one; the last one stands for an item that isn't there
+-- the same, if the first list is the beginning of another one; the last argument is a default for a
+-- missing item
 pub zip_next : {X A B : Type 0} (R : A → B → Type 0) (f : X → A) (xs : List X) (i : ℕ) (none : X) (ys : List B) (y : B) → i < length xs
     → AllZip R (map f (take i xs)) ys → R (f (get_or xs i none)) y → AllZip R (map f (take (i + 1) xs)) (ys ++ y ∷ [])
 zip_next R f xs i none ys y within all one =

@@ -1,4 +1,4 @@
--- The files of a check (this project's profile).
+-- The files of a check (defined by this project).
 use Rattle.std.specs.Prelude.{ℕ, List, [], Option}
 use Rattle.compose_folder.specs.Content.{Entry, File, IsHeld}
 use Rattle.compose_check.specs.Input.{Input}
@@ -10,7 +10,7 @@ use Rattle.compose_runs.specs.declared.checking.CheckPaths.{CheckPaths}
 use Rattle.compose_runs.specs.declared.checking.CheckTexts.{CheckTexts}
 use Rattle.compose_runs.specs.declared.environment.Environment.{Environment}
 
--- the check that the files are for
+-- the input of the check, from these files
 abbrev pub check_given : CheckFiles → Input
 check_given check = record { migration = migration_given check.both []; repertoire = check.repertoire.items; certificate = check.certificate.items }
 
@@ -20,7 +20,7 @@ pub record AreCheckFiles (folder : Option (List Entry)) (names : List (List ℕ)
   pub repertoire : IsHeld folder paths.repertoire.now (File check.repertoire.items)
   pub certificate : IsHeld folder paths.certificate.now (File check.certificate.items)
 
--- the same of both Compose files
+-- the same for Compose files
 pub record AreFoundCheckFiles (folder : Option (List Entry)) (environment : Environment) (names : List (List ℕ)) (pair : FilePair) (texts : CheckTexts) (check : CheckFiles) : Type 0 where
   pub both : AreFoundFiles folder environment names pair check.both
   pub repertoire : IsHeld folder texts.repertoire.now (File check.repertoire.items)

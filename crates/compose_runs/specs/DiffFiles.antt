@@ -1,4 +1,5 @@
--- The Compose files of an old and a new table, and the files of their comparison (this project's profile).
+-- The Compose files of an old and a new table, and the files of their comparison (defined by this
+-- project).
 use Rattle.std.specs.Prelude.{◌≡◌, ℕ, Bool, true, false, List, [], ◌∷◌, Option, Some, None, option_copied, codes}
 use Rattle.std.proofs.Common.{Bor}
 use Rattle.compose_folder.specs.Content.{Entry, File, IsHeld}
@@ -16,7 +17,7 @@ use Rattle.compose_runs.specs.declared.environment.Environment.{Environment}
 use Rattle.compose_runs.specs.declared.environment.PlaceArguments.{PlaceArguments}
 use Rattle.compose_runs.specs.declared.files.MigrationFiles.{MigrationFiles}
 
--- the names that were given, or else those that are built in
+-- the given names, or the built-in ones if none are given
 abbrev pub names_or_builtin : List (List ℕ) → List (List ℕ)
 names_or_builtin [] = codes "builtin" ∷ []
 names_or_builtin (name ∷ names) = name ∷ names
@@ -25,23 +26,23 @@ abbrev pub rule_by : Bool → Rule
 rule_by true = Longest
 rule_by false = Refuse
 
--- what the arguments say of where the tables lie, with the root that is given for one of them
+-- the arguments that say where the tables lie, with the root for one of them
 abbrev pub place_arguments : FilePair → Option (Bor (List ℕ)) → PlaceArguments
 place_arguments pair root = record { system = pair.system; locale = pair.locale; root = root }
 
--- the table of the Compose file at this path as it lies on the system, by the rule that is asked for
+-- the table of the Compose file at this path as it is on the system, with the rule of the arguments
 pub record IsFoundTable (folder : Option (List Entry)) (environment : Environment) (pair : FilePair) (root : Option (Bor (List ℕ))) (path : List ℕ) (table : TableFiles) : Type 0 where
   pub places : Places
   pub are_places : IsPlaced environment (place_arguments pair root) places
   pub is : IsFoundOnSystem folder places path (rule_by pair.longest) table
 
--- the names that were given, or else those that are built in, and both tables
+-- the given names, or the built-in ones, and both tables
 pub record AreFoundFiles (folder : Option (List Entry)) (environment : Environment) (names : List (List ℕ)) (pair : FilePair) (files : MigrationFiles) : Type 0 where
   pub are_names : AreNames folder (names_or_builtin names) files.names
   pub is_old : IsFoundTable folder environment pair pair.old_root pair.old.now files.old
   pub is_new : IsFoundTable folder environment pair pair.new_root pair.new.now files.new
 
--- the list of the changes that are meant; an empty one where none is given
+-- the list of intended changes; an empty one if none is given
 abbrev pub IsAccepted : Option (List Entry) → Option (List ℕ) → List ℕ → Type 0
 IsAccepted folder None bytes = bytes ≡ []
 IsAccepted folder (Some path) bytes = IsHeld folder path (File bytes)

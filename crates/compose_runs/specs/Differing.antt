@@ -1,4 +1,4 @@
--- What `diff` prints (this project's profile).
+-- What `diff` prints (defined by this project).
 use Rattle.std.specs.Prelude.{◌≡◌, ℕ, Bool, true, false, List, [], ◌∷◌, ◌++◌, map, Option, unwrap_or, option_copied, Result, Ok, Err, string_bytes, codes}
 use Rattle.std.specs.Str.Lines.{lines}
 use Rattle.compose_folder.specs.Content.{Entry}
@@ -36,7 +36,7 @@ use Rattle.compose_runs.specs.declared.files.MigrationFiles.{MigrationFiles}
 use Rattle.compose_runs.specs.declared.skipping.KeptPair.{KeptPair}
 use Rattle.compose_runs.specs.declared.environment.Environment.{Environment}
 
--- ---- what is asked
+-- ---- the input
 
 abbrev pub form_of : DiffForm → Form
 form_of forms.Folded = Folded
@@ -87,31 +87,32 @@ IsShown false answer shown = shown ≡ answer
 
 -- ---- what is printed
 
--- of an answer, its text alone
+-- the text of an answer alone
 pub record ShowsAnswer (colored : Bool) (answer : Answer) (fresh : List (List ℕ)) (outcome : Outcome) : Type 0 where
   pub shown : Answer
   pub is_shown : IsShown colored answer shown
   pub own : List ℕ
   pub is : IsOutcome own fresh [] (Ok shown) outcome
 
--- a refusal has its own line, for programs, above what is said to people
+-- whether a refusal has its own line, for programs, before the text for people
 abbrev pub is_numbered : DiffForm → Bool
 is_numbered forms.Json = true
 is_numbered form = false
 
--- of a refusal of the tables, each faulty line of what was given, for people unless it is numbered
+-- for a refusal of the tables, each faulty line of the input; for people unless `numbered`
 pub record IsRefusalOutcome (numbered : Bool) (files : DiffFiles) (fresh : List (List ℕ)) (refusal : Refusal) (outcome : Outcome) : Type 0 where
   pub given : Given
   pub parts : IsGiven (parts_of files.both.names fresh (files.both.old ∷ files.both.new ∷ [])) given
   pub is : IsWorded numbered true given (Err refusal) outcome
 
--- which line of the list of meant changes is refused, and why (code 10 ends it)
+-- the refused line of the list of intended changes, and the reason (code 10 ends it)
 abbrev pub accept_details : List ℕ → AcceptFault → List ℕ
 accept_details path (Stale n) = said_at path n (codes "no change of these tables is named by the line") ++ 10 ∷ []
 accept_details path (BadLine n) = said_at path n (codes "expected \"changed: \", \"waiting: \", \"removed: \" or \"new start: \" and keys") ++ 10 ∷ []
 accept_details path NoMemory = []
 
--- of a refusal of the list, the line of the list, and unless it is for people above it its own, by what the fault is printed as
+-- for a refused list, the message about its line; if `numbered`, after the line of the refusal with
+-- the printed form of the fault
 abbrev pub IsAcceptRefusal : Bool → Option (List ℕ) → AcceptFault → Outcome → Type 0
 IsAcceptRefusal numbered path fault outcome =
     (own : List ℕ) × PrintsErrors (told_text numbered (codes "refused: accept: " ++ (own ++ 10 ∷ [])) (accept_details (unwrap_or path []) fault)) Refused outcome
@@ -124,11 +125,12 @@ abbrev pub IsDiffPrinted : DiffFiles → DiffArguments → List (List ℕ) → B
 IsDiffPrinted files arguments fresh colored (Ok answer) outcome = ShowsAnswer colored answer fresh outcome
 IsDiffPrinted files arguments fresh colored (Err fault) outcome = IsFaultPrinted files arguments fresh fault outcome
 
--- what is noted of the lines of these files that other readers lose
+-- the notes on the lines of these files that other readers of Compose files lose
 abbrev pub lost_of : MigrationFiles → List ℕ
 lost_of both = lost_notes both.names.lines.items both.old both.new
 
--- the answer on these files, printed below the notes on where they lie and on the lines that other readers lose
+-- the answer on these files, after the notes on where they lie and on the lines that other readers
+-- lose
 pub record IsDiffOutcome (files : DiffFiles) (arguments : DiffArguments) (fresh : List (List ℕ)) (colored : Bool) (lost : List ℕ) (outcome : Outcome) : Type 0 where
   pub answered : Result Answer DiffFault
   pub is : AnswersDiff (diff_asked files arguments fresh) answered
@@ -136,8 +138,8 @@ pub record IsDiffOutcome (files : DiffFiles) (arguments : DiffArguments) (fresh 
   pub is_printed : IsDiffPrinted files arguments fresh colored answered printed
   pub noted : IsNoted (notes_of files.both ++ lost) printed outcome
 
--- the same on what was read, or on what is left of it without faulty lines, if these are skipped; with what is reported of the lines that are left out
--- after all else
+-- the same on the files that were read, without their faulty lines if these are skipped; the report
+-- of the skipped lines comes last
 pub record IsKeptDiff (found : DiffFiles) (arguments : DiffArguments) (fresh : List (List ℕ)) (colored : Bool) (outcome : Outcome) : Type 0 where
   pub kept : KeptPair
   pub is_kept : IsKeptPair arguments.skip_faulty found kept
@@ -145,7 +147,7 @@ pub record IsKeptDiff (found : DiffFiles) (arguments : DiffArguments) (fresh : L
   pub is : IsDiffOutcome kept.files arguments fresh colored (lost_of found.both) printed
   pub followed : IsFollowed (string_bytes kept.skipped) printed outcome
 
--- the same on the files that the folder has, in this environment
+-- the same on the files in the folder, in this environment
 pub record IsDiffRun (folder : Option (List Entry)) (environment : Environment) (names : List (List ℕ)) (arguments : DiffArguments) (fresh : List (List ℕ)) (outcome : Outcome) : Type 0 where
   pub found : DiffFiles
   pub read : AreDiffFiles folder environment names arguments found

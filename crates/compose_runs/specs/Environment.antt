@@ -1,4 +1,5 @@
--- What the environment says (POSIX: `LC_ALL` before `LC_CTYPE` before `LANG`; Xlib: `XLOCALEDIR`; no-color.org: `NO_COLOR`).
+-- The use of the environment (POSIX: `LC_ALL` before `LC_CTYPE` before `LANG`; Xlib: `XLOCALEDIR`;
+-- no-color.org: `NO_COLOR`).
 use Rattle.std.specs.Prelude.{◌≡◌, ℕ, Bool, false, if◌then◌else◌, List, Option, is_none, option_copied, Result, Ok, Err, unwrap_or, codes}
 use Rattle.std.specs.Option.{option_or, option_map}
 use Rattle.compose_text.specs.Results.{◌>>=◌}
@@ -13,7 +14,7 @@ use Rattle.compose_runs.specs.declared.environment.PlaceArguments.{PlaceArgument
 abbrev pub locale_of : Environment → Said (Option (List ℕ))
 locale_of e = first_set (text_of e.lc_all) (first_set (text_of e.lc_ctype) (text_of e.lang))
 
--- the folder of the system's tables, the locale and the home folder, where the environment says them
+-- the folder of the system's tables, the locale and the home folder, if the environment has them
 pub record SaidPlaces : Type 0 where
   pub system : Option (List ℕ)
   pub locale : Option (List ℕ)
@@ -26,7 +27,8 @@ places_of e = do
   home ← text_of e.home
   Ok (record { system = system; locale = locale; home = home })
 
--- where tables lie: as the arguments say, or else the environment, or else below /usr/share/X11/locale
+-- where tables lie: as the arguments say, or otherwise the environment, or otherwise below
+-- /usr/share/X11/locale
 pub record ArePlaces (arguments : PlaceArguments) (said : SaidPlaces) (places : Places) : Type 0 where
   pub system : places.system.now ≡ unwrap_or (option_or (option_copied arguments.system) said.system) (codes "/usr/share/X11/locale")
   pub tree : option_copied places.tree ≡ option_copied arguments.system
@@ -42,7 +44,7 @@ GivesPlaces arguments (Err fault) said = (said ≡ Err tt) × (fault ≡ Word)
 abbrev pub IsPlaced : Environment → PlaceArguments → Places → Type 0
 IsPlaced environment arguments places = GivesPlaces arguments (Ok places) (places_of environment)
 
--- on a terminal, unless `NO_COLOR` is set to something; elsewhere it is not looked at
+-- on a terminal, unless `NO_COLOR` is set and not empty; elsewhere `NO_COLOR` is not read
 abbrev pub wants_color : Environment → Said Bool
 wants_color e = if e.is_terminal then (do
   text ← text_of e.no_color

@@ -1,4 +1,4 @@
--- What `explain` prints (this project's profile).
+-- What `explain` prints (defined by this project).
 use Rattle.std.specs.Prelude.{ℕ, Bool, true, false, List, [], ◌∷◌, map, Option, Result}
 use Rattle.compose_folder.specs.Content.{Entry}
 use Rattle.compose_migration.specs.Migration.{GivenMigration}
@@ -20,16 +20,16 @@ use Rattle.compose_runs.specs.declared.environment.Environment.{Environment}
 use Rattle.compose_runs.specs.declared.files.MigrationFiles.{MigrationFiles}
 use Rattle.compose_runs.specs.declared.options.Options.{Options}
 
--- the first difference is explained, or all of them
+-- the first difference is explained, or with `all` each of them
 abbrev pub AnswersExplain : Bool → Result Answer Refusal → GivenMigration → Type 0
 AnswersExplain true answered given = Gives IsAllExplained answered (explain_parts given)
 AnswersExplain false answered given = Gives IsExplained answered (explain_parts given)
 
--- what was given to `explain`
+-- the input of `explain`
 abbrev pub explain_given : MigrationFiles → List (List ℕ) → Bool → GivenParts
 explain_given files fresh all = record (parts_of files.names fresh (files.old ∷ files.new ∷ [])) { all = all }
 
--- the answer on these files, reported
+-- the report of the answer on these files
 pub record IsExplainOutcome (verbose : Bool) (files : MigrationFiles) (fresh : List (List ℕ)) (all : Bool) (outcome : Outcome) : Type 0 where
   pub answered : Result Answer Refusal
   pub is : AnswersExplain all answered (migration_given files fresh)
@@ -37,20 +37,20 @@ pub record IsExplainOutcome (verbose : Bool) (files : MigrationFiles) (fresh : L
   pub parts : IsGiven (explain_given files fresh all) given
   pub reported : IsReported verbose given answered outcome
 
--- the same on the files that the folder has
+-- the same on the files in the folder
 pub record IsExplainRun (folder : Option (List Entry)) (options : Options) (paths : TablePaths) (fresh : List (List ℕ)) (all : Bool) (outcome : Outcome) : Type 0 where
   pub files : MigrationFiles
   pub read : AreMigrationFiles folder (map (λ name. name.now) options.names.now) paths.old.now paths.new.now files
   pub is : IsExplainOutcome options.verbose files fresh all outcome
 
--- ---- on Compose files
+-- ---- Compose files
 
 pub record IsExplainFilesOutcome (verbose : Bool) (files : MigrationFiles) (fresh : List (List ℕ)) (all : Bool) (outcome : Outcome) : Type 0 where
   pub answered : Result Answer Refusal
   pub is : AnswersExplain all answered (migration_given files fresh)
   pub reported : IsFilesReport verbose files (explain_given files fresh all) answered outcome
 
--- the same on the files that the folder has, in this environment
+-- the same on the files in the folder, in this environment
 pub record IsExplainFilesRun (folder : Option (List Entry)) (environment : Environment) (options : Options) (pair : FilePair) (fresh : List (List ℕ)) (all : Bool) (outcome : Outcome) : Type 0 where
   pub files : MigrationFiles
   pub read : AreFoundFiles folder environment (map (λ name. name.now) options.names.now) pair files

@@ -1,4 +1,4 @@
--- The files of tables, as the commands read them (this project's profile).
+-- The files of tables, as the commands read them (defined by this project).
 use Rattle.std.specs.Prelude.{ℕ, List, ◌++◌, Option, string_bytes}
 use Rattle.compose_folder.specs.Content.{Entry}
 use Rattle.compose_input.specs.Names.{AreNames}
@@ -6,11 +6,11 @@ use Rattle.compose_input.specs.Tables.{IsListed, sources_of}
 use Rattle.compose_migration.specs.Migration.{GivenMigration}
 use Rattle.compose_runs.specs.declared.files.MigrationFiles.{MigrationFiles}
 
--- the migration that the files are to give, with these names of fresh keysyms
+-- the input of a migration, with these names of fresh keysyms
 abbrev pub migration_given : MigrationFiles → List (List ℕ) → GivenMigration
 migration_given files fresh = record { header = files.names.lines.items; key_names = fresh; old = sources_of files.old; new = sources_of files.new }
 
--- what is noted of where they lie
+-- the notes on where the files lie
 abbrev pub notes_of : MigrationFiles → List ℕ
 notes_of files = string_bytes files.old.note ++ string_bytes files.new.note
 

@@ -1,4 +1,5 @@
--- A table that is given as its manifest or as its Compose file, and the names beside it (this project's profile).
+-- A table that is given as its manifest or as its Compose file, and the names for it (defined by
+-- this project).
 use Rattle.std.specs.Prelude.{◌≡◌, ℕ, Bool, true, false, List, [], Option, option_copied, string_bytes}
 use Rattle.compose_folder.specs.Content.{Entry}
 use Rattle.compose_arguments.specs.declared.given_tables.TypeTable.{TypeTable}
@@ -15,16 +16,16 @@ use Rattle.compose_runs.specs.OneTable.{IsNotedTable, table_places}
 use Rattle.compose_runs.specs.declared.environment.Environment.{Environment}
 use Rattle.compose_runs.specs.declared.one_table.NotedTable.{NotedTable}
 
--- of Compose files the built-in names where none are given
+-- for Compose files the built-in names if none are given
 abbrev pub names_for : Bool → List (List ℕ) → List (List ℕ)
 names_for true names = names_or_builtin names
 names_for false names = names
 
--- the table of the manifest at this path, of which nothing is noted
+-- the table of the manifest at this path, without notes
 abbrev pub IsListedTable : Option (List Entry) → List ℕ → NotedTable → Type 0
 IsListedTable folder path read = IsListed folder path read.table × (string_bytes read.notes ≡ [])
 
--- the table of a Compose file, where the arguments or the environment say that it lies
+-- the table of a Compose file, at the place that the arguments or the environment name
 pub record IsSystemTable (folder : Option (List Entry)) (environment : Environment) (arguments : TableArguments) (read : NotedTable) : Type 0 where
   pub places : Places
   pub are_places : IsPlaced environment (table_places arguments) places
@@ -42,7 +43,7 @@ abbrev pub FailsSystemTable : Option (List Entry) → Environment → TableArgum
 FailsSystemTable folder environment arguments fault =
     OrMemory (FailsPlaced environment (table_places arguments) (λ places f. FailsChosenTable folder environment places (option_copied arguments.file) f)) fault
 
--- the same of either; a fault of a source that a manifest lists names this part
+-- the same for either; the fault of a source that a manifest lists names this part
 abbrev pub FailsGivenTable : Option (List Entry) → Environment → List ℕ → TypeTable → Fault → Type 0
 FailsGivenTable folder environment part (Manifest path) fault = FailsListed folder part path.now fault
 FailsGivenTable folder environment part (File arguments) fault = FailsSystemTable folder environment arguments fault

@@ -1,4 +1,4 @@
--- What `how` prints (this project's profile).
+-- What `how` prints (defined by this project).
 use Rattle.std.specs.Prelude.{◌≡◌, ℕ, Bool, true, false, List, [], ◌∷◌, ◌++◌, map, unwrap_or, Option, Some, None, option_copied, Result, Ok, Err, string_bytes, codes}
 use Rattle.std.specs.List.{list_all}
 use Rattle.std.specs.declared.string.String.{String}
@@ -22,7 +22,7 @@ use Rattle.compose_runs.specs.declared.environment.Environment.{Environment}
 use Rattle.compose_runs.specs.declared.one_table.TableRead.{TableRead}
 use Rattle.compose_runs.specs.declared.skipping.KeptRead.{KeptRead}
 
--- ---- what is answered
+-- ---- the answer
 
 -- the bytes of the repertoire, if its path is given
 abbrev pub IsGivenText : Option (List Entry) → Option (List ℕ) → Option (List ℕ) → Type 0
@@ -30,7 +30,8 @@ IsGivenText folder (Some path) (Some bytes) = IsHeld folder path (File bytes)
 IsGivenText folder (Some path) None = ⊥
 IsGivenText folder None bytes = bytes ≡ None
 
--- the ways to type the texts that these words stand for, of the table that was read, by this repertoire if there is one
+-- the ways to type the texts that these words stand for, with the table that was read, and this
+-- repertoire if there is one
 abbrev pub AnswersHow : TableRead → HowArguments → Option (List ℕ) → List (List ℕ) → Result Ways Refusal → Type 0
 AnswersHow read arguments repertoire words answered =
     Gives (AreWays read.table.sources (map string_bytes read.table.paths.items) (map wanted_text words) arguments.first (form_of arguments.json)) answered
@@ -38,18 +39,18 @@ AnswersHow read arguments repertoire words answered =
 
 -- ---- what is printed
 
--- of a word for whose text no sequence is found (code 10 ends the line)
+-- for a word whose text no sequence produces (code 10 ends the line)
 abbrev pub missing_line : Bool → List ℕ → List ℕ
 missing_line true word = []
 missing_line false word = codes "no sequence gives " ++ (shown_text word ++ 10 ∷ [])
 
--- of each of these words in turn
+-- for each of these words in turn
 abbrev pub missing_lines : List (List ℕ) → List Bool → List ℕ
 missing_lines [] found = []
 missing_lines (word ∷ words) [] = []
 missing_lines (word ∷ words) (is_found ∷ found) = missing_line is_found word ++ missing_lines words found
 
--- yes where each text is found
+-- yes if each text is found
 abbrev pub answer_by : Bool → String Global → Answer
 answer_by true = Yes
 answer_by false = No
@@ -68,13 +69,14 @@ pub record IsWaysOutcome (read : TableRead) (repertoire text : List ℕ) (words 
   pub is_shown : IsTableOutcome false read [] repertoire text (Ok (answer_by (list_all (λ is_found. is_found) ways.found.items) ways.lines)) shown
   pub errors : HasErrors (missing_lines words ways.found.items) shown outcome
 
--- the same, or why nothing is answered, for people unless it is numbered; the repertoire is at this path, with this text
+-- the same, or a refusal; for people unless the first argument is true; the repertoire is at this
+-- path, with this text
 abbrev pub IsHowOutcome : Bool → TableRead → List ℕ → List ℕ → List (List ℕ) → Result Ways Refusal → Outcome → Type 0
 IsHowOutcome numbered read repertoire text words (Ok ways) outcome = IsWaysOutcome read repertoire text words ways outcome
 IsHowOutcome numbered read repertoire text words (Err refusal) outcome = IsTableOutcome numbered read [] repertoire text (Err refusal) outcome
 
--- the same on what was read, or on what is left of it without faulty lines, if these are skipped; with what is reported of the lines that are left out
--- after all else
+-- the same on the files that were read, without their faulty lines if these are skipped; the report
+-- of the skipped lines comes last
 pub record IsKeptHow (found : TableRead) (arguments : HowArguments) (repertoire : Option (List ℕ)) (words : List (List ℕ)) (outcome : Outcome) : Type 0 where
   pub kept : KeptRead
   pub is_kept : IsKeptRead arguments.table.skip_faulty found kept
@@ -84,7 +86,7 @@ pub record IsKeptHow (found : TableRead) (arguments : HowArguments) (repertoire 
   pub is_printed : IsHowOutcome arguments.json kept.read (unwrap_or (option_copied arguments.repertoire) []) (unwrap_or repertoire []) words answered printed
   pub followed : IsFollowed (string_bytes kept.skipped) printed outcome
 
--- the same on the files that the folder has, in this environment
+-- the same on the files in the folder, in this environment
 pub record IsHowRun (folder : Option (List Entry)) (environment : Environment) (names : List (List ℕ)) (arguments : HowArguments) (words : List (List ℕ)) (outcome : Outcome) : Type 0 where
   pub found : TableRead
   pub is_read : IsTableRead folder environment names arguments.table found

@@ -1,4 +1,4 @@
--- What `lint` reads and prints (this project's profile).
+-- What `lint` reads and prints (defined by this project).
 use Rattle.std.specs.Prelude.{◌≡◌, ℕ, Bool, true, false, ◌==◌, ◌||◌, length, if◌then◌else◌, List, [], ◌∷◌, ◌++◌, map, flat_map, Option, Some, None, unwrap_or, option_copied, Result, Ok, Err, string_bytes, bytes_eq, codes}
 use Rattle.std.specs.List.{AllZip, list_any}
 use Rattle.std.proofs.Common.{Bor}
@@ -41,21 +41,21 @@ use Rattle.compose_runs.specs.declared.linting.ReadTable.{ReadTable}
 abbrev pub lint_places : LintArguments → PlaceArguments
 lint_places arguments = record { system = arguments.system; locale = arguments.locale; root = arguments.root }
 
--- the files that are asked for: those that are given, or else the user's own
+-- the wanted files: the given ones, or the user's own if none is given
 abbrev pub asked_files : List (Bor (List ℕ)) → List (Option (List ℕ))
 asked_files [] = None ∷ []
 asked_files (path ∷ paths) = map (λ (p : Bor (List ℕ)). Some p.now) (path ∷ paths)
 
--- the file that is given, or else the user's own, and its table as it lies on the system
+-- the given file, or otherwise the user's own, and its table as it is on the system
 pub record IsReadTable (folder : Option (List Entry)) (environment : Environment) (places : Places) (given : Option (List ℕ)) (read : ReadTable) : Type 0 where
   pub is_file : IsChosen folder environment places given read.file
   pub is_table : IsFoundOnSystem folder places (string_bytes read.file.path) Longest read.table
 
--- those that are asked for, in their order
+-- those of the wanted files, in their order
 abbrev pub AreReadTables : Option (List Entry) → Environment → Places → List (Option (List ℕ)) → List ReadTable → Type 0
 AreReadTables folder environment places given read = AllZip (IsReadTable folder environment places) given read
 
--- the names, the tables, and the list of the findings that are accepted
+-- the names, the tables, and the list of accepted findings
 pub record AreLintFiles (folder : Option (List Entry)) (environment : Environment) (names : List (List ℕ)) (arguments : LintArguments) (files : LintFiles) : Type 0 where
   pub are_names : AreNames folder (names_or_builtin names) files.names
   pub places : Places
@@ -63,13 +63,13 @@ pub record AreLintFiles (folder : Option (List Entry)) (environment : Environmen
   pub are_tables : AreReadTables folder environment places (asked_files arguments.files.items) files.tables.items
   pub is_accepted : IsAccepted folder (option_copied arguments.accept) files.accepted.items
 
--- ---- what is asked
+-- ---- the input
 
--- the reader of this word is asked for
+-- the reader with this word is wanted
 abbrev pub has_word : List (Bor (List ℕ)) → List ℕ → Bool
 has_word given word = list_any (λ (other : Bor (List ℕ)). bytes_eq other.now word) given
 
--- libX11 and libxkbcommon where none is asked for
+-- libX11 and libxkbcommon if no word is given
 abbrev pub readers_of : List (Bor (List ℕ)) → Readers
 readers_of given = record {
   libx11 = (length given == 0) || has_word given (codes "libX11");
@@ -98,18 +98,20 @@ lint_asked files arguments = record {
 
 -- ---- what is printed
 
--- which line of the list of accepted findings is refused, and why (code 10 ends it)
+-- the refused line of the list of accepted findings, and the reason (code 10 ends it)
 abbrev pub lint_accept_details : List ℕ → AcceptFault → List ℕ
 lint_accept_details path (Stale n) = said_at path n (codes "no finding in these tables is named by the line") ++ 10 ∷ []
 lint_accept_details path (BadLine n) = said_at path n (codes "expected the word of a kind, \": \" and a line of a Compose file") ++ 10 ∷ []
 lint_accept_details path NoMemory = []
 
--- of a refusal of the list, the line of the list; with `numbered` below the line of the refusal, by what the fault is printed as
+-- for a refused list, the message about its line; if `numbered`, after the line of the refusal with
+-- the printed form of the fault
 abbrev pub IsLintAcceptRefusal : Bool → Option (List ℕ) → AcceptFault → Outcome → Type 0
 IsLintAcceptRefusal numbered path fault outcome =
     (own : List ℕ) × PrintsErrors (told_text numbered (codes "refused: accept: " ++ (own ++ 10 ∷ [])) (lint_accept_details (unwrap_or path []) fault)) Refused outcome
 
--- of a refusal of the names, each faulty line of them; with `numbered` below the line of the refusal
+-- for a refusal of the names, each faulty line of them; if `numbered`, after the line of the
+-- refusal
 pub record IsLintRefusal (numbered : Bool) (names : NameFiles) (refusal : Refusal) (outcome : Outcome) : Type 0 where
   pub given : Given
   pub parts : IsGiven (parts_of names [] []) given
@@ -120,20 +122,20 @@ IsLintPrinted files arguments (Ok answer) outcome = (own : List ℕ) × IsOutcom
 IsLintPrinted files arguments (Err (Input refusal)) outcome = IsLintRefusal arguments.json files.names refusal outcome
 IsLintPrinted files arguments (Err (Accept fault)) outcome = IsLintAcceptRefusal arguments.json (option_copied arguments.accept) fault outcome
 
--- the lines that note files which were not given
+-- the notes on the files that were not given
 abbrev pub notes_in : List ReadTable → List ℕ
 notes_in tables = flat_map (λ (read : ReadTable). string_bytes read.file.note) tables
 
--- the faulty lines of these tables by the names of a header, and how many they are
+-- the faulty lines of these tables by the names of a header, and their number
 abbrev pub report_in : List ℕ → List ReadTable → List ℕ
 report_in header tables = report_text header (map (λ (read : ReadTable). read.table) tables)
 
--- the same, if they are left out
+-- the same, if faulty lines are skipped
 abbrev pub skipped_lines : Bool → LintFiles → List ℕ
 skipped_lines true files = report_in files.names.lines.items files.tables.items
 skipped_lines false files = []
 
--- the answer on these files, printed below the notes, with what is reported of the lines that are left out after all else
+-- the answer on these files, after the notes; the report of the skipped lines comes last
 pub record IsLintOutcome (files : LintFiles) (arguments : LintArguments) (outcome : Outcome) : Type 0 where
   pub answered : Result Answer LintFault
   pub is : AnswersLint (lint_asked files arguments) answered
@@ -143,7 +145,7 @@ pub record IsLintOutcome (files : LintFiles) (arguments : LintArguments) (outcom
   pub is_noted : IsNoted (notes_in files.tables.items) printed noted
   pub followed : IsFollowed (skipped_lines arguments.skip_faulty files) noted outcome
 
--- the same on the files that the folder has, in this environment
+-- the same on the files in the folder, in this environment
 pub record IsLintRun (folder : Option (List Entry)) (environment : Environment) (names : List (List ℕ)) (arguments : LintArguments) (outcome : Outcome) : Type 0 where
   pub files : LintFiles
   pub read : AreLintFiles folder environment names arguments files

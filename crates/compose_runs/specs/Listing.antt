@@ -1,4 +1,4 @@
--- What `list` prints (this project's profile).
+-- What `list` prints (defined by this project).
 use Rattle.std.specs.Prelude.{ℕ, Bool, true, false, List, [], map, Option, option_copied, Result, string_bytes}
 use Rattle.std.specs.Option.{option_map}
 use Rattle.compose_folder.specs.Content.{Entry}
@@ -23,9 +23,9 @@ use Rattle.compose_runs.specs.declared.environment.Environment.{Environment}
 use Rattle.compose_runs.specs.declared.one_table.TableRead.{TableRead}
 use Rattle.compose_runs.specs.declared.skipping.KeptRead.{KeptRead}
 
--- ---- what is asked
+-- ---- the input
 
--- JSON where that is asked for
+-- JSON or lines
 abbrev pub form_of : Bool → ListForm
 form_of true = Json
 form_of false = Lines
@@ -35,13 +35,13 @@ order_of sorts.Keys = Keys
 order_of sorts.Text = Text
 order_of sorts.File = File
 
--- the text that is asked for, if a word for one is given
+-- the text that the word stands for, if a word is given
 abbrev pub asked_text : ListArguments → Option (List ℕ)
 asked_text arguments = option_map wanted_text (option_copied arguments.text)
 
--- ---- what is answered
+-- ---- the answer
 
--- the names, the keys of the prefix and the table, of what was read
+-- the names, the keys of the prefix and the table that were read
 abbrev pub list_parts : TableRead → ListArguments → Result TypedParts NoAnswer
 list_parts read arguments = type_parts read.names.lines.items (map (λ key. key.now) arguments.prefix.items) (sources_of read.table)
 
@@ -49,20 +49,21 @@ list_parts read arguments = type_parts read.names.lines.items (map (λ key. key.
 abbrev pub AnswersNext : TableRead → ListArguments → Result Answer Refusal → Type 0
 AnswersNext read arguments answered = Gives (IsNext (form_of arguments.json)) answered (list_parts read arguments)
 
--- the sequences that begin with the prefix, and give the text if one is asked for, in the order that is asked for; each with the path of its file
+-- the sequences that begin with the prefix, and produce the text if one is given, in the order of
+-- the arguments; each with the path of its file
 abbrev pub AnswersSequences : TableRead → ListArguments → Result Answer Refusal → Type 0
 AnswersSequences read arguments answered =
     Gives (IsListed read.table.sources (map string_bytes read.table.paths.items) (asked_text arguments) (order_of arguments.sort) (form_of arguments.json)) answered (list_parts read arguments)
 
--- the keys that can follow, where these are asked for; else the sequences
+-- the keys that can follow, or otherwise the sequences
 abbrev pub AnswersList : Bool → TableRead → ListArguments → Result Answer Refusal → Type 0
 AnswersList true = AnswersNext
 AnswersList false = AnswersSequences
 
 -- ---- what is printed
 
--- the answer on what was read, or on what is left of it without faulty lines, if these are skipped; below the notes on where the files lie, and with
--- what is reported of the lines that are left out after all else
+-- the answer on the files that were read, without their faulty lines if these are skipped; the
+-- notes on where the files lie come first, and the report of the skipped lines comes last
 pub record IsListOutcome (found : TableRead) (arguments : ListArguments) (outcome : Outcome) : Type 0 where
   pub kept : KeptRead
   pub is_kept : IsKeptRead arguments.table.skip_faulty found kept
@@ -72,7 +73,7 @@ pub record IsListOutcome (found : TableRead) (arguments : ListArguments) (outcom
   pub is_printed : IsTableOutcome arguments.json kept.read (map (λ key. key.now) arguments.prefix.items) [] [] answered printed
   pub followed : IsFollowed (string_bytes kept.skipped) printed outcome
 
--- the same on the files that the folder has, in this environment
+-- the same on the files in the folder, in this environment
 pub record IsListRun (folder : Option (List Entry)) (environment : Environment) (names : List (List ℕ)) (arguments : ListArguments) (outcome : Outcome) : Type 0 where
   pub found : TableRead
   pub is_read : IsTableRead folder environment names arguments.table found

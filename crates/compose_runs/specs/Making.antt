@@ -1,4 +1,4 @@
--- What `make` prints, or writes to a file (this project's profile).
+-- What `make` prints, or writes to a file (defined by this project).
 use Rattle.std.specs.Prelude.{◌≡◌, ℕ, Bool, true, false, List, [], ◌∷◌, map, Option, None, option_copied, Result, string_bytes}
 use Rattle.std.specs.Option.{option_map}
 use Rattle.compose_folder.specs.Content.{Entry, File, IsHeld}
@@ -24,16 +24,16 @@ use Rattle.compose_runs.specs.declared.files.MigrationFiles.{MigrationFiles}
 use Rattle.compose_runs.specs.declared.making.MakeOptions.{MakeOptions}
 use Rattle.compose_runs.specs.declared.options.Options.{Options}
 
--- a certificate, or the first character that can't be typed, or all of these
+-- a certificate, or the first character that can't be typed, or with `all` each such character
 abbrev pub AnswersMake : Bool → Result Answer Refusal → GivenMigration → List ℕ → Type 0
 AnswersMake true answered given repertoire = Gives IsAllMadeText answered (make_parts given repertoire)
 AnswersMake false answered given repertoire = Gives IsMadeText answered (make_parts given repertoire)
 
--- what was given to `make`, the text of the repertoire among it
+-- the input of `make`, with the text of the repertoire
 abbrev pub make_given : MigrationFiles → List ℕ → MakeOptions → GivenParts
 make_given files text making = record (parts_of files.names (map (λ name. name.now) making.fresh.now) (files.old ∷ files.new ∷ [])) { repertoire = making.repertoire.now; repertoire_text = text }
 
--- the answer on these files, reported
+-- the report of the answer on these files
 pub record IsMakeOutcome (verbose : Bool) (files : MigrationFiles) (repertoire : List ℕ) (making : MakeOptions) (outcome : Outcome) : Type 0 where
   pub answered : Result Answer Refusal
   pub is : AnswersMake making.all answered (migration_given files (map (λ name. name.now) making.fresh.now)) repertoire
@@ -41,12 +41,13 @@ pub record IsMakeOutcome (verbose : Bool) (files : MigrationFiles) (repertoire :
   pub parts : IsGiven (make_given files repertoire making) given
   pub reported : IsReported verbose given answered outcome
 
--- the file to which the output is written: a certificate, to the path that was given
+-- the file to which the output is written: a certificate to the given path
 abbrev pub file_of : Option (List ℕ) → Ended → Option (List ℕ)
 file_of path Yes = path
 file_of path ended = None
 
--- the outcome is as it was printed, but that its output is written to this path where it is a certificate
+-- the outcome is the printed one, except that its output is written to this path if it is a
+-- certificate
 pub record IsWrittenTo (path : Option (List ℕ)) (printed written : Outcome) : Type 0 where
   pub notes : written.notes ≡ printed.notes
   pub output : written.output ≡ printed.output
@@ -54,7 +55,7 @@ pub record IsWrittenTo (path : Option (List ℕ)) (printed written : Outcome) : 
   pub ended : written.ended ≡ printed.ended
   pub file : option_map string_bytes written.file ≡ file_of path printed.ended
 
--- the same on the files that the folder has
+-- the same on the files in the folder
 pub record IsMakeRun (folder : Option (List Entry)) (options : Options) (paths : TablePaths) (making : MakeOptions) (outcome : Outcome) : Type 0 where
   pub files : MigrationFiles
   pub read : AreMigrationFiles folder (map (λ name. name.now) options.names.now) paths.old.now paths.new.now files
@@ -64,14 +65,14 @@ pub record IsMakeRun (folder : Option (List Entry)) (options : Options) (paths :
   pub is : IsMakeOutcome options.verbose files repertoire making printed
   pub written : IsWrittenTo (option_copied making.output) printed outcome
 
--- ---- on Compose files
+-- ---- Compose files
 
 pub record IsMakeFilesOutcome (verbose : Bool) (files : MigrationFiles) (repertoire : List ℕ) (making : MakeOptions) (outcome : Outcome) : Type 0 where
   pub answered : Result Answer Refusal
   pub is : AnswersMake making.all answered (migration_given files (map (λ name. name.now) making.fresh.now)) repertoire
   pub reported : IsFilesReport verbose files (make_given files repertoire making) answered outcome
 
--- the same on the files that the folder has, in this environment
+-- the same on the files in the folder, in this environment
 pub record IsMakeFilesRun (folder : Option (List Entry)) (environment : Environment) (options : Options) (pair : FilePair) (making : MakeOptions) (outcome : Outcome) : Type 0 where
   pub files : MigrationFiles
   pub read : AreFoundFiles folder environment (map (λ name. name.now) options.names.now) pair files

@@ -1,4 +1,4 @@
--- What `manifest` prints (this project's profile).
+-- What `manifest` prints (defined by this project).
 use Rattle.std.specs.Prelude.{◌⊎◌, ℕ, List, [], ◌∷◌, ◌++◌, Option, option_copied, string_bytes, codes}
 use Rattle.compose_folder.specs.Content.{Entry}
 use Rattle.compose_find.specs.Found.{FoundSource}
@@ -16,11 +16,12 @@ use Rattle.compose_runs.specs.declared.environment.Environment.{Environment}
 use Rattle.compose_runs.specs.declared.environment.PlaceArguments.{PlaceArguments}
 use Rattle.compose_runs.specs.declared.one_table.ChosenFile.{ChosenFile}
 
--- that the sources can't be listed, in words
+-- the message that the sources can't be listed
 abbrev pub PrintsRefusal : Outcome → Type 0
 PrintsRefusal outcome = PrintsErrors (codes "composecheck: a name or a path can't stand in a manifest, as one with a newline or a tab\n") Refused outcome
 
--- the manifest of the sources, which is read as a listing of them; or a refusal, where a name or a path can't stand in one
+-- the manifest of the sources, which when read lists them; or a refusal, if a manifest can't
+-- contain a name or a path
 abbrev pub IsWrittenManifest : List FoundSource → Outcome → Type 0
 IsWrittenManifest found outcome =
     (ReadsAs (manifest_bytes found) found × PrintsOutput (manifest_bytes found) Yes outcome) ⊎ ((¬ (ReadsAs (manifest_bytes found) found)) × PrintsRefusal outcome)
@@ -33,11 +34,12 @@ pub record IsManifestOutcome (places : Places) (file : List ℕ) (found : List F
   pub is : IsWrittenManifest found written
   pub noted : IsNoted notes written outcome
 
--- what the arguments say of where tables lie
+-- the arguments that say where tables lie
 abbrev pub place_arguments : ManifestArguments → PlaceArguments
 place_arguments arguments = record { system = arguments.system; locale = arguments.locale; root = arguments.root }
 
--- the same on the files that the folder has, in this environment, below a note of the file if it was not given
+-- the same on the files in the folder, in this environment, after a note on the file if it was not
+-- given
 pub record IsManifestRun (folder : Option (List Entry)) (environment : Environment) (arguments : ManifestArguments) (outcome : Outcome) : Type 0 where
   pub places : Places
   pub are_places : IsPlaced environment (place_arguments arguments) places

@@ -1,4 +1,5 @@
--- What the commands on one Compose file read, and print of an answer (this project's profile).
+-- What the commands on one Compose file read, and how they print an answer (defined by this
+-- project).
 use Rattle.std.specs.Prelude.{◌≡◌, ℕ, Bool, true, false, List, [], ◌∷◌, ◌++◌, Option, option_copied, Result, Ok, Err, string_bytes}
 use Rattle.compose_folder.specs.Content.{Entry}
 use Rattle.compose_model.specs.declared.Rule.{Rule}
@@ -22,7 +23,7 @@ use Rattle.compose_runs.specs.declared.one_table.ChosenFile.{ChosenFile}
 use Rattle.compose_runs.specs.declared.one_table.NotedTable.{NotedTable}
 use Rattle.compose_runs.specs.declared.one_table.TableRead.{TableRead}
 
--- overlaps are refused where that is asked for
+-- overlapping sequences are refused if that is asked for
 abbrev pub rule_unless : Bool → Rule
 rule_unless true = Refuse
 rule_unless false = Longest
@@ -30,7 +31,7 @@ rule_unless false = Longest
 abbrev pub table_places : TableArguments → PlaceArguments
 table_places arguments = record { system = arguments.system; locale = arguments.locale; root = arguments.root }
 
--- the Compose file that is given, or else the user's, with what is noted of where its files lie
+-- the given Compose file, or otherwise the user's, with notes on where its files lie
 pub record IsNotedTable (folder : Option (List Entry)) (environment : Environment) (places : Places) (arguments : TableArguments) (read : NotedTable) : Type 0 where
   pub file : ChosenFile
   pub is_file : IsChosen folder environment places (option_copied arguments.file) file
@@ -49,8 +50,8 @@ abbrev pub is_refused : Result Answer Refusal → Bool
 is_refused (Ok answer) = false
 is_refused (Err refusal) = true
 
--- the answer, or each faulty line of what was given, these key names and the repertoire at this path with this text among it, for people unless it is
--- numbered, below the notes
+-- the answer, or each faulty line of the input; for people unless `numbered`, after the notes; the
+-- input has these key names, and the repertoire at this path with this text
 pub record IsTableOutcome (numbered : Bool) (read : TableRead) (keys : List (List ℕ)) (repertoire text : List ℕ) (answered : Result Answer Refusal) (outcome : Outcome) : Type 0 where
   pub given : Given
   pub parts : IsGiven (record (parts_of read.names keys (read.table ∷ [])) { repertoire = repertoire; repertoire_text = text }) given

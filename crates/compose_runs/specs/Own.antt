@@ -1,4 +1,5 @@
--- The Compose file that is read where none is given (libxkbcommon, `xkb_compose_table_new_from_locale`).
+-- The Compose file that is read if none is given (libxkbcommon,
+-- `xkb_compose_table_new_from_locale`).
 use Rattle.std.specs.Prelude.{◌≡◌, ◌⊎◌, ℕ, List, [], ◌∷◌, ◌++◌, Option, Some, None, Ok, option_copied, string_bytes, codes}
 use Rattle.compose_text.specs.Results.{◌>>=◌}
 use Rattle.compose_shown.specs.Shown.{shown_text}
@@ -10,7 +11,7 @@ use Rattle.compose_runs.specs.Variables.{Said, text_of}
 use Rattle.compose_runs.specs.declared.environment.Environment.{Environment}
 use Rattle.compose_runs.specs.declared.one_table.ChosenFile.{ChosenFile}
 
--- where the user's own file may lie
+-- the paths at which the user's own file may be
 abbrev pub own_paths : Environment → Places → Said (List (List ℕ))
 own_paths e places = do
   compose_file ← text_of e.xcomposefile
@@ -21,12 +22,12 @@ own_paths e places = do
 abbrev pub IsLast : List (List ℕ) → List ℕ → Type 0
 IsLast paths path = ((before : List (List ℕ)) × (paths ≡ before ++ path ∷ [])) ⊎ ((paths ≡ []) × (path ≡ codes ".XCompose"))
 
--- the locale's table, or where there is none, the path that is looked for last
+-- the locale's table, or, if there is none, the path that is tried last
 abbrev pub IsTableOr : List (List ℕ) → Option (List ℕ) → List ℕ → Type 0
 IsTableOr paths (Some table) path = path ≡ table
 IsTableOr paths None path = IsLast paths path
 
--- the first of the user's own paths at which there is a file, and else the locale's table
+-- the first of the user's own paths at which there is a file, or otherwise the locale's table
 abbrev pub IsOwnOr : Option (List Entry) → Places → List (List ℕ) → Option (List ℕ) → List ℕ → Type 0
 IsOwnOr folder places paths (Some own) path = path ≡ own
 IsOwnOr folder places paths None path = (table : Option (List ℕ)) × IsLocaleTable folder places table × IsTableOr paths table path
@@ -38,11 +39,11 @@ pub record IsOwnFile (folder : Option (List Entry)) (environment : Environment) 
   pub is_first : IsFirstFile folder paths own
   pub is : IsOwnOr folder places paths own path
 
--- what is noted of a file that was not given (code 10 ends the line)
+-- the note on a file that was not given (code 10 ends the line)
 abbrev pub own_note : List ℕ → List ℕ
 own_note path = codes "note: the Compose file is " ++ (shown_text path ++ 10 ∷ [])
 
--- the file that is given, or else the user's, which is noted
+-- the given file, or otherwise the user's, with a note on it
 abbrev pub IsChosen : Option (List Entry) → Environment → Places → Option (List ℕ) → ChosenFile → Type 0
 IsChosen folder environment places (Some path) file = (string_bytes file.path ≡ path) × (string_bytes file.note ≡ [])
 IsChosen folder environment places None file = IsOwnFile folder environment places (string_bytes file.path) × (string_bytes file.note ≡ own_note (string_bytes file.path))

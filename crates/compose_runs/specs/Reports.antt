@@ -1,4 +1,4 @@
--- What is printed of an answer, or of a refusal, to what was given (this project's profile).
+-- What is printed for an answer or a refusal on an input (defined by this project).
 use Rattle.std.specs.Prelude.{Bool, false, ◌||◌, Result}
 use Rattle.compose_answer.specs.declared.answer.Answer.{Answer}
 use Rattle.compose_answer.specs.declared.refusal.Refusal.{Refusal}
@@ -10,13 +10,14 @@ use Rattle.compose_runs.specs.Files.{notes_of}
 use Rattle.compose_runs.specs.OneTable.{is_refused}
 use Rattle.compose_runs.specs.declared.files.MigrationFiles.{MigrationFiles}
 
--- the answer, or the refusal, to these parts, for people unless it is numbered
+-- the answer or the refusal on these parts; for people unless `numbered`
 pub record IsReport (numbered verbose : Bool) (parts : GivenParts) (answered : Result Answer Refusal) (outcome : Outcome) : Type 0 where
   pub given : Given
   pub are_parts : IsGiven parts given
   pub reported : IsWorded numbered verbose given answered outcome
 
--- the same of Compose files: for people, a refusal with each faulty line, below the notes on where the files lie
+-- the same for Compose files: for people, a refusal with each faulty line, after the notes on where
+-- the files lie
 pub record IsFilesReport (verbose : Bool) (files : MigrationFiles) (parts : GivenParts) (answered : Result Answer Refusal) (outcome : Outcome) : Type 0 where
   pub printed : Outcome
   pub is : IsReport false (verbose || is_refused answered) parts answered printed

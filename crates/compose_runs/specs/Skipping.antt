@@ -1,4 +1,5 @@
--- What commands read, without the faulty lines of tables, and what is printed of these (this project's profile).
+-- The files that commands read, without the faulty lines of tables, and the report of these lines
+-- (defined by this project).
 use Rattle.std.specs.Prelude.{◌≡◌, ℕ, Bool, true, false, List, [], ◌∷◌, ◌++◌, string_bytes}
 use Rattle.keysym_core.specs.Header.{names_of}
 use Rattle.compose_skipped.specs.Kept.{IsKept}
@@ -9,21 +10,21 @@ use Rattle.compose_runs.specs.declared.one_table.TableRead.{TableRead}
 use Rattle.compose_runs.specs.declared.skipping.KeptPair.{KeptPair}
 use Rattle.compose_runs.specs.declared.skipping.KeptRead.{KeptRead}
 
--- ---- what a command reads
+-- ---- the files of a command
 
--- of one Compose file
+-- those of one Compose file
 pub record SkipsRead (read : TableRead) (kept : KeptRead) : Type 0 where
   pub names : kept.read.names ≡ read.names
   pub notes : kept.read.notes ≡ read.notes
   pub table : IsKept (names_of read.names.lines.items) read.table kept.read.table
   pub skipped : string_bytes kept.skipped ≡ report_text read.names.lines.items (read.table ∷ [])
 
--- all of it; or what is left without faulty lines, if these are skipped
+-- all lines, or those without a fault if the others are skipped
 abbrev pub IsKeptRead : Bool → TableRead → KeptRead → Type 0
 IsKeptRead false read kept = (kept.read ≡ read) × (string_bytes kept.skipped ≡ [])
 IsKeptRead true read kept = SkipsRead read kept
 
--- of two
+-- those of two Compose files
 pub record SkipsPair (files : DiffFiles) (kept : KeptPair) : Type 0 where
   pub names : kept.files.both.names ≡ files.both.names
   pub accepted : kept.files.accepted ≡ files.accepted

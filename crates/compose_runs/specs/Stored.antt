@@ -1,4 +1,4 @@
--- The table in use, as `update` stores it: the words in which damage of it is refused (this project's profile).
+-- The table in use, as `update` stores it: the message about damage (defined by this project).
 use Rattle.std.specs.Prelude.{◌≡◌, ◌⊎◌, ℕ, List, ◌++◌, string_bytes, codes}
 use Rattle.compose_bundle.specs.Bundle.{Bundle, IsBundle}
 use Rattle.compose_input.specs.declared.fault.Fault.{Fault}
@@ -8,12 +8,13 @@ use Rattle.compose_input.specs.declared.fault.Fault.TheVariants as faults
 abbrev pub damage : List ℕ
 damage = codes "1 Form"
 
--- the state is refused in these words, unless memory ran out for saying so
+-- the fault of the state in these words, unless memory runs out for it
 abbrev pub SaysState : List ℕ → Fault → Type 0
 SaysState words (faults.Refused part why) = (part.now ≡ codes "state") × (string_bytes why ≡ words)
 SaysState words faults.NoMemory = Unit {0}
 SaysState words fault = ⊥
 
--- memory ran out; or the bytes are no bundle, and after the words of where they are it is said so
+-- memory ran out; or the bytes are not a bundle, and the fault says so after the words of this
+-- place
 abbrev pub IsDamaged : List ℕ → List ℕ → Fault → Type 0
 IsDamaged place bytes fault = (fault ≡ faults.NoMemory) ⊎ (((bundle : Bundle) → ¬ (IsBundle bytes bundle)) × SaysState (place ++ damage) fault)

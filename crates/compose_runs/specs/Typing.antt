@@ -1,4 +1,4 @@
--- What `type` prints (this project's profile).
+-- What `type` prints (defined by this project).
 use Rattle.std.specs.Prelude.{◌≡◌, ℕ, Bool, false, List, [], ◌∷◌, flat_map, length, map, Option, Some, None, Result, string_bytes}
 use Rattle.std.specs.Str.Lines.{lines}
 use Rattle.compose_folder.specs.Content.{Entry, File, IsHeld}
@@ -26,7 +26,7 @@ use Rattle.compose_runs.specs.declared.one_table.TableRead.{TableRead}
 use Rattle.compose_runs.specs.declared.options.Options.{Options}
 use Rattle.compose_runs.specs.declared.skipping.KeptRead.{KeptRead}
 
--- the answer on these names and this table, reported
+-- the report of the answer on these names and this table
 pub record IsTypeOutcome (verbose : Bool) (names : NameFiles) (table : TableFiles) (keys : List (List ℕ)) (outcome : Outcome) : Type 0 where
   pub answered : Result Answer Refusal
   pub is : Gives IsTyped answered (type_parts names.lines.items keys (sources_of table))
@@ -34,7 +34,7 @@ pub record IsTypeOutcome (verbose : Bool) (names : NameFiles) (table : TableFile
   pub parts : IsGiven (parts_of names keys (table ∷ [])) given
   pub reported : IsReported verbose given answered outcome
 
--- the same on the files that the folder has
+-- the same on the files in the folder
 pub record IsTypeRun (folder : Option (List Entry)) (options : Options) (path : List ℕ) (keys : List (List ℕ)) (outcome : Outcome) : Type 0 where
   pub names : NameFiles
   pub are_names : AreNames folder (map (λ name. name.now) options.names.now) names
@@ -44,7 +44,7 @@ pub record IsTypeRun (folder : Option (List Entry)) (options : Options) (path : 
 
 -- ---- with a Compose file
 
--- the answer to the keys that the words write, on these names and this table, below the notes
+-- the answer for the keys that the words write, on these names and this table, after the notes
 pub record IsTypeFileOutcome (read : TableRead) (words : List (List ℕ)) (outcome : Outcome) : Type 0 where
   pub keys : List (List ℕ)
   pub are_keys : AreWritten (names_of read.names.lines.items) words keys
@@ -52,13 +52,14 @@ pub record IsTypeFileOutcome (read : TableRead) (words : List (List ℕ)) (outco
   pub is : Gives IsTyped answered (type_parts read.names.lines.items keys (sources_of read.table))
   pub reported : IsTableOutcome false read keys [] [] answered outcome
 
--- what standard input has, at the path of a hyphen (code 45), if there is no word
+-- the content of standard input, whose path is a hyphen (code 45), if there are no words
 abbrev pub AreGivenLines : Option (List Entry) → List (List ℕ) → Option (List ℕ) → Type 0
 AreGivenLines folder [] (Some lines) = IsHeld folder (45 ∷ []) (File lines)
 AreGivenLines folder [] None = ⊥
 AreGivenLines folder (word ∷ words) lines = lines ≡ None
 
--- the answer to the lists of keys that these lines write, and after a refusal of a key which line has it
+-- the answer for the lists of keys that these lines write, and, if a key is refused, the line that
+-- has it
 pub record IsTypeLinesOutcome (read : TableRead) (text : List ℕ) (outcome : Outcome) : Type 0 where
   pub keys : List (List ℕ)
   pub are_keys : AreWritten (names_of read.names.lines.items) (flat_map words_in (lines text)) keys
@@ -68,13 +69,13 @@ pub record IsTypeLinesOutcome (read : TableRead) (text : List ℕ) (outcome : Ou
   pub reported : IsTableOutcome false read keys [] [] answered printed
   pub followed : IsFollowed (refused_line (map (λ line. length (words_in line)) (lines text)) answered) printed outcome
 
--- the answer to the words, or where lines are given, to these
+-- the answer for the lines if they are given, or otherwise for the words
 abbrev pub IsTypedFile : TableRead → List (List ℕ) → Option (List ℕ) → Outcome → Type 0
 IsTypedFile read words None outcome = IsTypeFileOutcome read words outcome
 IsTypedFile read words (Some text) outcome = IsTypeLinesOutcome read text outcome
 
--- the same on what was read, or on what is left of it without faulty lines, if these are skipped; with what is reported of the lines that are left out
--- after all else
+-- the same on the files that were read, without their faulty lines if these are skipped; the report
+-- of the skipped lines comes last
 pub record IsKeptType (found : TableRead) (skip_faulty : Bool) (words : List (List ℕ)) (text : Option (List ℕ)) (outcome : Outcome) : Type 0 where
   pub kept : KeptRead
   pub is_kept : IsKeptRead skip_faulty found kept
@@ -82,7 +83,7 @@ pub record IsKeptType (found : TableRead) (skip_faulty : Bool) (words : List (Li
   pub is : IsTypedFile kept.read words text printed
   pub followed : IsFollowed (string_bytes kept.skipped) printed outcome
 
--- the same on the files that the folder has, in this environment
+-- the same on the files in the folder, in this environment
 pub record IsTypeFileRun (folder : Option (List Entry)) (environment : Environment) (names : List (List ℕ)) (arguments : TableArguments) (words : List (List ℕ)) (outcome : Outcome) : Type 0 where
   pub found : TableRead
   pub is_read : IsTableRead folder environment names arguments found

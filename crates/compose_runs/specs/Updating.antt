@@ -1,4 +1,4 @@
--- What `update` reads, and what it then does with the table in use (this project's profile).
+-- What `update` reads, and what it does with the table in use (defined by this project).
 use Rattle.std.specs.Prelude.{◌≡◌, ℕ, true, false, List, [], ◌∷◌, map, Option, Some, None, option_copied, Result, Ok, Err, string_bytes, codes}
 use Rattle.std.specs.declared.alloc.Global.{Global}
 use Rattle.std.specs.declared.string.String.{String}
@@ -44,23 +44,23 @@ use Rattle.compose_runs.specs.declared.updating.UpdateRun.TheVariants.{Replaced,
 abbrev pub update_places : UpdateArguments → PlaceArguments
 update_places arguments = record { system = arguments.system; locale = arguments.locale; root = None }
 
--- the names that are built in
+-- the built-in names
 abbrev pub builtin : List (List ℕ)
 builtin = codes "builtin" ∷ []
 
--- the bytes of the repertoire; nothing where no path is given
+-- the bytes of the repertoire; none if no path is given
 abbrev pub IsRepertoire : Option (List Entry) → Option (List ℕ) → List ℕ → Type 0
 IsRepertoire folder None bytes = bytes ≡ []
 IsRepertoire folder (Some path) bytes = IsHeld folder path (File bytes)
 
--- the list of the changes that are meant, where its path is given
+-- the list of intended changes, if its path is given
 abbrev pub IsMeantList : Option (List Entry) → Option (List ℕ) → Option MeantChanges → Type 0
 IsMeantList folder None None = Unit {0}
 IsMeantList folder (Some path) (Some meant) = (string_bytes meant.path ≡ path) × IsHeld folder path (File meant.lines.items)
 IsMeantList folder path meant = ⊥
 
--- the built-in names, the Compose file as it lies on the system, of whose overlapping sequences the longest counts, the repertoire, and the
--- list of the changes that are meant
+-- the built-in names, the Compose file as it is on the system (the longest of its overlapping
+-- sequences counts), the repertoire, and the list of intended changes
 pub record AreUpdateFiles (folder : Option (List Entry)) (environment : Environment) (arguments : UpdateArguments) (files : UpdateFiles) : Type 0 where
   pub places : Places
   pub are_places : IsPlaced environment (update_places arguments) places
@@ -69,9 +69,9 @@ pub record AreUpdateFiles (folder : Option (List Entry)) (environment : Environm
   pub is_repertoire : IsRepertoire folder (option_copied arguments.repertoire) files.repertoire.items
   pub is_meant : IsMeantList folder (option_copied arguments.accept) files.meant
 
--- ---- what is decided
+-- ---- the decision
 
--- the sources of the table in use: those of the bundle that is stored
+-- the sources of the table in use: those of the stored bundle
 abbrev pub IsCurrent : Option (List ℕ) → Option (List Source) → Type 0
 IsCurrent None current = current ≡ None
 IsCurrent (Some bytes) current = (bundle : Bundle) × IsBundle bytes bundle × (current ≡ Some bundle.sources)
@@ -85,7 +85,7 @@ update_given files fresh current = record {
   repertoire = files.repertoire.items;
 }
 
--- what `diff` is asked of the table in use and the new one, where these changes are meant
+-- the input of `diff` for the table in use and the new one, if these changes are intended
 abbrev pub meant_asked : UpdateFiles → List (List ℕ) → MeantChanges → List Source → Asked
 meant_asked files fresh meant current = record {
   migration = record { header = files.names.lines.items; key_names = fresh; old = record { sources = current; rule = Longest }; new = record { sources = files.new.sources; rule = Longest } };
@@ -96,27 +96,29 @@ meant_asked files fresh meant current = record {
   form = Folded;
 }
 
--- ---- what is then done
+-- ---- its execution
 
--- everything stays as it is, and this is said of the outcome
+-- nothing changes, and the outcome has this property
 abbrev pub IsRefusedAs : (Outcome → Type 0) → UpdateRun → Type 0
 IsRefusedAs Prints (Refused outcome) = Prints outcome
 IsRefusedAs Prints run = ⊥
 
--- a part is refused, in words for people; the new table stands for both, since the one in use was read when it was taken into use
+-- an input is refused, in words for people; the new table stands for both tables, since the one in
+-- use was read when it was taken into use
 pub record IsUpdateRefusal (files : UpdateFiles) (fresh : List (List ℕ)) (refusal : Refusal) (outcome : Outcome) : Type 0 where
   pub given : Given
   pub parts : IsGiven (parts_of files.names fresh (files.new ∷ files.new ∷ [])) given
   pub is : IsWorded false true given (Err refusal) outcome
 
--- the bytes that are stored and the certificate are those of the decision; else the lines that `make` prints, or why nothing is decided
+-- the stored bytes and the certificate are those of the decision; otherwise the lines that `make`
+-- prints, or why there is no decision
 abbrev pub IsUpdateDone : UpdateFiles → List (List ℕ) → Result Update UpdateFault → UpdateRun → Type 0
 IsUpdateDone files fresh (Ok (updates.Replaced stored certificate)) run = run ≡ Replaced stored certificate
 IsUpdateDone files fresh (Ok (updates.Refused text)) run = IsRefusedAs (PrintsOutput (string_bytes text) ends.No) run
 IsUpdateDone files fresh (Err (Input refusal)) run = IsRefusedAs (IsUpdateRefusal files fresh refusal) run
 IsUpdateDone files fresh (Err TooLarge) run = IsRefusedAs (PrintsErrors (codes "composecheck: the files and their certificate have more than 8,388,608 bytes\n") ends.Refused) run
 
--- each change is meant: the bytes that are stored are those of the decision where no table is in use
+-- all changes are intended: the stored bytes are those of the decision as if no table were in use
 abbrev pub IsDoneAsMeant : UpdateFiles → List (List ℕ) → Result Update UpdateFault → UpdateRun → Type 0
 IsDoneAsMeant files fresh (Ok (updates.Replaced stored certificate)) run = run ≡ Meant stored
 IsDoneAsMeant files fresh decided run = IsUpdateDone files fresh decided run
@@ -126,47 +128,50 @@ pub record IsStoredAsMeant (files : UpdateFiles) (fresh : List (List ℕ)) (run 
   pub is : Updates (update_given files fresh None) decided
   pub done : IsDoneAsMeant files fresh decided run
 
--- the new table is stored if `diff` answers yes; else its answer, or why it has none, is printed
+-- the new table is stored if `diff` answers yes; otherwise its answer, or why it has none, is
+-- printed
 abbrev pub IsMeantAnswer : UpdateFiles → List (List ℕ) → MeantChanges → Result Answer DiffFault → UpdateRun → Type 0
 IsMeantAnswer files fresh meant (Ok (Yes text)) run = IsStoredAsMeant files fresh run
 IsMeantAnswer files fresh meant (Ok answer) run = IsRefusedAs (λ outcome. (own : List ℕ) × IsOutcome own fresh [] (Ok answer) outcome) run
 IsMeantAnswer files fresh meant (Err (differing.Input refusal)) run = IsRefusedAs (IsUpdateRefusal files fresh refusal) run
 IsMeantAnswer files fresh meant (Err (differing.Accept fault)) run = IsRefusedAs (IsAcceptRefusal false (Some (string_bytes meant.path)) fault) run
 
--- typing would change from the table in use, and these changes are meant
+-- typing would change from the table in use, and these changes are intended
 pub record IsMeantRun (files : UpdateFiles) (fresh : List (List ℕ)) (meant : MeantChanges) (current : List Source) (run : UpdateRun) : Type 0 where
   pub answered : Result Answer DiffFault
   pub is : AnswersDiff (meant_asked files fresh meant current) answered
   pub done : IsMeantAnswer files fresh meant answered run
 
--- typing would change: from a table in use what the list of these meant changes says; else the lines that say so
+-- typing would change: if a table is in use, the list of intended changes decides; otherwise the
+-- lines that say so are printed
 abbrev pub IsRefusedOrListed : UpdateFiles → List (List ℕ) → MeantChanges → Option (List Source) → String Global → UpdateRun → Type 0
 IsRefusedOrListed files fresh meant None text run = IsRefusedAs (PrintsOutput (string_bytes text) ends.No) run
 IsRefusedOrListed files fresh meant (Some current) text run = IsMeantRun files fresh meant current run
 
--- the same, where such a list is given; else the lines
+-- the same if such a list is given; otherwise the lines are printed
 abbrev pub IsRefusedOrMeant : UpdateFiles → List (List ℕ) → Option MeantChanges → Option (List Source) → String Global → UpdateRun → Type 0
 IsRefusedOrMeant files fresh None current text run = IsRefusedAs (PrintsOutput (string_bytes text) ends.No) run
 IsRefusedOrMeant files fresh (Some meant) current text run = IsRefusedOrListed files fresh meant current text run
 
--- what is decided is done; but where typing would change, and a list of meant changes is given, what the list says
+-- the decision is executed; but if typing would change, and a list of intended changes is given,
+-- that list decides
 abbrev pub IsDecisionDone : UpdateFiles → List (List ℕ) → Option MeantChanges → Option (List Source) → Result Update UpdateFault → UpdateRun → Type 0
 IsDecisionDone files fresh meant current (Ok (updates.Refused text)) run = IsRefusedOrMeant files fresh meant current text run
 IsDecisionDone files fresh meant current decided run = IsUpdateDone files fresh decided run
 
--- what is decided of the new table and of the one in use is done
+-- the decision about the new table and the one in use is executed
 pub record IsUpdateOf (files : UpdateFiles) (fresh : List (List ℕ)) (current : Option (List Source)) (run : UpdateRun) : Type 0 where
   pub decided : Result Update UpdateFault
   pub is : Updates (update_given files fresh current) decided
   pub done : IsDecisionDone files fresh files.meant current decided run
 
--- the same, where these bytes are stored of the table in use
+-- the same, if these are the stored bytes of the table in use
 pub record IsUpdateRun (files : UpdateFiles) (fresh : List (List ℕ)) (stored : Option (List ℕ)) (run : UpdateRun) : Type 0 where
   pub current : Option (List Source)
   pub is_current : IsCurrent stored current
   pub is : IsUpdateOf files fresh current run
 
--- what is stored is no bundle, and nothing more is said of where it is; or memory ran out
+-- the stored bytes are not a bundle, and the message doesn't say where they are; or memory ran out
 abbrev pub FailsStored : Option (List ℕ) → Fault → Type 0
 FailsStored None fault = fault ≡ faults.NoMemory
 FailsStored (Some bytes) fault = IsDamaged [] bytes fault

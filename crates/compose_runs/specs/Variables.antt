@@ -1,4 +1,5 @@
--- The variables of the environment (POSIX, "Environment Variables"). One that is set to nothing is as one that is not set.
+-- The variables of the environment (POSIX, "Environment Variables"). A variable that is set to the
+-- empty text is treated as one that is not set.
 use Rattle.std.specs.Prelude.{◌≡◌, ℕ, ◌==◌, ◌-◌, nat_eq, if◌then◌else◌, List, length, take, Option, Some, None, option_copied, Result, Ok, Err, string_bytes, string_len}
 use Rattle.std.proofs.Common.{Bor}
 use Rattle.std.specs.List.{suffix_len}
@@ -7,22 +8,22 @@ use Rattle.compose_input.specs.declared.fault.Fault.TheVariants.{Word}
 use Rattle.compose_runs.specs.declared.environment.Variable.{Variable}
 use Rattle.compose_runs.specs.declared.environment.Variable.TheVariants.{Unset, Set, NotUtf8}
 
--- what is said, or that it is no text
+-- a value, or that a variable is not UTF-8
 abbrev pub Said : Type 0 → Type 0
 Said X = Result X (Unit {0})
 
--- what a variable is set to
+-- the text of a variable
 abbrev pub text_of : Variable → Said (Option (List ℕ))
 text_of Unset = Ok None
 text_of (Set text) = Ok (if string_len text == 0 then None else Some (string_bytes text))
 text_of NotUtf8 = Err tt
 
--- the text that is said, or the fault that it is none
+-- the text, or the fault that it is not UTF-8
 abbrev pub Says : Result (Option (Bor (List ℕ))) Fault → Said (Option (List ℕ)) → Type 0
 Says (Ok text) said = said ≡ Ok (option_copied text)
 Says (Err fault) said = (said ≡ Err tt) × (fault ≡ Word)
 
--- of two variables the first that is set to something
+-- the first of two variables that is set and not empty
 abbrev pub first_set : Said (Option (List ℕ)) → Said (Option (List ℕ)) → Said (Option (List ℕ))
 first_set (Ok None) next = next
 first_set (Ok (Some text)) next = Ok (Some text)

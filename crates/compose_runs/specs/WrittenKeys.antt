@@ -1,11 +1,12 @@
--- Keys as the words of the command line write them where Compose files are given: by their names, or as their characters (this project's profile).
+-- Keys as they are written on the command line for Compose files: by their names, or as their
+-- characters (defined by this project).
 use Rattle.std.specs.Prelude.{◌≡◌, ℕ, Bool, true, false, List, [], ◌∷◌, Option, Some, None, Result, Ok, Err}
 use Rattle.keysym_core.specs.Names.{KeysymNames, value}
 use Rattle.keysym_core.specs.Printed.{printed}
 use Rattle.compose_messages.specs.Characters.{IsKeyOfText}
 use Rattle.keysym_core.specs.declared.fault.NameFault.{NameFault}
 
--- the word itself, or the name by which the keysym is printed that was found in its place
+-- the word itself, or the printed name of the keysym that was found for it
 abbrev pub name_of : KeysymNames → List ℕ → Option ℕ → List ℕ
 name_of names word None = word
 name_of names word (Some keysym) = printed names keysym
@@ -16,7 +17,7 @@ pub record IsNameOfCharacter (names : KeysymNames) (word name : List ℕ) : Type
   pub is_found : IsKeyOfText names word found
   pub is : name ≡ name_of names word found
 
--- the name that a word with this value stands for: itself where it names a keysym
+-- the name that a word with this value stands for: the word itself if it names a keysym
 abbrev pub IsWrittenAs : KeysymNames → List ℕ → Option ℕ → List ℕ → Type 0
 IsWrittenAs names word (Some keysym) name = name ≡ word
 IsWrittenAs names word None name = IsNameOfCharacter names word name
@@ -30,12 +31,13 @@ AreNamed names [] [] = Unit {0}
 AreNamed names (word ∷ words) (name ∷ keys) = IsWritten names word name × AreNamed names words keys
 AreNamed names words keys = ⊥
 
--- by these names; the words themselves where the names are refused
+-- the same by these names; the words themselves if the names are refused
 abbrev pub AreWritten : Result KeysymNames NameFault → List (List ℕ) → List (List ℕ) → Type 0
 AreWritten (Ok names) words keys = AreNamed names words keys
 AreWritten (Err fault) words keys = keys ≡ words
 
--- the names of keys that the words are: of Compose files those that they stand for, and else the words themselves
+-- the names of the keys that the words write: for Compose files those that they stand for, and
+-- otherwise the words themselves
 abbrev pub AreKeyNames : Bool → Result KeysymNames NameFault → List (List ℕ) → List (List ℕ) → Type 0
 AreKeyNames true names words keys = AreWritten names words keys
 AreKeyNames false names words keys = keys ≡ words

@@ -22,19 +22,24 @@ use std::alloc::{AllocError, Global};
 /// The paths of the files of a check.
 #[derive(Clone, Copy)]
 pub struct CheckPaths<'a> {
+    /// The paths of the tables' manifests.
     pub tables: TablePaths<'a>,
+    /// The path of the repertoire.
     pub repertoire: &'a str,
+    /// The path of the certificate.
     pub certificate: &'a str,
 }
 
-/// The paths of the files of a check beside its tables.
+/// The paths of the files of a check except its tables.
 #[derive(Clone, Copy)]
 pub struct CheckTexts<'a> {
+    /// The path of the repertoire.
     pub repertoire: &'a str,
+    /// The path of the certificate.
     pub certificate: &'a str,
 }
 
-/// What the files of a check hold.
+/// The contents of the files of a check.
 #[derive(Drop)]
 struct CheckFiles<'n> {
     both: MigrationFiles<'n>,
@@ -71,7 +76,8 @@ impl<'n> CheckFiles<'n> {
         })
     }
 
-    /// Reads the files of names, both Compose files as they lie on the system, the repertoire and the certificate.
+    /// Reads the files of names, both Compose files as they are on the system, the repertoire and
+    /// the certificate.
     fn found<F: Folder>(
         files: &mut ReadOnce<F>,
         alloc: Global,
@@ -98,7 +104,7 @@ impl<'n> CheckFiles<'n> {
         })
     }
 
-    /// The check that they are for.
+    /// Returns the input of the check.
     fn input(&self) -> CheckInput<'_>
         ensures { input_of result ≡ check_given self.now }
     {
@@ -114,9 +120,12 @@ impl<'n> CheckFiles<'n> {
     }
 }
 
-/// The outcome of `check`: whether the certificate is valid, and where names are given here, whether its fresh keysyms are all among
-/// theirs. The files of names are read first, then those of the old table, those of the new one, the repertoire and the certificate. At the
-/// cost of reading them and of `check_allowed`.
+/// Returns the outcome of `check`: whether the certificate is valid, and, if names are allowed,
+/// whether all its fresh keysyms are among those of these names. The files of names are read first,
+/// then those of the old table, those of the new one, the repertoire and the certificate. Takes the
+/// time of reading them and of `check_allowed`.
+/// Errors: the fault of the first file, in this order, that can't be read or is refused; `NoMemory`
+/// if memory runs out.
 pub fn run_check<T: ComposeTable, F: Folder>(
     alloc: Global,
     files: &mut ReadOnce<F>,
@@ -136,7 +145,7 @@ pub fn run_check<T: ComposeTable, F: Folder>(
     Ok(check_outcome::<T>(alloc, options.verbose, &check, paths, allowed)?)
 }
 
-/// The outcome of `check`, once the files are read.
+/// Returns the outcome of `check`, once the files are read.
 fn check_outcome<T: ComposeTable>(
     alloc: Global,
     verbose: bool,
@@ -156,8 +165,11 @@ fn check_outcome<T: ComposeTable>(
     check_report::<T>(alloc, true, verbose, check, texts, allowed, answered)
 }
 
-/// The outcome of `check` on Compose files as they lie on the system. The files of names are read first, then those of the old table, those of the
-/// new one, the repertoire and the certificate. At the cost of `find_files` for both tables and of `check_allowed`.
+/// Returns the outcome of `check` on Compose files as they are on the system. The files of names
+/// are read first, then those of the old table, those of the new one, the repertoire and the
+/// certificate. Takes the time of `find_files` for both tables and of `check_allowed`.
+/// Errors: the fault of the first file, in this order, that can't be read or is refused; `Word` if
+/// a variable of the environment that is needed is not UTF-8; `NoMemory` if memory runs out.
 pub fn run_check_files<T: ComposeTable, F: Folder>(
     alloc: Global,
     files: &mut ReadOnce<F>,
@@ -179,7 +191,7 @@ pub fn run_check_files<T: ComposeTable, F: Folder>(
     Ok(check_files_outcome::<T>(alloc, options.verbose, &check, texts, allowed)?)
 }
 
-/// The outcome of `check` on Compose files, once they are read.
+/// Returns the outcome of `check` on Compose files, once they are read.
 fn check_files_outcome<T: ComposeTable>(
     alloc: Global,
     verbose: bool,
@@ -198,7 +210,7 @@ fn check_files_outcome<T: ComposeTable>(
     Ok(printed.with_notes(notes))
 }
 
-/// The outcome of what is answered to `check`, or refused, for people unless `numbered`.
+/// Returns the outcome of an answer of `check` or of a refusal; for people unless `numbered`.
 fn check_report<T: ComposeTable>(
     alloc: Global,
     numbered: bool,
@@ -227,7 +239,8 @@ fn check_report<T: ComposeTable>(
     worded_outcome::<T>(alloc, numbered, verbose, &given, answered)
 }
 
-/// What is answered to a certificate, whose fresh keysyms have to be among the allowed ones where these are given.
+/// Returns the answer of `check`. If `allowed` is given, all fresh keysyms of the certificate have
+/// to be among it.
 fn check_answer<T: ComposeTable>(
     alloc: Global,
     check: &CheckFiles<'_>,

@@ -29,9 +29,12 @@ use compose_report::{Outcome, outcome_with, told_text, worded_refusal};
 use compose_tree::ComposeTable;
 use std::alloc::{AllocError, Global};
 
-/// The outcome of `diff`: what the new Compose file does to the sequences of the old one, and what it adds. The files of names are read
-/// first, then those of the old table, those of the new one, and the list of the changes that are meant. At the cost of `find_files` for
-/// both tables and of `diff_migration`.
+/// Returns the outcome of `diff`: what the new Compose file changes in the sequences of the old
+/// one, and what it adds. The files of names are read first, then those of the old table, those of
+/// the new one, and the list of intended changes. Takes the time of `find_files` for both tables
+/// and of `diff_migration`.
+/// Errors: the fault of the first file, in this order, that can't be read or is refused; `Word` if
+/// a variable of the environment that is needed is not UTF-8; `NoMemory` if memory runs out.
 pub fn run_diff<T: ComposeTable, F: Folder>(
     alloc: Global,
     files: &mut ReadOnce<F>,
@@ -53,7 +56,8 @@ pub fn run_diff<T: ComposeTable, F: Folder>(
     Ok(kept_outcome::<T>(alloc, read, arguments, fresh, colored)?)
 }
 
-/// The outcome of `diff`, once the files are read: without the faulty lines of both tables, if these are skipped.
+/// Returns the outcome of `diff`, once the files are read; without the faulty lines of both tables,
+/// if these are skipped.
 fn kept_outcome<T: ComposeTable>(
     alloc: Global,
     files: DiffFiles<'_>,
@@ -72,7 +76,7 @@ fn kept_outcome<T: ComposeTable>(
     followed(printed, &skipped)
 }
 
-/// What a comparison of two tables is read from.
+/// The files of a comparison of two tables.
 #[derive(Drop)]
 pub(crate) struct DiffFiles<'n> {
     pub(crate) both: MigrationFiles<'n>,
@@ -82,7 +86,8 @@ pub(crate) struct DiffFiles<'n> {
 impl<'n> DiffFiles<'n> {
     ghost use Rattle.compose_runs.specs.DiffFiles.{AreDiffFiles};
 
-    /// Reads the files of names, both tables as they lie on the system, and the list of the changes that are meant.
+    /// Reads the files of names, both tables as they are on the system, and the list of intended
+    /// changes.
     fn read<F: Folder>(
         files: &mut ReadOnce<F>,
         alloc: Global,
@@ -104,7 +109,7 @@ impl<'n> DiffFiles<'n> {
     }
 }
 
-/// The files of names, or else the names that are built in.
+/// Reads the files of names, or takes the built-in names if none are given.
 pub(crate) fn read_names<'n, F: Folder>(
     files: &mut ReadOnce<F>,
     alloc: Global,
@@ -125,7 +130,7 @@ pub(crate) fn read_names<'n, F: Folder>(
     NameFiles::read(files, alloc, names)
 }
 
-/// The list of the changes that are meant; an empty one where no path is given.
+/// Reads the list of intended changes; an empty one if no path is given.
 pub(crate) fn read_accepted<F: Folder>(
     files: &mut ReadOnce<F>,
     alloc: Global,
@@ -143,7 +148,7 @@ pub(crate) fn read_accepted<F: Folder>(
     }
 }
 
-/// How the changes are printed.
+/// Returns the form in which the changes are printed.
 fn form_of(form: DiffForm) -> Form
     ensures { result ≡ words.form_of form }
 {
@@ -163,7 +168,7 @@ fn form_of(form: DiffForm) -> Form
     }
 }
 
-/// Whether the lines are in colours: a page and what is for programs never is.
+/// Returns whether the lines are in colours. Pages and the forms for programs never are.
 fn is_colored(environment: &Environment, arguments: &DiffArguments<'_>) -> Result<bool, Fault>
     ensures { GivesColor result (words.is_colored environment.now arguments.now) }
 {
@@ -181,7 +186,8 @@ fn is_colored(environment: &Environment, arguments: &DiffArguments<'_>) -> Resul
     }
 }
 
-/// The outcome of `diff` on these files, with notes on the lines that other readers lose.
+/// Returns the outcome of `diff` on these files, with notes on the lines that other readers of
+/// Compose files lose.
 fn diff_outcome<T: ComposeTable>(
     alloc: Global,
     files: &DiffFiles<'_>,
@@ -200,14 +206,14 @@ fn diff_outcome<T: ComposeTable>(
     Ok(printed.with_notes(notes))
 }
 
-/// Notes on the lines of these files that other readers lose.
+/// Returns notes on the lines of these files that other readers of Compose files lose.
 fn lost_of(alloc: Global, both: &MigrationFiles<'_>) -> Result<String, AllocError>
     ensures { IfOk result (λ notes. string_bytes notes ≡ words.lost_of both.now) }
 {
     lost_notes(alloc, &both.names.lines, &both.old, &both.new)
 }
 
-/// Notes on where the files lie, and then these.
+/// Returns notes on where the files lie, followed by these notes.
 fn diff_notes(alloc: Global, both: &MigrationFiles<'_>, lost: String) -> Result<String, AllocError>
     ensures { IfOk result
         (λ notes. string_bytes notes ≡ notes_of both.now ++ string_bytes lost) }
@@ -216,7 +222,7 @@ fn diff_notes(alloc: Global, both: &MigrationFiles<'_>, lost: String) -> Result<
     joined(alloc, &places, &lost)
 }
 
-/// The outcome of what is answered, or refused, on these files, without notes.
+/// Returns the outcome of an answer or a fault on these files, without notes.
 fn printed_outcome(
     alloc: Global,
     files: &DiffFiles<'_>,
@@ -235,7 +241,7 @@ fn printed_outcome(
     }
 }
 
-/// The outcome of what is refused on these files.
+/// Returns the outcome of a fault on these files.
 fn fault_outcome(
     alloc: Global,
     files: &DiffFiles<'_>,
@@ -254,14 +260,14 @@ fn fault_outcome(
     }
 }
 
-/// Whether a refusal has its own line, for programs, above what is said to people.
+/// Returns whether a refusal has its own line, for programs, before the text for people.
 fn is_numbered(form: DiffForm) -> bool
     ensures { result ≡ words.is_numbered form }
 {
     matches!(form, DiffForm::Json)
 }
 
-/// What is answered on these files.
+/// Returns the answer of `diff` on these files.
 fn diff_answer<T: ComposeTable>(
     alloc: Global,
     files: &DiffFiles<'_>,
@@ -284,7 +290,7 @@ fn diff_answer<T: ComposeTable>(
     diff_migration::<T>(alloc, &input)
 }
 
-/// The outcome of an answer, in colours or not.
+/// Returns the outcome of an answer, in colours or not.
 fn answer_outcome(
     alloc: Global,
     fresh: &[&str],
@@ -298,7 +304,7 @@ fn answer_outcome(
     outcome_with(alloc, fresh, Ok(shown), String::new(alloc))
 }
 
-/// The answer, with its lines in colours or not.
+/// Returns the answer, with its lines in colours or not.
 fn shown_answer(alloc: Global, answer: Answer, colored: bool) -> Result<Answer, AllocError>
     ensures { IfOk result (λ shown. words.IsShown colored answer shown) }
 {
@@ -309,7 +315,7 @@ fn shown_answer(alloc: Global, answer: Answer, colored: bool) -> Result<Answer, 
     }
 }
 
-/// The answer with its lines in colours.
+/// Returns the answer with its lines in colours.
 fn in_colors(alloc: Global, answer: Answer) -> Result<Answer, AllocError>
     ensures { IfOk result (λ shown. words.IsColored answer shown) }
 {
@@ -320,7 +326,8 @@ fn in_colors(alloc: Global, answer: Answer) -> Result<Answer, AllocError>
     }
 }
 
-/// The outcome of a refusal of the tables, with each faulty line of what was given, for people unless `numbered`.
+/// Returns the outcome of a refusal of the tables, with each faulty line of the input; for people
+/// unless `numbered`.
 fn refusal_outcome(
     alloc: Global,
     numbered: bool,
@@ -338,7 +345,7 @@ fn refusal_outcome(
     worded_refusal(alloc, numbered, &given, refusal)
 }
 
-/// The outcome where the list of the changes that are meant is refused, for people unless `numbered`.
+/// Returns the outcome of a refused list of intended changes; for people unless `numbered`.
 pub(crate) fn accept_outcome(
     alloc: Global,
     numbered: bool,
@@ -353,7 +360,8 @@ pub(crate) fn accept_outcome(
     Ok(Outcome::of_errors(alloc, lines, Ended::Refused))
 }
 
-/// The line of the refusal, by what the fault is printed as, and below it the line of the list.
+/// Returns the line of the refusal, given the printed form of the fault, followed by the line of
+/// the list.
 fn accept_lines(
     alloc: Global,
     numbered: bool,
@@ -371,7 +379,7 @@ fn accept_lines(
     told_text(alloc, numbered, line, &details)
 }
 
-/// What is wrong with which line of the list of the changes that are meant.
+/// Returns the message about the refused line of the list of intended changes.
 fn accept_details(alloc: Global, path: &str, fault: &AcceptFault) -> Result<String, AllocError>
     ensures { IfOk result
         (λ lines. string_bytes lines ≡ words.accept_details path.now fault.now) }

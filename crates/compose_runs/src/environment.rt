@@ -1,11 +1,11 @@
-//! What the environment says, as a value.
+//! The environment, as a value.
 ghost use Rattle.std.specs.Prelude.{◌≡◌, option_copied};
 ghost use Rattle.compose_runs.specs.Variables as words;
 ghost use Rattle.compose_runs.specs.Variables.{Says};
 
 use compose_input::{Fault, Places};
 
-/// Where the system's tables lie, if neither the arguments nor the environment say it.
+/// The folder of the system's tables, if neither the arguments nor the environment name one.
 const SYSTEM_FOLDER: &str = "/usr/share/X11/locale";
 
 /// A variable of the environment.
@@ -15,12 +15,12 @@ pub enum Variable {
     Unset,
     /// It is set to this text.
     Set(String),
-    /// It is set to what is not UTF-8.
+    /// It is set to bytes that are not UTF-8.
     NotUtf8,
 }
 
 impl Variable {
-    /// What it is set to, if it is set to something; a fault where that is not UTF-8. O(1).
+    /// Returns its text, if it is set and not empty. The fault is `Word` if it is not UTF-8. O(1).
     pub(crate) fn text(&self) -> Result<Option<&str>, Fault>
         ensures { Says result (words.text_of self.now) }
     {
@@ -33,21 +33,30 @@ impl Variable {
     }
 }
 
-/// The variables of the environment that commands look at, and whether standard output is a terminal.
+/// The variables of the environment that commands use, and whether standard output is a terminal.
 #[derive(Debug, PartialEq, Eq, Drop)]
 pub struct Environment {
+    /// `LC_ALL`, the first variable for the name of the locale.
     pub lc_all: Variable,
+    /// `LC_CTYPE`, the second variable for the name of the locale.
     pub lc_ctype: Variable,
+    /// `LANG`, the third variable for the name of the locale.
     pub lang: Variable,
+    /// `XLOCALEDIR`, the folder of the system's tables.
     pub xlocaledir: Variable,
+    /// `HOME`, the user's home folder.
     pub home: Variable,
+    /// `NO_COLOR`: if it is set and not empty, no colours are printed unless they are asked for.
     pub no_color: Variable,
+    /// `XCOMPOSEFILE`, the path of the user's Compose file.
     pub xcomposefile: Variable,
+    /// `XDG_CONFIG_HOME`, the folder of the user's configuration.
     pub xdg_config_home: Variable,
+    /// Whether standard output is a terminal.
     pub is_terminal: bool,
 }
 
-/// What the arguments say of where tables lie.
+/// The arguments that say where tables lie.
 #[derive(Clone, Copy, Debug)]
 pub(crate) struct PlaceArguments<'a> {
     /// The folder of the system's tables.
@@ -62,7 +71,8 @@ impl Environment {
     ghost use Rattle.compose_runs.specs.Environment as said;
     ghost use Rattle.compose_runs.specs.Environment.{GivesPlaces, GivesColor};
 
-    /// The name of the locale: what the first of `LC_ALL`, `LC_CTYPE` and `LANG` says that is set to something, as POSIX has it.
+    /// Returns the name of the locale: the text of the first of `LC_ALL`, `LC_CTYPE` and `LANG`
+    /// that is set and not empty, as POSIX requires.
     fn locale(&self) -> Result<Option<&str>, Fault>
         ensures { Says result (said.locale_of self.now) }
     {
@@ -75,7 +85,8 @@ impl Environment {
         self.lang.text()
     }
 
-    /// Where the tables of the system lie, and what is known of its user: as the arguments say, or else the environment.
+    /// Returns where the tables of the system lie, and the user's locale and home folder: as the
+    /// arguments say, or otherwise the environment.
     pub(crate) fn places<'a>(&'a self, arguments: PlaceArguments<'a>) -> Result<Places<'a>, Fault>
         ensures { GivesPlaces arguments.entry result (said.places_of self.now) }
     {
@@ -91,8 +102,8 @@ impl Environment {
         })
     }
 
-    /// Whether an answer is in colours that is in them on a terminal alone: unless `NO_COLOR` is set to something. It is looked at on a
-    /// terminal alone.
+    /// Returns whether an answer is in colours if they depend on the terminal: if standard output
+    /// is a terminal, and `NO_COLOR` is unset or empty. `NO_COLOR` is read only then.
     pub(crate) fn wants_color(&self) -> Result<bool, Fault>
         ensures { GivesColor result (said.wants_color self.now) }
     {
@@ -103,7 +114,7 @@ impl Environment {
     }
 }
 
-/// The path without slashes at its end.
+/// Returns the path without the slashes at its end.
 fn without_slash(path: &str) -> &str
     ensures { result.now ≡ words.without_slashes path.now }
 {

@@ -19,8 +19,11 @@ use compose_tool::{explain_all_migration, explain_migration};
 use compose_tree::ComposeTable;
 use std::alloc::{AllocError, Global};
 
-/// The outcome of `explain`: the shortest keys on which the tables differ, or with `all` all such keys. The files of names are read first,
-/// then those of the old table, and those of the new one. At the cost of reading them and of `explain_migration`.
+/// Returns the outcome of `explain`: the shortest keys on which the tables differ, or with `all`
+/// all such keys. The files of names are read first, then those of the old table, and those of the
+/// new one. Takes the time of reading them and of `explain_migration`.
+/// Errors: the fault of the first file, in this order, that can't be read or is refused; `NoMemory`
+/// if memory runs out.
 pub fn run_explain<T: ComposeTable, F: Folder>(
     alloc: Global,
     files: &mut ReadOnce<F>,
@@ -41,7 +44,7 @@ pub fn run_explain<T: ComposeTable, F: Folder>(
     Ok(explain_outcome::<T>(alloc, options.verbose, &both, fresh, all)?)
 }
 
-/// The outcome of `explain`, once the files are read.
+/// Returns the outcome of `explain`, once the files are read.
 fn explain_outcome<T: ComposeTable>(
     alloc: Global,
     verbose: bool,
@@ -57,8 +60,11 @@ fn explain_outcome<T: ComposeTable>(
     explain_report::<T>(alloc, true, verbose, both, fresh, all, answered)
 }
 
-/// The outcome of `explain` on Compose files as they lie on the system. The files of names are read first, then those of the old table, and those
-/// of the new one. At the cost of `find_files` for both tables and of `explain_migration`.
+/// Returns the outcome of `explain` on Compose files as they are on the system. The files of names
+/// are read first, then those of the old table, and those of the new one. Takes the time of
+/// `find_files` for both tables and of `explain_migration`.
+/// Errors: the fault of the first file, in this order, that can't be read or is refused; `Word` if
+/// a variable of the environment that is needed is not UTF-8; `NoMemory` if memory runs out.
 pub fn run_explain_files<T: ComposeTable, F: Folder>(
     alloc: Global,
     files: &mut ReadOnce<F>,
@@ -80,7 +86,7 @@ pub fn run_explain_files<T: ComposeTable, F: Folder>(
     Ok(explain_files_outcome::<T>(alloc, options.verbose, &both, fresh, all)?)
 }
 
-/// The outcome of `explain` on Compose files, once they are read.
+/// Returns the outcome of `explain` on Compose files, once they are read.
 fn explain_files_outcome<T: ComposeTable>(
     alloc: Global,
     verbose: bool,
@@ -99,7 +105,7 @@ fn explain_files_outcome<T: ComposeTable>(
     Ok(printed.with_notes(notes))
 }
 
-/// The outcome of what is answered to `explain`, or refused, for people unless `numbered`.
+/// Returns the outcome of an answer of `explain` or of a refusal; for people unless `numbered`.
 fn explain_report<T: ComposeTable>(
     alloc: Global,
     numbered: bool,
@@ -119,7 +125,7 @@ fn explain_report<T: ComposeTable>(
     worded_outcome::<T>(alloc, numbered, verbose, &given, answered)
 }
 
-/// What is answered to `explain`.
+/// Returns the answer of `explain`.
 fn explain_answer<T: ComposeTable>(
     alloc: Global,
     both: &MigrationFiles<'_>,

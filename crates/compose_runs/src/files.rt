@@ -48,7 +48,7 @@ impl<'n> MigrationFiles<'n> {
         Ok(MigrationFiles { names, old, new })
     }
 
-    /// Reads the files of names, and both Compose files as they lie on the system.
+    /// Reads the files of names, and both Compose files as they are on the system.
     pub(crate) fn found<F: Folder>(
         files: &mut ReadOnce<F>,
         alloc: Global,
@@ -71,7 +71,7 @@ impl<'n> MigrationFiles<'n> {
         Ok(MigrationFiles { names, old, new })
     }
 
-    /// The migration that they are to give, with these names of fresh keysyms.
+    /// Returns the input of a migration, with these names of fresh keysyms.
     pub(crate) fn input<'a, 'w>(&'a self, fresh: &'a [&'w str]) -> MigrationInput<'a, 'w>
         ensures { given_of result
             ≡ migration_given self.now (map (λ name. name.now) fresh.now) }
@@ -84,7 +84,7 @@ impl<'n> MigrationFiles<'n> {
         }
     }
 
-    /// Notes on where the files of both tables lie.
+    /// Returns notes on where the files of both tables lie.
     pub(crate) fn notes(&self, alloc: Global) -> Result<String, AllocError>
         ensures { IfOk result (λ notes. string_bytes notes ≡ notes_of self.now) }
     {
@@ -92,7 +92,8 @@ impl<'n> MigrationFiles<'n> {
     }
 }
 
-/// The table at this path, as it lies on the system; an absolute path of an include is looked for below the root first.
+/// Reads the table at this path as it is on the system; an include's absolute path is looked for
+/// below the root first.
 fn read_table<F: Folder>(
     files: &mut ReadOnce<F>,
     alloc: Global,
@@ -116,7 +117,7 @@ fn read_table<F: Folder>(
     TableFiles::found(files, alloc, places, path, rule_of(pair.longest))
 }
 
-/// What is done with overlaps.
+/// Returns the rule for overlapping sequences.
 fn rule_of(longest: bool) -> Rule
     ensures { result ≡ rule_by longest }
 {

@@ -1,4 +1,4 @@
-//! A table that is given as its manifest or as its Compose file, and the names beside it.
+//! A table that is given as its manifest or as its Compose file, and the names for it.
 ghost use Rattle.std.specs.Prelude.{◌≡◌, [], map, IfOk, IfErr, string_bytes};
 ghost use Rattle.compose_input.specs.Faults.{FailNames, FailsListed};
 ghost use Rattle.compose_input.specs.Names.{AreNames};
@@ -12,9 +12,12 @@ use compose_folder::{Folder, ReadOnce};
 use compose_input::{Fault, NameFiles, TableFiles};
 use std::alloc::Global;
 
-/// The files of the table that is given: those that its manifest lists, or those of the Compose file as it lies on the system, with notes on those
-/// that lie outside of its tree of tables. A fault of a source that a manifest lists names this part. O(bytes), and of a Compose file at the cost of
+/// Reads the files of the given table: those that its manifest lists, or those of the Compose file
+/// as it is on the system, with notes on those that lie outside of its tree of tables. The fault of
+/// a source that a manifest lists names this part. O(bytes); for a Compose file the time of
 /// `find_files`.
+/// Errors: the fault of the first file that can't be read or is refused; `Word` if a variable of
+/// the environment that is needed is not UTF-8; `NoMemory` if memory runs out.
 pub fn read_table<F: Folder>(
     alloc: Global,
     files: &mut ReadOnce<F>,
@@ -34,7 +37,7 @@ pub fn read_table<F: Folder>(
     }
 }
 
-/// The table of the manifest at this path, of which nothing is noted.
+/// Reads the table of the manifest at this path, without notes.
 fn listed_table<F: Folder>(
     alloc: Global,
     files: &mut ReadOnce<F>,
@@ -50,7 +53,7 @@ fn listed_table<F: Folder>(
     Ok(NotedTable { table, notes })
 }
 
-/// The table of a Compose file as it lies on the system.
+/// Reads the table of a Compose file as it is on the system.
 fn system_table<F: Folder>(
     alloc: Global,
     files: &mut ReadOnce<F>,
@@ -67,7 +70,9 @@ fn system_table<F: Folder>(
     chosen_table(alloc, files, environment, places, arguments)
 }
 
-/// The files of names; of Compose files the names that are built in, where none are given. O(bytes).
+/// Reads the files of names; for Compose files takes the built-in names if none are given.
+/// O(bytes).
+/// Errors: the fault of the first file that can't be read; `NoMemory` if memory runs out.
 pub fn read_names_for<'n, F: Folder>(
     files: &mut ReadOnce<F>,
     alloc: Global,

@@ -1,9 +1,10 @@
-//! The commands as functions over values: from what the files hold, what the environment says and what is asked for to the [`Outcome`] of
-//! the run, which is what it prints and how it ends. Nothing is printed here, and files are read through a
-//! [`ReadOnce`](compose_folder::ReadOnce) alone.
+//! The commands as functions over values: from the contents of the files, the environment and the
+//! arguments to the [`Outcome`] of the run, which is what it prints and how it ends. Nothing is
+//! printed here, and files are read through a [`ReadOnce`](compose_folder::ReadOnce) alone.
 //!
 //! ```text
-//! let outcome = run_type::<PackedTable, _>(alloc, &mut files, options, "table.manifest", &["a", "b"])?;
+//! let outcome =
+//!     run_type::<PackedTable, _>(alloc, &mut files, options, "table.manifest", &["a", "b"])?;
 //! print(rt, &outcome)
 //! ```
 //!

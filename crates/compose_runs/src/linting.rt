@@ -1,4 +1,4 @@
-//! `lint`: what is wrong in Compose files.
+//! `lint`: mistakes in Compose files.
 ghost use Rattle.std.specs.Prelude.{◌≡◌, ◌||◌, ◌++◌, ◌∷◌, [], map, IfOk, IfErr, Some, option_copied, string_bytes, codes};
 ghost use Rattle.compose_lint.specs.Answers.{AnswersLint, asked, table_given};
 ghost use Rattle.compose_report.specs.Outcomes.{told_text};
@@ -28,8 +28,11 @@ use compose_skipped::Report;
 use std::alloc::{AllocError, Global};
 use std::marker::Model;
 
-/// The outcome of `lint`: what is found in the tables of the Compose files, in their order, and is not accepted. The files of names are read first,
-/// then those of each table, and the list of the findings that are accepted. At the cost of `find_files` for each table and of `lint_tables`.
+/// Returns the outcome of `lint`: the findings in the tables of the Compose files, in their order,
+/// that are not accepted. The files of names are read first, then those of each table, and the list
+/// of accepted findings. Takes the time of `find_files` for each table and of `lint_tables`.
+/// Errors: the fault of the first file, in this order, that can't be read or is refused; `Word` if
+/// a variable of the environment that is needed is not UTF-8; `NoMemory` if memory runs out.
 pub fn run_lint<F: Folder>(
     alloc: Global,
     files: &mut ReadOnce<F>,
@@ -49,14 +52,14 @@ pub fn run_lint<F: Folder>(
     Ok(lint_outcome(alloc, &read, arguments)?)
 }
 
-/// The Compose file of a table, with the line that notes it if it was not given, and the files of the table.
+/// The Compose file of a table, with a note on it if it was not given, and the files of the table.
 #[derive(Drop)]
 struct ReadTable {
     file: ChosenFile,
     table: TableFiles,
 }
 
-/// What `lint` reads.
+/// The files that `lint` reads.
 #[derive(Drop)]
 struct LintFiles<'n> {
     names: NameFiles<'n>,
@@ -68,7 +71,8 @@ impl<'n> LintFiles<'n> {
     ghost use Rattle.compose_runs.specs.Faults.{FailsLintRun};
     ghost use Rattle.compose_runs.specs.Linting.{AreLintFiles};
 
-    /// Reads the files of names, each table as it lies on the system, and the list of the findings that are accepted.
+    /// Reads the files of names, each table as it is on the system, and the list of accepted
+    /// findings.
     fn read<F: Folder>(
         files: &mut ReadOnce<F>,
         alloc: Global,
@@ -96,7 +100,7 @@ impl<'n> LintFiles<'n> {
     }
 }
 
-/// Where tables lie: as the arguments say, or else the environment.
+/// Returns where tables lie: as the arguments say, or otherwise the environment.
 fn places_of<'a>(
     environment: &'a Environment,
     arguments: &LintArguments<'a>,
@@ -110,7 +114,8 @@ fn places_of<'a>(
     })
 }
 
-/// The tables of the Compose files at these paths, in their order; if there is none, that of the user's own file.
+/// Reads the tables of the Compose files at these paths, in their order; if there are none, that of
+/// the user's own file.
 fn read_tables<F: Folder>(
     alloc: Global,
     files: &mut ReadOnce<F>,
@@ -132,7 +137,7 @@ fn read_tables<F: Folder>(
     given_tables(alloc, files, environment, places, paths)
 }
 
-/// The table of the user's own file.
+/// Reads the table of the user's own file.
 fn own_table<F: Folder>(
     alloc: Global,
     files: &mut ReadOnce<F>,
@@ -152,7 +157,7 @@ fn own_table<F: Folder>(
     Ok(read)
 }
 
-/// The tables of the Compose files at these paths, in their order.
+/// Reads the tables of the Compose files at these paths, in their order.
 fn given_tables<F: Folder>(
     alloc: Global,
     files: &mut ReadOnce<F>,
@@ -177,7 +182,7 @@ fn given_tables<F: Folder>(
     Ok(read)
 }
 
-/// The table of the Compose file that is given, or else of the user's own.
+/// Reads the table of the given Compose file, or otherwise of the user's own.
 fn read_table<F: Folder>(
     alloc: Global,
     files: &mut ReadOnce<F>,
@@ -198,7 +203,7 @@ fn read_table<F: Folder>(
     Ok(ReadTable { file, table })
 }
 
-/// The outcome of `lint`, once the files are read.
+/// Returns the outcome of `lint`, once the files are read.
 fn lint_outcome(
     alloc: Global,
     files: &LintFiles<'_>,
@@ -213,7 +218,7 @@ fn lint_outcome(
     followed(noted, &skipped)
 }
 
-/// What is reported of the lines that are left out, if faulty lines are skipped.
+/// Returns the report of skipped lines; an empty text if faulty lines are not skipped.
 fn skipped_lines(
     alloc: Global,
     files: &LintFiles<'_>,
@@ -228,7 +233,8 @@ fn skipped_lines(
     skipped_report(alloc, &files.names.lines, &files.tables)
 }
 
-/// A line for each faulty line of the tables, in their order, and a last one that counts them.
+/// Returns a line for each faulty line of the tables, in their order, followed by one with their
+/// number.
 fn skipped_report(alloc: Global, header: &[u8], tables: &[ReadTable]) -> Result<String, AllocError>
     ensures { IfOk result
         (λ text. string_bytes text ≡ words.report_in header.now tables.now) }
@@ -240,7 +246,7 @@ fn skipped_report(alloc: Global, header: &[u8], tables: &[ReadTable]) -> Result<
     report.into_text()
 }
 
-/// The lines that note the files that were not given.
+/// Returns the notes on the files that were not given.
 fn notes_of(alloc: Global, tables: &[ReadTable]) -> Result<String, AllocError>
     ensures { IfOk result (λ notes. string_bytes notes ≡ words.notes_in tables.now) }
 {
@@ -251,7 +257,7 @@ fn notes_of(alloc: Global, tables: &[ReadTable]) -> Result<String, AllocError>
     Ok(notes)
 }
 
-/// What is answered on these files.
+/// Returns the answer of `lint` on these files.
 fn lint_answer(
     alloc: Global,
     files: &LintFiles<'_>,
@@ -264,7 +270,7 @@ fn lint_answer(
     lint_tables(alloc, &input_of(files, arguments, &tables))
 }
 
-/// What `lint` is asked on these tables.
+/// Returns the input of `lint` on these tables.
 fn input_of<'a>(
     files: &'a LintFiles<'_>,
     arguments: &'a LintArguments<'_>,
@@ -287,7 +293,7 @@ fn input_of<'a>(
     }
 }
 
-/// The sources of a table, the paths of their files, and whether its faulty lines are left out.
+/// The sources of a table, the paths of their files, and whether its faulty lines are skipped.
 #[derive(Drop)]
 struct PathedTable<'a> {
     sources: &'a Sources,
@@ -311,7 +317,7 @@ impl<'a> Model for PathedTable<'a> {
 impl<'a> PathedTable<'a> {
     ghost use Rattle.compose_lint.specs.Answers.{table_given};
 
-    /// The table as it is given to `lint`.
+    /// Returns the table in the form that `lint` takes.
     fn given<'b>(&'b self) -> LintTable<'b>
         ensures { table_given result ≡ self.now }
     {
@@ -323,7 +329,7 @@ impl<'a> PathedTable<'a> {
     }
 }
 
-/// The tables with the paths of their files.
+/// Returns the tables with the paths of their files.
 fn with_paths(
     alloc: Global,
     skip_faulty: bool,
@@ -339,7 +345,7 @@ fn with_paths(
     Ok(pathed)
 }
 
-/// A table with the paths of its files.
+/// Returns a table with the paths of its files.
 fn with_own_paths(
     alloc: Global,
     skip_faulty: bool,
@@ -355,7 +361,7 @@ fn with_own_paths(
     })
 }
 
-/// The tables as they are given to `lint`.
+/// Returns the tables in the form that `lint` takes.
 fn tables_in<'a>(
     alloc: Global,
     pathed: &'a [PathedTable<'_>],
@@ -369,7 +375,7 @@ fn tables_in<'a>(
     Ok(given)
 }
 
-/// How findings are printed.
+/// Returns the form in which findings are printed.
 fn form_of(write_accept: bool, json: bool) -> LintForm
     ensures { result ≡ words.form_of write_accept json }
 {
@@ -380,7 +386,7 @@ fn form_of(write_accept: bool, json: bool) -> LintForm
     }
 }
 
-/// The readers of these words; libX11 and libxkbcommon if there is none.
+/// Returns the readers with these words; libX11 and libxkbcommon if there are no words.
 fn readers_of(given: &[&str]) -> Readers
     ensures { result ≡ words.readers_of given.now }
 {
@@ -393,21 +399,22 @@ fn readers_of(given: &[&str]) -> Readers
     }
 }
 
-/// Whether the reader of this word is asked for, or is one of the usual ones where none is.
+/// Returns whether the reader with this word is wanted: if the word is given, or if no words are
+/// given and it is a default one.
 fn is_asked_for(given: &[&str], is_usual: bool, word: &str) -> bool
     ensures { result ≡ (is_usual || words.has_word given.now word.now) }
 {
     is_usual || has_word(given, word)
 }
 
-/// Whether the reader of this word is asked for.
+/// Returns whether this word is given.
 fn has_word(given: &[&str], word: &str) -> bool
     ensures { result ≡ words.has_word given.now word.now }
 {
     given.iter().any(|other| *other == word)
 }
 
-/// The outcome of what is answered, or refused, without notes.
+/// Returns the outcome of an answer or a fault, without notes.
 fn printed_outcome(
     alloc: Global,
     files: &LintFiles<'_>,
@@ -428,7 +435,7 @@ fn printed_outcome(
     }
 }
 
-/// The outcome of a refusal of the names, for people unless `numbered`.
+/// Returns the outcome of a refusal of the names; for people unless `numbered`.
 fn refusal_outcome(
     alloc: Global,
     numbered: bool,
@@ -441,7 +448,7 @@ fn refusal_outcome(
     worded_refusal(alloc, numbered, &given, refusal)
 }
 
-/// The outcome where the list of the findings that are accepted is refused, for people unless `numbered`.
+/// Returns the outcome of a refused list of accepted findings; for people unless `numbered`.
 fn accept_outcome(
     alloc: Global,
     numbered: bool,
@@ -456,7 +463,8 @@ fn accept_outcome(
     Ok(Outcome::of_errors(alloc, lines, Ended::Refused))
 }
 
-/// The line of the refusal, by what the fault is printed as, and below it the line of the list.
+/// Returns the line of the refusal, given the printed form of the fault, followed by the line of
+/// the list.
 fn accept_lines(
     alloc: Global,
     numbered: bool,
@@ -474,7 +482,7 @@ fn accept_lines(
     told_text(alloc, numbered, line, &details)
 }
 
-/// What is wrong with which line of the list of the findings that are accepted.
+/// Returns the message about the refused line of the list of accepted findings.
 fn accept_details(alloc: Global, path: &str, fault: &AcceptFault) -> Result<String, AllocError>
     ensures { IfOk result
         (λ lines. string_bytes lines ≡ words.lint_accept_details path.now fault.now) }

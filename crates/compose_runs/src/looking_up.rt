@@ -28,8 +28,11 @@ use compose_tree::ComposeTable;
 use std::alloc::{AllocError, Global};
 use std::fmt::Write;
 
-/// The outcome of `list`: the sequences of a Compose file, or the keys that can follow some keys. The files of names are read first, then those of the
-/// table. At the cost of `find_files` and of `list_table` or `list_next`.
+/// Returns the outcome of `list`: the sequences of a Compose file, or the keys that can follow some
+/// keys. The files of names are read first, then those of the table. Takes the time of `find_files`
+/// and of `list_table` or `list_next`.
+/// Errors: the fault of the first file, in this order, that can't be read or is refused; `Word` if
+/// a variable of the environment that is needed is not UTF-8; `NoMemory` if memory runs out.
 pub fn run_list<T: ComposeTable, F: Folder>(
     alloc: Global,
     files: &mut ReadOnce<F>,
@@ -49,7 +52,7 @@ pub fn run_list<T: ComposeTable, F: Folder>(
     Ok(list_outcome::<T>(alloc, read, arguments)?)
 }
 
-/// The outcome of `list`, once the files are read.
+/// Returns the outcome of `list`, once the files are read.
 fn list_outcome<T: ComposeTable>(
     alloc: Global,
     read: TableRead<'_>,
@@ -64,7 +67,7 @@ fn list_outcome<T: ComposeTable>(
     followed(printed, &skipped)
 }
 
-/// The sequences of the table, or the keys that can follow.
+/// Returns the sequences of the table, or the keys that can follow.
 fn list_answer<T: ComposeTable>(
     alloc: Global,
     read: &TableRead<'_>,
@@ -79,7 +82,7 @@ fn list_answer<T: ComposeTable>(
     }
 }
 
-/// The keys that can follow.
+/// Returns the keys that can follow.
 fn next_answer<T: ComposeTable>(
     alloc: Global,
     read: &TableRead<'_>,
@@ -92,7 +95,7 @@ fn next_answer<T: ComposeTable>(
     list_next::<T>(alloc, &read.names.lines, &table, &arguments.prefix, form)
 }
 
-/// The sequences of the table.
+/// Returns the sequences of the table.
 fn sequences_answer<T: ComposeTable>(
     alloc: Global,
     read: &TableRead<'_>,
@@ -105,7 +108,8 @@ fn sequences_answer<T: ComposeTable>(
     asked_answer::<T>(alloc, read, arguments, text_of(&text), &paths)
 }
 
-/// The sequences of the table, whose files have these paths, that give this text if there is one.
+/// Returns the sequences of the table, whose files have these paths; only those that produce this
+/// text, if there is one.
 fn asked_answer<'a, T: ComposeTable>(
     alloc: Global,
     read: &TableRead<'_>,
@@ -130,7 +134,7 @@ fn asked_answer<'a, T: ComposeTable>(
     list_table::<T>(alloc, &read.names.lines, &table, paths, wanted)
 }
 
-/// The text that is asked for, if a word for one is given.
+/// Returns the text that the word stands for, if a word is given.
 fn asked_text(alloc: Global, word: Option<&str>) -> Result<Option<String>, AllocError>
     ensures { IfOk result
         (λ text. option_map string_bytes text
@@ -142,7 +146,7 @@ fn asked_text(alloc: Global, word: Option<&str>) -> Result<Option<String>, Alloc
     }
 }
 
-/// The text, if it is there.
+/// Returns the text, if it is there.
 fn text_of(text: &Option<String>) -> Option<&str>
     ensures { option_copied result ≡ option_map string_bytes text.now }
 {
@@ -152,7 +156,7 @@ fn text_of(text: &Option<String>) -> Option<&str>
     }
 }
 
-/// The form in which sequences are printed.
+/// Returns the form in which sequences are printed.
 fn form_of(json: bool) -> ListForm
     ensures { result ≡ words.form_of json }
 {
@@ -163,7 +167,7 @@ fn form_of(json: bool) -> ListForm
     }
 }
 
-/// The order in which they are printed.
+/// Returns the order in which they are printed.
 fn order_of(sort: ListSort) -> ListOrder
     ensures { result ≡ words.order_of sort }
 {
@@ -174,8 +178,12 @@ fn order_of(sort: ListSort) -> ListOrder
     }
 }
 
-/// The outcome of `how`: the sequences that give the texts of these words, and on standard error the words of texts that no sequence gives. The files
-/// of names are read first, then those of the table, and the repertoire. At the cost of `find_files` and of `how_to_type`.
+/// Returns the outcome of `how`: the sequences that produce the texts of these words, and on
+/// standard error the words whose text no sequence produces. The files of names are read first,
+/// then those of the table, and the repertoire. Takes the time of `find_files` and of
+/// `how_to_type`.
+/// Errors: the fault of the first file, in this order, that can't be read or is refused; `Word` if
+/// a variable of the environment that is needed is not UTF-8; `NoMemory` if memory runs out.
 pub fn run_how<T: ComposeTable, F: Folder>(
     alloc: Global,
     files: &mut ReadOnce<F>,
@@ -197,7 +205,7 @@ pub fn run_how<T: ComposeTable, F: Folder>(
     Ok(kept_how_outcome::<T>(alloc, read, arguments, &repertoire, words)?)
 }
 
-/// The outcome of `how`, once the files are read.
+/// Returns the outcome of `how`, once the files are read.
 fn kept_how_outcome<T: ComposeTable>(
     alloc: Global,
     read: TableRead<'_>,
@@ -218,7 +226,7 @@ fn kept_how_outcome<T: ComposeTable>(
     followed(printed, &skipped)
 }
 
-/// The bytes of the file at this path, if one is given.
+/// Returns the bytes of the file at this path, if one is given.
 fn read_given<F: Folder>(
     alloc: Global,
     files: &mut ReadOnce<F>,
@@ -237,7 +245,7 @@ fn read_given<F: Folder>(
     }
 }
 
-/// How the texts of these words can be typed with the table.
+/// Returns how the texts of these words can be typed with the table.
 fn how_answer<T: ComposeTable>(
     alloc: Global,
     read: &TableRead<'_>,
@@ -255,7 +263,7 @@ fn how_answer<T: ComposeTable>(
     ways_answer::<T>(alloc, read, arguments, bytes_of(repertoire), &texts, &paths)
 }
 
-/// How these texts can be typed with the table, whose files have these paths.
+/// Returns how these texts can be typed with the table, whose files have these paths.
 fn ways_answer<'a, T: ComposeTable>(
     alloc: Global,
     read: &TableRead<'_>,
@@ -283,7 +291,7 @@ fn ways_answer<'a, T: ComposeTable>(
     how_to_type::<T>(alloc, &read.names.lines, &table, paths, wanted)
 }
 
-/// The bytes, if they are there.
+/// Returns the bytes, if there are some.
 fn bytes_of(bytes: &Option<Vec<u8>>) -> Option<&[u8]>
     ensures { option_copied result ≡ option_map (λ held. held.items) bytes.now }
 {
@@ -293,7 +301,7 @@ fn bytes_of(bytes: &Option<Vec<u8>>) -> Option<&[u8]>
     }
 }
 
-/// The bytes; none where they are not there.
+/// Returns the bytes, or none.
 fn held_text(bytes: &Option<Vec<u8>>) -> &[u8]
     ensures { result.now ≡ unwrap_or (option_map (λ held. held.items) bytes.now) [] }
 {
@@ -303,7 +311,7 @@ fn held_text(bytes: &Option<Vec<u8>>) -> &[u8]
     }
 }
 
-/// The texts that these words stand for.
+/// Returns the texts that these words stand for.
 fn wanted_texts(alloc: Global, words: &[&str]) -> Result<Vec<String>, AllocError>
     ensures { IfOk result
         (λ texts. map string_bytes texts.items
@@ -316,7 +324,7 @@ fn wanted_texts(alloc: Global, words: &[&str]) -> Result<Vec<String>, AllocError
     Ok(texts)
 }
 
-/// These texts.
+/// Borrows these texts.
 fn borrowed(alloc: Global, texts: &[String]) -> Result<Vec<&str>, AllocError>
     ensures { IfOk result
         (λ lent. map (λ text. text.now) lent.items ≡ map string_bytes texts.now) }
@@ -328,7 +336,7 @@ fn borrowed(alloc: Global, texts: &[String]) -> Result<Vec<&str>, AllocError>
     Ok(lent)
 }
 
-/// The outcome of `how`, once it is answered.
+/// Returns the outcome of the answer of `how`.
 fn how_outcome<T: ComposeTable>(
     alloc: Global,
     read: TableRead<'_>,
@@ -351,7 +359,7 @@ fn how_outcome<T: ComposeTable>(
     }
 }
 
-/// The outcome of the sequences that were found: no where some text has none.
+/// Returns the outcome of the sequences that were found: `No` if a text has none.
 fn ways_outcome<T: ComposeTable>(
     alloc: Global,
     read: TableRead<'_>,
@@ -370,7 +378,7 @@ fn ways_outcome<T: ComposeTable>(
     Ok(with_errors(outcome, errors))
 }
 
-/// The lines as an answer: yes where each text is found.
+/// Returns the lines as an answer: `Yes` if each text is found.
 fn answer_of(ways: Ways) -> Answer
     ensures { result ≡ how_words.answer_by (list_all (λ is_found. is_found) ways.found.items) ways.lines }
 {
@@ -381,21 +389,21 @@ fn answer_of(ways: Ways) -> Answer
     }
 }
 
-/// Whether each text is found.
+/// Returns whether each text is found.
 fn are_found(found: &[bool]) -> bool
     ensures { result ≡ list_all (λ is_found. is_found) found.now }
 {
     found.iter().all(|is_found| *is_found)
 }
 
-/// The same outcome, with these errors.
+/// Returns the same outcome, with these errors.
 fn with_errors(outcome: Outcome, errors: String) -> Outcome
     ensures { HasErrors (string_bytes errors) outcome result }
 {
     Outcome { errors, ..outcome }
 }
 
-/// A line for each word whose text no sequence gives.
+/// Returns a line for each word whose text no sequence produces.
 fn missing_lines(alloc: Global, words: &[&str], found: &[bool]) -> Result<String, AllocError>
     ensures { IfOk result
         (λ lines. string_bytes lines
@@ -411,7 +419,7 @@ fn missing_lines(alloc: Global, words: &[&str], found: &[bool]) -> Result<String
     Ok(lines)
 }
 
-/// Appends the line of a word whose text no sequence gives.
+/// Appends the line of a word whose text no sequence produces.
 fn push_missing(lines: &mut String, word: &str, is_found: bool) -> Result<(), AllocError>
     ensures { OnOk result
         (string_bytes lines.new

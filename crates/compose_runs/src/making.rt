@@ -19,21 +19,24 @@ use compose_tool::{make_all_migration, make_migration};
 use compose_tree::ComposeTable;
 use std::alloc::{AllocError, Global};
 
-/// What `make` is asked beside its tables.
+/// The arguments of `make` except its tables.
 #[derive(Clone, Copy, Debug)]
 pub struct MakeOptions<'a> {
     /// The path of the repertoire.
     pub repertoire: &'a str,
     /// The names of the fresh keysyms.
     pub fresh: &'a [&'a str],
-    /// Whether all characters that can't be typed are asked for, and not the first alone.
+    /// Whether all characters that can't be typed are printed, not only the first one.
     pub all: bool,
-    /// The path of the file to which the certificate is written, in the place of standard output.
+    /// The path of the file to which the certificate is written, instead of standard output.
     pub output: Option<&'a str>,
 }
 
-/// The outcome of `make`: the text of a certificate, or why there is none. The files of names are read first, then those of the old table,
-/// those of the new one, and the repertoire. At the cost of reading them and of `make_migration`.
+/// Returns the outcome of `make`: the text of a certificate, or why there is none. The files of
+/// names are read first, then those of the old table, those of the new one, and the repertoire.
+/// Takes the time of reading them and of `make_migration`.
+/// Errors: the fault of the first file, in this order, that can't be read or is refused; `NoMemory`
+/// if memory runs out.
 pub fn run_make<T: ComposeTable, F: Folder>(
     alloc: Global,
     files: &mut ReadOnce<F>,
@@ -54,7 +57,7 @@ pub fn run_make<T: ComposeTable, F: Folder>(
     Ok(written_to(alloc, making.output, outcome)?)
 }
 
-/// The outcome of `make`, once the files are read.
+/// Returns the outcome of `make`, once the files are read.
 fn make_outcome<T: ComposeTable>(
     alloc: Global,
     verbose: bool,
@@ -69,8 +72,11 @@ fn make_outcome<T: ComposeTable>(
     make_report::<T>(alloc, true, verbose, both, repertoire, making, answered)
 }
 
-/// The outcome of `make` on Compose files as they lie on the system. The files of names are read first, then those of the old table, those of the
-/// new one, and the repertoire. At the cost of `find_files` for both tables and of `make_migration`.
+/// Returns the outcome of `make` on Compose files as they are on the system. The files of names are
+/// read first, then those of the old table, those of the new one, and the repertoire. Takes the
+/// time of `find_files` for both tables and of `make_migration`.
+/// Errors: the fault of the first file, in this order, that can't be read or is refused; `Word` if
+/// a variable of the environment that is needed is not UTF-8; `NoMemory` if memory runs out.
 pub fn run_make_files<T: ComposeTable, F: Folder>(
     alloc: Global,
     files: &mut ReadOnce<F>,
@@ -94,7 +100,7 @@ pub fn run_make_files<T: ComposeTable, F: Folder>(
     Ok(written_to(alloc, making.output, outcome)?)
 }
 
-/// The outcome of `make` on Compose files, once they are read.
+/// Returns the outcome of `make` on Compose files, once they are read.
 fn make_files_outcome<T: ComposeTable>(
     alloc: Global,
     verbose: bool,
@@ -112,7 +118,7 @@ fn make_files_outcome<T: ComposeTable>(
     Ok(printed.with_notes(notes))
 }
 
-/// The outcome of what is answered to `make`, or refused, for people unless `numbered`.
+/// Returns the outcome of an answer of `make` or of a refusal; for people unless `numbered`.
 fn make_report<T: ComposeTable>(
     alloc: Global,
     numbered: bool,
@@ -136,7 +142,7 @@ fn make_report<T: ComposeTable>(
     worded_outcome::<T>(alloc, numbered, verbose, &given, answered)
 }
 
-/// What is answered to `make`.
+/// Returns the answer of `make`.
 fn make_answer<T: ComposeTable>(
     alloc: Global,
     both: &MigrationFiles<'_>,
@@ -155,7 +161,8 @@ fn make_answer<T: ComposeTable>(
     }
 }
 
-/// The same outcome, whose output is written to the file at this path, if there is one, where it is a certificate.
+/// Returns the same outcome; if its output is a certificate, and there is a path, the output is
+/// written to the file at this path.
 fn written_to(alloc: Global, path: Option<&str>, outcome: Outcome) -> Result<Outcome, AllocError>
     requires { outcome.file ≡ None }
     ensures { IfOk result (λ written. IsWrittenTo (option_copied path.entry) outcome written) }

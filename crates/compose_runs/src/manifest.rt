@@ -1,4 +1,4 @@
-//! `manifest`: the sources of a Compose file on the system.
+//! `manifest`: the files of a Compose file on the system.
 ghost use Rattle.std.specs.Prelude.{◌≡◌, IfOk, IfErr};
 ghost use Rattle.compose_runs.specs.Faults.{FailsManifestRun};
 ghost use Rattle.compose_runs.specs.Manifest.{IsManifestRun, IsManifestOutcome, IsWrittenManifest, PrintsRefusal};
@@ -14,8 +14,11 @@ use compose_manifest::{WriteFault, manifest_text};
 use compose_report::Outcome;
 use std::alloc::{AllocError, Global};
 
-/// The outcome of `manifest`: the manifest of a Compose file as it lies on the system, and notes on those of its files that lie outside of
-/// its tree of tables; if no file is given, that of the user's, which is noted first. At the cost of `find_files`.
+/// Returns the outcome of `manifest`: the manifest of a Compose file as it is on the system, and
+/// notes on those of its files that lie outside of its tree of tables. If no file is given, the
+/// user's file is taken, and a note on it comes first. Takes the time of `find_files`.
+/// Errors: the fault of the first file that can't be read or is refused; `Word` if a variable of
+/// the environment that is needed is not UTF-8; `NoMemory` if memory runs out.
 pub fn run_manifest<F: Folder>(
     alloc: Global,
     files: &mut ReadOnce<F>,
@@ -40,7 +43,7 @@ pub fn run_manifest<F: Folder>(
     Ok(outcome.with_notes(notes))
 }
 
-/// The outcome of `manifest`, once the files are found.
+/// Returns the outcome of `manifest`, once the files are found.
 fn manifest_outcome(
     alloc: Global,
     places: Places<'_>,
@@ -54,7 +57,8 @@ fn manifest_outcome(
     Ok(written_manifest(alloc, found)?.with_notes(notes))
 }
 
-/// The manifest of these sources on standard output; a refusal where a name or a path can't stand in one.
+/// Returns the manifest of these sources, on standard output; a refusal if a manifest can't contain
+/// a name or a path.
 fn written_manifest(alloc: Global, found: &[FoundSource]) -> Result<Outcome, AllocError>
     ensures { IfOk result (λ outcome. IsWrittenManifest found.now outcome) }
 {
@@ -65,7 +69,7 @@ fn written_manifest(alloc: Global, found: &[FoundSource]) -> Result<Outcome, All
     }
 }
 
-/// The refusal of a manifest that can't be written.
+/// Returns the refusal of a manifest that can't be written.
 fn refused_manifest(alloc: Global) -> Result<Outcome, AllocError>
     ensures { IfOk result (λ outcome. PrintsRefusal outcome) }
 {

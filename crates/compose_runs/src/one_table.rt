@@ -1,4 +1,4 @@
-//! What a command on one Compose file reads.
+//! The files that a command on one Compose file reads.
 ghost use Rattle.std.specs.Prelude.{◌≡◌, ◌||◌, ◌++◌, None, Ok, map, option_copied, IfOk, IfErr, string_bytes};
 ghost use Rattle.compose_runs.specs.Environment as said;
 ghost use Rattle.compose_runs.specs.Environment.{GivesPlaces};
@@ -25,8 +25,9 @@ use std::alloc::{AllocError, Global};
 /// The files of a table, and notes on where they lie.
 #[derive(Drop)]
 pub struct NotedTable {
+    /// The files of the table.
     pub table: TableFiles,
-    /// The notes, in lines.
+    /// The notes, as lines.
     pub notes: String,
 }
 
@@ -42,7 +43,8 @@ impl<'n> TableRead<'n> {
     ghost use Rattle.compose_runs.specs.Faults.{FailsTableRead};
     ghost use Rattle.compose_runs.specs.OneTable.{IsTableRead, IsTableOutcome};
 
-    /// Reads the files of names, and then the Compose file as it lies on the system; if none is given, that of the user, which is noted.
+    /// Reads the files of names, and then the Compose file as it is on the system; if none is
+    /// given, that of the user, with a note on it.
     pub(crate) fn read<F: Folder>(
         alloc: Global,
         files: &mut ReadOnce<F>,
@@ -69,8 +71,9 @@ impl<'n> TableRead<'n> {
         })
     }
 
-    /// The outcome of an answer on the table, the keys of these names and the repertoire at this path with this text, or of why there is none, with
-    /// each faulty line of what was given, for people unless `numbered`. An empty path and text are those of no repertoire.
+    /// Returns the outcome of an answer, or of a refusal with each faulty line of the input; for
+    /// people unless `numbered`. The input is the table, the keys with these names, and the
+    /// repertoire at this path with this text; without a repertoire, both are empty.
     pub(crate) fn outcome<T: ComposeTable>(
         self,
         alloc: Global,
@@ -97,7 +100,7 @@ impl<'n> TableRead<'n> {
     }
 }
 
-/// Whether there is no answer. O(1).
+/// Returns whether there is no answer. O(1).
 pub fn is_refused(answered: &Result<Answer, Refusal>) -> bool
     ensures { result ≡ words.is_refused answered.now }
 {
@@ -107,14 +110,15 @@ pub fn is_refused(answered: &Result<Answer, Refusal>) -> bool
     }
 }
 
-/// Whether more is printed than the answer or the line of a refusal: where it is asked for, and of a refusal always.
+/// Returns whether details are printed after the answer or the line of a refusal: if `verbose`, and
+/// for a refusal always.
 pub(crate) fn wants_details(verbose: bool, answered: &Result<Answer, Refusal>) -> bool
     ensures { result ≡ verbose || words.is_refused answered.now }
 {
     verbose || is_refused(answered)
 }
 
-/// A text, and another one after it.
+/// Returns a text followed by another one.
 pub(crate) fn joined(alloc: Global, first: &str, second: &str) -> Result<String, AllocError>
     ensures { IfOk result (λ text. string_bytes text ≡ first.now ++ second.now) }
 {
@@ -123,7 +127,8 @@ pub(crate) fn joined(alloc: Global, first: &str, second: &str) -> Result<String,
     Ok(text)
 }
 
-/// The Compose file at these places as it lies on the system; if none is given, that of the user, which is noted first.
+/// Reads the Compose file at these places as it is on the system; if none is given, that of the
+/// user, and a note on it comes first.
 pub(crate) fn chosen_table<F: Folder>(
     alloc: Global,
     files: &mut ReadOnce<F>,
@@ -145,7 +150,7 @@ pub(crate) fn chosen_table<F: Folder>(
     Ok(NotedTable { table, notes })
 }
 
-/// Where tables lie: as the arguments say, or else the environment.
+/// Returns where tables lie: as the arguments say, or otherwise the environment.
 pub(crate) fn places_of<'a>(
     environment: &'a Environment,
     arguments: &TableArguments<'a>,
@@ -159,7 +164,7 @@ pub(crate) fn places_of<'a>(
     })
 }
 
-/// What is done with overlaps.
+/// Returns the rule for overlapping sequences.
 fn rule_of(arguments: &TableArguments<'_>) -> Rule
     ensures { result ≡ rule_unless arguments.now.refuse_overlaps }
 {
@@ -170,14 +175,14 @@ fn rule_of(arguments: &TableArguments<'_>) -> Rule
     }
 }
 
-/// The path of a Compose file, and the line that notes it.
+/// The path of a Compose file, and a note on it.
 #[derive(Drop)]
 pub(crate) struct ChosenFile {
     pub(crate) path: String,
     pub(crate) note: String,
 }
 
-/// The Compose file that is read: the one that is given, or else the user's, which is noted.
+/// Returns the Compose file to read: the given one, or otherwise the user's, with a note on it.
 pub(crate) fn file_or_own<F: Folder>(
     alloc: Global,
     files: &mut ReadOnce<F>,
@@ -204,7 +209,7 @@ pub(crate) fn file_or_own<F: Folder>(
     }
 }
 
-/// A file that was not given, and the line that notes it.
+/// Returns a file that was not given, with a note on it.
 fn noted_file(alloc: Global, path: String) -> Result<ChosenFile, AllocError>
     ensures { IfOk result
         (λ file. (file.path ≡ path) × (string_bytes file.note ≡ own_note (string_bytes path))) }
@@ -214,8 +219,9 @@ fn noted_file(alloc: Global, path: String) -> Result<ChosenFile, AllocError>
     Ok(ChosenFile { path, note })
 }
 
-/// The path of the Compose file that libxkbcommon takes for the user: the first of the user's own that is there, or else that of the locale. If
-/// none is there, it is the one that is looked for last.
+/// Returns the path of the Compose file that libxkbcommon takes for the user: the first of the
+/// user's own that exists, or otherwise that of the locale. If none exists, it is the path that is
+/// tried last.
 fn user_file<F: Folder>(
     alloc: Global,
     files: &mut ReadOnce<F>,
@@ -237,7 +243,7 @@ fn user_file<F: Folder>(
     Ok(last_path(alloc, paths)?)
 }
 
-/// The paths at which the user's own file may lie.
+/// Returns the paths at which the user's own file may be.
 fn own_paths(
     alloc: Global,
     environment: &Environment,
@@ -258,7 +264,7 @@ fn own_paths(
     Ok(user_paths(alloc, folders)?)
 }
 
-/// The last of these paths.
+/// Returns the last of these paths.
 fn last_path(alloc: Global, paths: Vec<String>) -> Result<String, AllocError>
     ensures { IfOk result
         (λ path. own.IsLast (map string_bytes paths.items) (string_bytes path)) }

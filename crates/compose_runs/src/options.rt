@@ -1,10 +1,10 @@
-//! What every command on tables is asked.
+//! The options of all commands on tables.
 
-/// What every command on tables is asked.
+/// The options of all commands on tables.
 #[derive(Clone, Copy, Debug)]
 pub struct Options<'a> {
     /// The arguments of each `--names`: the path of a file of names, or `builtin`.
     pub names: &'a [&'a str],
-    /// Whether more is to be said of an answer or a refusal.
+    /// Whether details of an answer or a refusal are printed.
     pub verbose: bool,
 }

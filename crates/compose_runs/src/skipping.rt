@@ -1,4 +1,4 @@
-//! What commands read, without the faulty lines of tables.
+//! The files that commands read, without the faulty lines of tables.
 ghost use Rattle.std.specs.Prelude.{IfOk};
 ghost use Rattle.compose_runs.specs.Skipping.{IsFollowed};
 
@@ -9,7 +9,7 @@ use compose_report::Outcome;
 use compose_skipped::{Report, kept_table};
 use std::alloc::{AllocError, Global};
 
-/// What a command on one Compose file reads, and the report of the lines that are left out.
+/// The files that a command on one Compose file reads, and the report of skipped lines.
 #[derive(Drop)]
 pub(crate) struct KeptRead<'n> {
     pub(crate) read: TableRead<'n>,
@@ -19,7 +19,8 @@ pub(crate) struct KeptRead<'n> {
 impl<'n> KeptRead<'n> {
     ghost use Rattle.compose_runs.specs.Skipping.{IsKeptRead};
 
-    /// What was read; without the faulty lines of the table, if these are skipped. O(bytes).
+    /// Returns the files that were read; without the faulty lines of the table, if these are
+    /// skipped. O(bytes).
     pub(crate) fn of(
         alloc: Global,
         skip_faulty: bool,
@@ -48,7 +49,7 @@ impl<'n> KeptRead<'n> {
     }
 }
 
-/// What `diff` reads, and the report of the lines that are left out.
+/// The files that `diff` reads, and the report of skipped lines.
 #[derive(Drop)]
 pub(crate) struct KeptPair<'n> {
     pub(crate) files: DiffFiles<'n>,
@@ -58,7 +59,8 @@ pub(crate) struct KeptPair<'n> {
 impl<'n> KeptPair<'n> {
     ghost use Rattle.compose_runs.specs.Skipping.{IsKeptPair};
 
-    /// What was read; without the faulty lines of both tables, if these are skipped. O(bytes).
+    /// Returns the files that were read; without the faulty lines of both tables, if these are
+    /// skipped. O(bytes).
     pub(crate) fn of(
         alloc: Global,
         skip_faulty: bool,
@@ -82,7 +84,7 @@ impl<'n> KeptPair<'n> {
     }
 }
 
-/// The same outcome, with this text after its errors.
+/// Returns the same outcome, with this text after its errors.
 pub(crate) fn followed(outcome: Outcome, text: &str) -> Result<Outcome, AllocError>
     ensures { IfOk result (λ after. IsFollowed text.now outcome after) }
 {

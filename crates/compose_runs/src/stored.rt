@@ -7,7 +7,9 @@ use compose_bundle::{Bundle, BundleFault, read_bundle};
 use compose_input::Fault;
 use std::alloc::{AllocError, Global};
 
-/// The bundle that these bytes are, which are stored. A fault says that they are none, after these words of where they are. O(bytes).
+/// Reads the stored bytes of a bundle. O(bytes).
+/// Errors: a refusal of `state`, whose words begin with this place, if the bytes are not a bundle;
+/// `NoMemory` if memory runs out.
 pub fn read_stored<'b>(alloc: Global, place: &str, bytes: &'b [u8]) -> Result<Bundle<'b>, Fault>
     ensures read { IfOk result
         (λ bundle. IsBundle bytes.entry.now
@@ -21,14 +23,14 @@ pub fn read_stored<'b>(alloc: Global, place: &str, bytes: &'b [u8]) -> Result<Bu
     }
 }
 
-/// The fault that what is stored is no bundle.
+/// Returns the fault that the stored bytes are not a bundle.
 fn state_fault(alloc: Global, place: &str) -> Fault
     ensures { SaysState (place.now ++ damage) result }
 {
     Fault::refused("state", state_words(alloc, place))
 }
 
-/// The words of it, after those of where it is stored.
+/// Returns its words, which begin with this place.
 fn state_words(alloc: Global, place: &str) -> Result<String, AllocError>
     ensures { IfOk result (λ words. string_bytes words ≡ place.now ++ damage) }
 {

@@ -18,11 +18,14 @@ use compose_tool::{type_keys, type_lists};
 use compose_tree::ComposeTable;
 use std::alloc::{AllocError, Global};
 
-/// What is said of standard input whose bytes are no text.
+/// The message for standard input that is not UTF-8.
 const NO_TEXT: &str = "standard input is not UTF-8";
 
-/// The outcome of `type`: these keys are typed with the table of the manifest at this path. The files of names are read first, then those
-/// of the table. At the cost of reading them and of `type_keys`.
+/// Returns the outcome of `type`: these keys are typed with the table of the manifest at this path.
+/// The files of names are read first, then those of the table. Takes the time of reading them and
+/// of `type_keys`.
+/// Errors: the fault of the first file, in this order, that can't be read or is refused; `NoMemory`
+/// if memory runs out.
 pub fn run_type<T: ComposeTable, F: Folder>(
     alloc: Global,
     files: &mut ReadOnce<F>,
@@ -43,7 +46,7 @@ pub fn run_type<T: ComposeTable, F: Folder>(
     Ok(type_outcome::<T>(alloc, options.verbose, &names, &table, keys)?)
 }
 
-/// The outcome of `type`, once the files are read.
+/// Returns the outcome of `type`, once the files are read.
 fn type_outcome<T: ComposeTable>(
     alloc: Global,
     verbose: bool,
@@ -61,9 +64,12 @@ fn type_outcome<T: ComposeTable>(
     outcome_of::<T>(alloc, verbose, &given, answered)
 }
 
-/// The outcome of `type` with a Compose file as it lies on the system: of the keys that these words write, by their names or as their
-/// characters; where there is no word, of the lists of keys that the lines of standard input write. The files of names are read first, then
-/// those of the table, and then standard input. At the cost of `find_files` and of `type_keys` or `type_lists`.
+/// Returns the outcome of `type` with a Compose file as it is on the system. The words write the
+/// keys, by their names or as their characters; if there are none, the lines of standard input
+/// write lists of keys. The files of names are read first, then those of the table, and then
+/// standard input. Takes the time of `find_files` and of `type_keys` or `type_lists`.
+/// Errors: the fault of the first file, in this order, that can't be read or is refused; `Word` if
+/// a variable of the environment that is needed is not UTF-8; `NoMemory` if memory runs out.
 pub fn run_type_file<T: ComposeTable, F: Folder>(
     alloc: Global,
     files: &mut ReadOnce<F>,
@@ -85,7 +91,7 @@ pub fn run_type_file<T: ComposeTable, F: Folder>(
     Ok(kept_type_outcome::<T>(alloc, read, arguments.skip_faulty, words, lines)?)
 }
 
-/// What standard input has, if there is no word.
+/// Reads standard input, if there are no words.
 fn read_lines<F: Folder>(
     alloc: Global,
     files: &mut ReadOnce<F>,
@@ -105,7 +111,7 @@ fn read_lines<F: Folder>(
     Ok(None)
 }
 
-/// These bytes as a text.
+/// Returns these bytes as a text.
 fn text_of(alloc: Global, bytes: &[u8]) -> Result<String, Fault>
     ensures text { IfOk result (λ text. string_bytes text ≡ bytes.now) }
     ensures fault { IfErr result (λ fault. FailsText bytes.now fault) }
@@ -116,14 +122,15 @@ fn text_of(alloc: Global, bytes: &[u8]) -> Result<String, Fault>
     }
 }
 
-/// That standard input is no text.
+/// Returns the fault that standard input is not UTF-8.
 fn no_text(alloc: Global) -> Fault
     ensures { SaysNoText result }
 {
     Fault::refused("keys", String::from_str(alloc, NO_TEXT))
 }
 
-/// The outcome of `type` with a Compose file, once it is read: without its faulty lines, if these are skipped.
+/// Returns the outcome of `type` with a Compose file, once it is read; without its faulty lines, if
+/// these are skipped.
 fn kept_type_outcome<T: ComposeTable>(
     alloc: Global,
     read: TableRead<'_>,
@@ -141,7 +148,8 @@ fn kept_type_outcome<T: ComposeTable>(
     followed(printed, &skipped)
 }
 
-/// The outcome of `type` with a Compose file and these lines; where there are none, with these words.
+/// Returns the outcome of `type` with a Compose file and these lines, or with these words if there
+/// are no lines.
 fn typed_outcome<T: ComposeTable>(
     alloc: Global,
     read: TableRead<'_>,
@@ -158,7 +166,7 @@ fn typed_outcome<T: ComposeTable>(
     }
 }
 
-/// The outcome of `type` with a Compose file, once it is read.
+/// Returns the outcome of `type` with a Compose file, once it is read.
 fn type_file_outcome<T: ComposeTable>(
     alloc: Global,
     read: TableRead<'_>,
@@ -173,7 +181,8 @@ fn type_file_outcome<T: ComposeTable>(
     read.outcome::<T>(alloc, false, &keys, "", &[], answered)
 }
 
-/// The outcome of `type` with a Compose file and the lists of keys that these lines write, once both are read.
+/// Returns the outcome of `type` with a Compose file and the lists of keys that these lines write,
+/// once both are read.
 fn type_lines_outcome<T: ComposeTable>(
     alloc: Global,
     read: TableRead<'_>,

@@ -1,4 +1,4 @@
-//! `update`: what is read, and what is then done with the table in use.
+//! `update`: the files that it reads, and what it does with the table in use.
 ghost use Rattle.std.specs.Prelude.{◌≡◌, ◌<◌, Some, length, map, option_map, option_copied, slice_get, string_bytes, IfOk, IfErr};
 ghost use Rattle.compose_answer.specs.declared.answer.Ended.TheVariants.{No};
 ghost use Rattle.compose_diff_rows.specs.Answers.{AnswersDiff};
@@ -24,44 +24,45 @@ use compose_tree::ComposeTable;
 use compose_update::{Update, UpdateFault, UpdateInput, decide_update};
 use std::alloc::{AllocError, Global};
 
-/// What an update is read from: the names, which are built in, the new table, and the characters that people need, with their keys.
+/// The input of an update: the built-in names, the new table, and the repertoire.
 #[derive(Drop)]
 pub struct UpdateFiles {
-    /// The names.
+    /// The built-in names of keysyms.
     pub names: NameFiles<'static>,
-    /// The new table, of whose overlapping sequences the longest counts.
+    /// The new table; the longest of overlapping sequences counts.
     pub new: TableFiles,
     /// The repertoire; an empty one if none is given.
     pub repertoire: Vec<u8>,
-    /// The list of the changes that are meant, if one is given.
+    /// The list of intended changes, if one is given.
     pub meant: Option<MeantChanges>,
 }
 
-/// A list of the changes that are meant, as `diff` accepts them.
+/// A list of intended changes, as `diff` accepts them.
 #[derive(Drop)]
 pub struct MeantChanges {
     /// The path of the list.
     pub path: String,
-    /// The list.
+    /// The bytes of the list.
     pub lines: Vec<u8>,
 }
 
-/// What an update does.
+/// The decision of an update.
 #[derive(Drop)]
 pub enum UpdateRun {
-    /// The new table takes the place of the one in use.
+    /// The new table replaces the one in use.
     Replaced {
         /// The bytes that are stored from then on.
         stored: Vec<u8>,
-        /// The certificate by which a running service takes the new table, if a table was in use.
+        /// The certificate with which a running service loads the new table, if a table was in use.
         certificate: Option<String>,
     },
-    /// Typing changes, and each change is meant: the new table takes the place of the one in use at the next start of the service.
+    /// Typing changes, and all changes are intended: the new table replaces the one in use at the
+    /// next start of the service.
     Meant {
         /// The bytes that are stored from then on.
         stored: Vec<u8>,
     },
-    /// Everything stays as it is: the outcome of the run.
+    /// Nothing changes: the outcome of the run.
     Refused(Outcome),
 }
 
@@ -69,7 +70,10 @@ impl UpdateFiles {
     ghost use Rattle.compose_runs.specs.Faults.{FailsUpdateRead};
     ghost use Rattle.compose_runs.specs.Updating.{AreUpdateFiles};
 
-    /// Reads the Compose file as it lies on the system, the repertoire, and the list of the changes that are meant. At the cost of `find_files`.
+    /// Reads the Compose file as it is on the system, the repertoire, and the list of intended
+    /// changes, in this order. Takes the time of `find_files`.
+    /// Errors: the fault of the first file, in this order, that can't be read or is refused; `Word`
+    /// if a variable of the environment that is needed is not UTF-8; `NoMemory` if memory runs out.
     pub fn read<F: Folder>(
         alloc: Global,
         files: &mut ReadOnce<F>,
@@ -101,7 +105,7 @@ impl UpdateFiles {
     }
 }
 
-/// The repertoire at this path; an empty one if none is given.
+/// Reads the repertoire at this path; an empty one if none is given.
 fn read_repertoire<F: Folder>(
     alloc: Global,
     files: &mut ReadOnce<F>,
@@ -119,7 +123,7 @@ fn read_repertoire<F: Folder>(
     }
 }
 
-/// The list of the changes that are meant at this path, if one is given.
+/// Reads the list of intended changes at this path, if one is given.
 fn read_meant<F: Folder>(
     alloc: Global,
     files: &mut ReadOnce<F>,
@@ -141,8 +145,11 @@ fn read_meant<F: Folder>(
     }))
 }
 
-/// What an update does with these files, where these bytes are stored of the table in use. At the cost of `decide_update`, and of
-/// `diff_migration` and once more of `decide_update` where typing changes and a list of changes that are meant is given.
+/// Returns what an update does with these files, if these are the stored bytes of the table in use.
+/// Takes the time of `decide_update`; if typing changes and a list of intended changes is given,
+/// also that of `diff_migration`, and that of `decide_update` once more.
+/// Errors: a refusal of `state` if the stored bytes are not a bundle; `NoMemory` if memory runs
+/// out.
 pub fn run_update<T: ComposeTable>(
     alloc: Global,
     files: &UpdateFiles,
@@ -160,7 +167,7 @@ pub fn run_update<T: ComposeTable>(
     }
 }
 
-/// The same, where these bytes are stored.
+/// Does the same, if bytes are stored.
 fn update_stored<T: ComposeTable>(
     alloc: Global,
     files: &UpdateFiles,
@@ -177,7 +184,7 @@ fn update_stored<T: ComposeTable>(
     Ok(update_of::<T>(alloc, files, fresh, current)?)
 }
 
-/// What an update does with these files, where a table of these sources is in use.
+/// Returns what an update does with these files, if a table with these sources is in use.
 fn update_of<T: ComposeTable>(
     alloc: Global,
     files: &UpdateFiles,
@@ -192,7 +199,7 @@ fn update_of<T: ComposeTable>(
     decision_done::<T>(alloc, files, fresh, current, decided)
 }
 
-/// The run of an update that is decided so, where a table of these sources is in use.
+/// Returns the run of an update with this decision, if a table with these sources is in use.
 fn decision_done<T: ComposeTable>(
     alloc: Global,
     files: &UpdateFiles,
@@ -212,7 +219,8 @@ fn decision_done<T: ComposeTable>(
     }
 }
 
-/// The run of an update where typing would change, and these lines say how: they are printed, unless a list of changes that are meant is given.
+/// Returns the run of an update if typing would change, as these lines say. They are printed,
+/// unless a list of intended changes is given.
 fn refused_or_meant<T: ComposeTable>(
     alloc: Global,
     files: &UpdateFiles,
@@ -231,7 +239,8 @@ fn refused_or_meant<T: ComposeTable>(
     }
 }
 
-/// The same, where this list of changes that are meant is given: the lines are printed where no table is in use.
+/// Returns the same, if this list of intended changes is given. If no table is in use, the lines
+/// are printed.
 fn refused_or_listed<T: ComposeTable>(
     alloc: Global,
     files: &UpdateFiles,
@@ -250,14 +259,14 @@ fn refused_or_listed<T: ComposeTable>(
     }
 }
 
-/// The run of an update that prints these lines, and leaves everything as it is.
+/// Returns the run of an update that prints these lines, and changes nothing.
 fn refused_with(alloc: Global, text: String) -> UpdateRun
     ensures { IsRefusedAs (PrintsOutput (string_bytes text) No) result }
 {
     UpdateRun::Refused(Outcome::of_output(alloc, text, Ended::No))
 }
 
-/// What is decided of these files, where a table of these sources is in use.
+/// Returns the decision about these files, if a table with these sources is in use.
 fn decided<T: ComposeTable>(
     alloc: Global,
     files: &UpdateFiles,
@@ -278,7 +287,8 @@ fn decided<T: ComposeTable>(
     decide_update::<T>(alloc, &input)
 }
 
-/// What an update does where typing would change from a table of these sources: the new table is stored if each change is meant.
+/// Returns what an update does if typing would change from a table with these sources: the new
+/// table is stored if all changes are intended.
 fn update_meant<T: ComposeTable>(
     alloc: Global,
     files: &UpdateFiles,
@@ -307,7 +317,8 @@ fn update_meant<T: ComposeTable>(
     }
 }
 
-/// What `diff` answers on a table of these sources and the new one, where these changes are meant.
+/// Returns the answer of `diff` on a table with these sources and the new one, if these changes are
+/// intended.
 fn meant_answer<T: ComposeTable>(
     alloc: Global,
     files: &UpdateFiles,
@@ -342,7 +353,7 @@ fn meant_answer<T: ComposeTable>(
     diff_migration::<T>(alloc, &input)
 }
 
-/// The names of the sources.
+/// Returns the names of the sources.
 fn source_names(alloc: Global, sources: &Sources) -> Result<Vec<&str>, AllocError>
     ensures { IfOk result
         (λ names. map (λ name. name.now) names.items ≡ map (λ source. source.name) sources.now) }
@@ -354,7 +365,7 @@ fn source_names(alloc: Global, sources: &Sources) -> Result<Vec<&str>, AllocErro
     Ok(names)
 }
 
-/// The name of the source at this index.
+/// Returns the name of the source at this index.
 fn source_name(sources: &Sources, index: usize) -> &str
     requires { index < length sources.now }
     ensures { option_map (λ source. source.name) (slice_get sources.now index) ≡ Some result.now }
@@ -362,7 +373,8 @@ fn source_name(sources: &Sources, index: usize) -> &str
     sources.name(index).unwrap()
 }
 
-/// What is done where each change is meant: the new table is stored, as one is where no table is in use.
+/// Returns the run of an update if all changes are intended: the new table is stored as if no table
+/// were in use.
 fn stored_as_meant<T: ComposeTable>(
     alloc: Global,
     files: &UpdateFiles,
@@ -377,7 +389,7 @@ fn stored_as_meant<T: ComposeTable>(
     }
 }
 
-/// The run of an update that is decided so, where no list of changes that are meant bears on it.
+/// Returns the run of an update with this decision, if no list of intended changes matters.
 fn update_done(
     alloc: Global,
     files: &UpdateFiles,
@@ -416,7 +428,8 @@ fn update_done(
     }
 }
 
-/// The outcome where a part is refused: the new table stands for both, since the one in use was read when it was taken into use.
+/// Returns the outcome of a refused input. The new table stands for both tables, since the one in
+/// use was read when it was taken into use.
 fn refused_outcome(
     alloc: Global,
     files: &UpdateFiles,

@@ -1,4 +1,5 @@
-//! Keys as the words of the command line write them where Compose files are given: by their names, or as their characters.
+//! Keys as they are written on the command line for Compose files: by their names, or as their
+//! characters.
 ghost use Rattle.std.specs.Prelude.{◌≡◌, map, IfOk, string_bytes};
 ghost use Rattle.keysym_core.specs.Header.{names_of};
 ghost use Rattle.keysym_core.specs.Printed as words;
@@ -8,8 +9,10 @@ use compose_messages::key_of_text;
 use keysym_core::{Keysym, NameFault, Names};
 use std::alloc::{AllocError, Global};
 
-/// The names of keys that these words are: of Compose files those that the words stand for by the names of this header, as names or as characters,
-/// and else the words themselves. O(bytes + words × log characters).
+/// Returns the names of the keys that these words write. For Compose files a word is a name in this
+/// header or a character; otherwise each word is taken as a name. O(bytes + words × log
+/// characters).
+/// Errors: `AllocError` if memory runs out.
 pub fn key_names(
     alloc: Global,
     are_files: bool,
@@ -27,8 +30,9 @@ pub fn key_names(
     }
 }
 
-/// The names that these words stand for by the names of this header: a word itself where it names a keysym, or else, where it is one character, the
-/// name of the least keysym of this character; any other word itself. O(bytes + words × log characters).
+/// Returns the names that these words stand for, by the names in this header: the word itself if it
+/// names a keysym; the name of the least keysym with this character if it is one; any other word
+/// itself. O(bytes + words × log characters).
 pub(crate) fn written_keys(
     alloc: Global,
     header: &[u8],
@@ -45,7 +49,7 @@ pub(crate) fn written_keys(
     }
 }
 
-/// The names that these words stand for.
+/// Returns the names that these words stand for.
 fn named_keys(alloc: Global, names: &Names, words: &[&str]) -> Result<Vec<String>, AllocError>
     ensures { IfOk result
         (λ keys. AreNamed names.now (map (λ word. word.now) words.now)
@@ -59,7 +63,7 @@ fn named_keys(alloc: Global, names: &Names, words: &[&str]) -> Result<Vec<String
     Ok(keys)
 }
 
-/// These words.
+/// Returns a copy of these words.
 fn copied(alloc: Global, words: &[&str]) -> Result<Vec<String>, AllocError>
     ensures { IfOk result
         (λ keys. map string_bytes keys.items ≡ map (λ word. word.now) words.now) }
@@ -72,7 +76,8 @@ fn copied(alloc: Global, words: &[&str]) -> Result<Vec<String>, AllocError>
     Ok(keys)
 }
 
-/// These names, lent. O(names).
+/// Borrows these names. O(names).
+/// Errors: `AllocError` if memory runs out.
 pub fn borrowed(alloc: Global, keys: &[String]) -> Result<Vec<&str>, AllocError>
     ensures { IfOk result
         (λ names. map (λ name. name.now) names.items ≡ map string_bytes keys.now) }
@@ -84,7 +89,7 @@ pub fn borrowed(alloc: Global, keys: &[String]) -> Result<Vec<&str>, AllocError>
     Ok(names)
 }
 
-/// The name that a word stands for.
+/// Returns the name that a word stands for.
 fn written_key(alloc: Global, names: &Names, word: &str) -> Result<String, AllocError>
     ensures { IfOk result (λ name. IsWritten names.now word.now (string_bytes name)) }
 {
@@ -94,7 +99,7 @@ fn written_key(alloc: Global, names: &Names, word: &str) -> Result<String, Alloc
     }
 }
 
-/// The name that a word stands for that names no keysym.
+/// Returns the name that a word stands for which names no keysym.
 fn name_of_character(alloc: Global, names: &Names, word: &str) -> Result<String, AllocError>
     ensures { IfOk result (λ name. IsNameOfCharacter names.now word.now (string_bytes name)) }
 {
@@ -104,7 +109,7 @@ fn name_of_character(alloc: Global, names: &Names, word: &str) -> Result<String,
     }
 }
 
-/// How a keysym is printed.
+/// Returns the printed name of a keysym.
 fn printed(alloc: Global, names: &Names, keysym: Keysym) -> Result<String, AllocError>
     ensures { IfOk result (λ name. string_bytes name ≡ words.printed names.now keysym) }
 {

@@ -36,7 +36,7 @@ run-more reading old mid new (p ∷ qs) (o ∷ rs) q r h s = (h.0, h.1, run-more
 run-more reading old mid new [] (o ∷ rs) q r h s = absurd h
 run-more reading old mid new (p ∷ qs) [] q r h s = absurd h
 
--- the first so many bytes, fewer than all, are a proper prefix
+-- the first n bytes, fewer than all, are a proper prefix
 pub take-proper : (n : ℕ) (bs : List ℕ) → n < length bs → is_proper_prefix (take n bs) bs ≡ true
 take-proper n [] h = absurd (omega arith)
 take-proper zero (b ∷ bs) h = refl
@@ -51,7 +51,7 @@ consumes-more p h r (Some xs) (Some ys) (Some zs) x s = x ∙ append_assoc p h y
 -- ---- going on
 
 module _ (reading : Reading) (old : ServiceState) (left written : Option (List ℕ)) where
-  -- so many requests are answered, and these bytes are not yet given out
+  -- this number of requests are answered, and these bytes are held for the next ones
   pub record Going (now : ServiceState) (left' written' : Option (List ℕ)) (count : ℕ) (held : List ℕ) : Type 0 where
     pub requests : List Request
     pub replies : List Reply
@@ -96,7 +96,7 @@ module _ (reading : Reading) (old : ServiceState) (left written : Option (List �
     frames-more rest held' q g e =
         ap (λ y. frames g.requests ++ y) e ∙ sym (append_assoc (frames g.requests) (frame q) held') ∙ ap (λ y. y ++ held') (sym (flat-more frame g.requests q))
 
-    -- one request more is answered where its frame is held first and its reply is written
+    -- one more request is answered: its frame was held first, and its reply is written
     pub going_answered : (rest held' : List ℕ) (q : Request) (r : Reply) (next : ServiceState) (written'' : Option (List ℕ)) (g : Going now left' written' count rest) → Fits q
         → rest ≡ frame q ++ held' → Step reading now q r next
         → Appends written' written'' (reply_bytes r) → Going next left' written'' (count + 1) held'

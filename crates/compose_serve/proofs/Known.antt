@@ -5,7 +5,7 @@ use Rattle.std.proofs.Math.Seq.{take-add, take-length}
 use Rattle.std.specs.Prelude.{Option, Some, None}
 use Rattle.std.specs.Io.KnownBytes.{Appends, Keeps, Consumes}
 
--- what is written stays the same where nothing is appended
+-- what is written stays the same if nothing is appended
 pub Appends-nothing : (o : Option (List ℕ)) → Appends o o []
 Appends-nothing None = tt
 Appends-nothing (Some xs) = sym (append-nil xs)
@@ -63,6 +63,6 @@ SameStream-Keeps k (Some xs) (Some ys) h = ap (λ l. k ++ l) h
 pub some-not-empty : (bytes : List ℕ) → 0 < length bytes → bytes ≢ []
 some-not-empty bytes h e = let none : length bytes ≡ 0 = ap length e in absurd (omega arith)
 
--- held bytes with some bytes behind them are not empty
+-- held bytes with some bytes after them are not empty
 pub behind-some : (held bytes : List ℕ) → 0 < length bytes → held ++ bytes ≢ []
 behind-some held bytes h = some-not-empty (held ++ bytes) (let both : length (held ++ bytes) ≡ length held + length bytes = length-append held bytes in omega arith)

@@ -1,4 +1,4 @@
--- How a service on a stream ends, and what then stands.
+-- How a service on a stream ends, and what is true then.
 use Rattle.std.specs.Prelude.{◌≡◌, ◌≢◌, ℕ, ◌≤◌, Bool, true, List, [], ◌∷◌, ◌++◌, length, flat_map, Option, Result, Ok, Err, IsSome, IsTrue, ◌⊎◌}
 use Rattle.std.specs.List.{AllByRecursion}
 use Rattle.std.specs.Io.KnownBytes.{Consumes, Appends, IsAtEnd}
@@ -16,7 +16,7 @@ use Rattle.compose_serve.specs.declared.ends.ServeFault.TheVariants.{Read, Write
 abbrev pub replies_bytes : List Reply → List ℕ
 replies_bytes a = flat_map reply_bytes a
 
--- how many requests a stream may have
+-- the greatest number of requests on a stream
 abbrev pub max_frames : ℕ
 max_frames = 16777216
 
@@ -24,14 +24,15 @@ max_frames = 16777216
 abbrev pub malformed_reply : Reply
 malformed_reply = record { session = 0; answer = refused malformed }
 
--- the requests that were answered, their replies, the bytes that were read behind these requests, and the bytes that were written
+-- the requests that were answered, their replies, the bytes that were read after these requests, and the bytes that
+-- were written
 pub record Served : Type 0 where
   pub requests : List Request
   pub replies : List Reply
   pub rest : List ℕ
   pub written : List ℕ
 
--- the bytes read begin with the frames of the requests, and the state is the machine's after these
+-- the bytes read begin with the frames of the requests, and the state is the machine's state after these
 pub record IsServed (reading : Reading) (old new : ServiceState) (left left' written written' : Option (List ℕ)) (s : Served) : Type 0 where
   pub fit : AllByRecursion Fits s.requests
   pub run : Run reading old s.requests s.replies new
@@ -44,13 +45,13 @@ pub record IsServed (reading : Reading) (old new : ServiceState) (left left' wri
 abbrev pub AllWritten : Served → Type 0
 AllWritten s = s.written ≡ replies_bytes s.replies
 
--- the input is at its end, behind a whole frame
+-- the input is at its end, after a whole frame
 pub record EndsInput (s : Served) (left' : Option (List ℕ)) : Type 0 where
   pub at_end : IsAtEnd left'
   pub whole : s.rest ≡ []
   pub written : AllWritten s
 
--- a faulty frame follows, which was answered too
+-- a faulty frame follows, and was answered too
 pub record EndsMalformed (s : Served) : Type 0 where
   pub faulty : IsSome (fault_at s.rest)
   pub written : s.written ≡ replies_bytes (s.replies ++ malformed_reply ∷ [])
@@ -68,7 +69,7 @@ pub record EndsRead (s : Served) (read_failed : Bool) : Type 0 where
   pub begun : IsBegun s.rest
   pub written : AllWritten s
 
--- a write failed: of the last reply, to the last request or to a faulty frame that follows, a part is missing
+-- a write failed: a part is missing of the last reply, which is to the last request or to a faulty frame after it
 pub record EndsWrite (s : Served) (write_failed : Bool) : Type 0 where
   pub failed : write_failed ≡ true
   pub before : List Reply
@@ -109,7 +110,7 @@ EndsBy ReadFailed (Err Read) written written' failed' = written' ≡ written
 EndsBy StopNoMemory (Err NoMemory) written written' failed' = written' ≡ written
 EndsBy _ _ written written' failed' = ⊥
 
--- what stands at the end of a stream
+-- what is true at the end of a stream
 abbrev pub Serves : Reading → ServiceState → ServiceState → Option (List ℕ) → Option (List ℕ) → Option (List ℕ) → Option (List ℕ) → Bool → Bool → Result Ended ServeFault → Type 0
 Serves reading old new left left' written written' read_failed write_failed result =
     (s : Served) × IsServed reading old new left left' written written' s × EndsSo result left' read_failed write_failed s

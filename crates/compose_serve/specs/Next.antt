@@ -10,14 +10,14 @@ use Rattle.compose_serve.specs.declared.next.Stop.TheVariants.{Faulty, End, EndI
 use Rattle.compose_serve.specs.declared.next.Pulled.{Pulled}
 use Rattle.compose_serve.specs.declared.next.Pulled.TheVariants.{More, End as AtEnd, Failure, NoRoom}
 
--- what a pull of a piece brings: rest is what was held and what came
+-- the result of pulling a piece: rest is what was held, and after it what came
 abbrev pub PullsSo : Pulled → List ℕ → List ℕ → List ℕ → Option (List ℕ) → Bool → Type 0
 PullsSo More held rest held' left' failed' = (held' ≡ rest) × (length held < length held')
 PullsSo AtEnd held rest held' left' failed' = (rest ≡ held) × (held' ≡ held) × IsAtEnd left'
 PullsSo Failure held rest held' left' failed' = (rest ≡ held) × (held' ≡ held) × (failed' ≡ true)
 PullsSo NoRoom held rest held' left' failed' = rest ≢ []
 
--- the next request, or why there is none: rest is what is not yet given out
+-- the next request, or why there is none: rest is what was not yet returned
 abbrev pub ComesSo : Result Request Stop → List ℕ → List ℕ → Option (List ℕ) → Bool → Type 0
 ComesSo (Ok q) rest held' left' failed' = Fits (request_of q) × (rest ≡ frame (request_of q) ++ held')
 ComesSo (Err Faulty) rest held' left' failed' = IsSome (fault_at rest)

@@ -1,10 +1,10 @@
-//! Readers and writers of std as what bytes are pulled from and pushed to.
+//! Readers and writers of std, as the sources of a pull and the targets of a push.
 use crate::streams::{Failed, Pull, Push};
 use std::io::{ErrorKind, Read, Write};
 
-/// A reader or a writer, and whether it is marked as failed.
+/// A reader or a writer, with a mark whether it failed.
 ///
-/// A call that the system interrupted is tried again and is no failure.
+/// A call that the system interrupted is repeated, and is not a failure.
 #[derive(Drop)]
 pub struct Device<D> {
     inner: D,
@@ -14,7 +14,7 @@ pub struct Device<D> {
 impl<D> Device<D> {
     ghost use Rattle.std.specs.Prelude.{◌≡◌, false, true};
 
-    /// A device that is not marked. O(1).
+    /// Makes a device that is not marked as failed. O(1).
     pub fn new(inner: D) -> Device<D>
         ensures { result ≡ record { inner = inner; failed = false } }
     {
@@ -24,7 +24,7 @@ impl<D> Device<D> {
         }
     }
 
-    /// Marks it as failed.
+    /// Marks the device as failed.
     fn fail(&mut self) -> Failed
         ensures { self.new ≡ record self.old { failed = true } }
     {
@@ -38,7 +38,7 @@ impl<D: Read> Pull for Device<D> {
 
     ghost failed = { λ d. d.failed };
 
-    /// One read. It is marked where a read fails.
+    /// Calls `read` once. A failed read marks the device.
     fn pull(&mut self, piece: &mut [u8]) -> Result<usize, Failed> {
         'reads: for _ in 0..u64::MAX {
             match self.inner.read(piece) {
@@ -56,7 +56,7 @@ impl<D: Write> Push for Device<D> {
 
     ghost failed = { λ d. d.failed };
 
-    /// One write. It is marked where a write fails or takes no bytes.
+    /// Calls `write` once. A write that fails or takes no bytes marks the device.
     fn push(&mut self, piece: &[u8]) -> Result<usize, Failed> {
         'writes: for _ in 0..u64::MAX {
             match self.inner.write(piece) {

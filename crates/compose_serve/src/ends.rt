@@ -1,16 +1,16 @@
 //! How a stream ends.
 use thiserror::Error;
 
-/// How a stream came to its end.
+/// How a stream ended.
 #[derive(Clone, Copy, Debug, PartialEq, Eq, Drop)]
 pub enum Ended {
     /// The input ended after a whole frame, or had none.
     InputEnd,
-    /// A faulty frame came; it was answered by the refusal 10.
+    /// A faulty frame came. It was answered with refusal 10.
     Malformed,
 }
 
-/// Why a stream was broken off.
+/// Why a stream was aborted.
 #[derive(Clone, Copy, Debug, PartialEq, Eq, Drop, Error)]
 pub enum ServeFault {
     /// A read failed.
@@ -22,7 +22,7 @@ pub enum ServeFault {
     /// The input ended in the middle of a frame.
     #[error("3 Cut")]
     Cut,
-    /// A further frame came after 16,777,216 of them.
+    /// Another frame came after 16,777,216 of them.
     #[error("4 TooManyFrames")]
     TooManyFrames,
     /// There was no memory for a piece that was read, or for the payload of a load.

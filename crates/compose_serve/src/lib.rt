@@ -1,11 +1,13 @@
 //! The typing service on a stream of bytes.
 //!
-//! [`serve`] reads frames from a reader, has each request answered, and writes its reply before it looks for the next frame. A
-//! stream may be cut anywhere and may be hostile: the contract of `serve` says for each of its ends which requests were answered,
-//! what was written, to the byte, and that what answers stands where these requests lead.
+//! [`serve`] reads frames from a reader, has each request answered, and writes the reply before it
+//! reads the next frame. A stream may be cut anywhere and may be hostile. For each way in which it
+//! can end, the contract of `serve` says which requests were answered, what was written, to the
+//! byte, and that the service is in the state to which these requests lead.
 //!
-//! A reader is a [`Pull`] and a writer a [`Push`], which say which bytes are left or written, where that can be told, and whether
-//! they are marked as failed. A [`Device`] makes them of any reader and writer of std, as the two directions of a socket.
+//! A reader is a [`Pull`] and a writer is a [`Push`]. Their contracts say which bytes are left or
+//! written, if that is known, and whether they are marked as failed. A [`Device`] makes them from
+//! any reader and writer of std, such as the two directions of a socket.
 //!
 //! ```text
 //! read     01 00000007 00000000  02 00000007 00000004 0000fe50

@@ -10,20 +10,20 @@ use std::alloc::Global;
 /// The most bytes that are read at once.
 const PIECE: usize = 4096;
 
-/// What a pull of a piece brought.
+/// The result of pulling a piece.
 #[derive(Clone, Copy)]
 pub(crate) enum Pulled {
-    /// Some bytes, which are held now.
+    /// Some bytes came, and are held now.
     More,
-    /// The end of the input.
+    /// The input is at its end.
     End,
     /// The reader failed.
     Failure,
-    /// Some bytes, for which there is no memory.
+    /// Some bytes came, for which there is no memory.
     NoRoom,
 }
 
-/// Why there is no further request.
+/// Why there is no next request.
 #[derive(Clone, Copy)]
 pub(crate) enum Stop {
     /// A faulty frame follows.
@@ -56,7 +56,7 @@ fn pull_piece<R: Pull>(feeder: &mut Feeder, reader: &mut R) -> Pulled
     }
 }
 
-/// Reads until the next request is held whole, and takes it away.
+/// Reads until the next request is complete, and takes it out of the feeder.
 pub(crate) fn next_request<R: Pull>(
     feeder: &mut Feeder,
     alloc: Global,

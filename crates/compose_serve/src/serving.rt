@@ -12,15 +12,15 @@ use crate::streams::{Pull, Push, push_all};
 use compose_wire::{Feeder, Reply, Request, put_reply};
 use std::alloc::Global;
 
-/// The most requests that are answered on one stream.
+/// The greatest number of requests that are answered on one stream.
 const MAX_FRAMES: u32 = 16_777_216;
 
-/// What answers requests, each by one step of the service machine.
+/// A service that answers requests, each by one step of the service machine.
 pub trait Answer {
-    /// What the payload of a load reads as.
+    /// What the payload of a load is read as.
     ghost reading: { Reading };
 
-    /// The state of the machine that it stands for.
+    /// The state of the machine that it models.
     ghost state: { Self → ServiceState };
 
     /// Answers one request.
@@ -30,7 +30,7 @@ pub trait Answer {
             × SaysReply result said };
 }
 
-/// Writes what is due where no request follows: the refusal of a faulty frame.
+/// Ends the stream if no request follows, and writes the refusal of a faulty frame.
 fn end_with<W: Push>(writer: &mut W, stop: Stop) -> Result<Ended, ServeFault>
     ensures so { EndsBy stop result (W.written writer.old) (W.written writer.new)
         (W.failed writer.new) }
@@ -51,15 +51,21 @@ fn end_with<W: Push>(writer: &mut W, stop: Stop) -> Result<Ended, ServeFault>
     }
 }
 
-/// Answers the requests of a stream, and writes each reply before it looks for the next request.
+/// Answers the requests of a stream, and writes each reply before it reads the next request.
 ///
-/// It reads pieces of at most 4,096 bytes and does not flush. The answered requests are the first frames of what was read, and
-/// these stand however the stream ends. InputEnd and Cut come at the reader's end, without and with a part of a frame; Malformed
-/// after the reply to a faulty frame; Read where every whole frame that was read is answered; Write where a part of the last reply
-/// is missing; TooManyFrames where a whole frame follows the 16,777,216th; NoMemory for bytes that were read.
+/// It reads pieces of at most 4,096 bytes and does not flush. The answered requests are the first
+/// frames of what was read, and they keep their effect however the stream ends. It holds the bytes
+/// of one frame and of one piece. Each request costs what its answer costs, one write and, if no
+/// whole frame is held, one read or more.
 ///
-/// It keeps the bytes of one frame and of one piece. Each request costs what its answer costs, one write and, where no whole frame
-/// is held, one read or more.
+/// It ends with `InputEnd` at the reader's end after a whole frame, and with `Malformed` after the
+/// reply to a faulty frame.
+///
+/// # Errors
+/// `Cut` if the reader's end comes in the middle of a frame; `Read` if a read fails, when every
+/// whole frame that was read is answered; `Write` if a write fails, when a part of the last reply
+/// is missing; `TooManyFrames` if a whole frame follows the 16,777,216th; `NoMemory` if there is no
+/// memory for bytes that were read.
 pub fn serve<S: Answer, R: Pull, W: Push>(
     service: &mut S,
     alloc: Global,

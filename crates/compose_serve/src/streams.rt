@@ -1,4 +1,4 @@
-//! What bytes are read from and written to.
+//! The sources that bytes are read from, and the targets that they are written to.
 ghost use Rattle.std.specs.Prelude.{◌≡◌, ◌<◌, ◌≤◌, ℕ, List, Bool, Option, true, length, take, OnOk, OnErr};
 ghost use Rattle.std.specs.Io.KnownBytes.{Appends};
 ghost use Rattle.compose_serve.specs.Streams.{max_piece, Pulls, Pushes, PushesPart};
@@ -7,40 +7,47 @@ ghost use Rattle.compose_serve.specs.Streams.{max_piece, Pulls, Pushes, PushesPa
 #[derive(Clone, Copy, Debug, PartialEq, Eq, Drop)]
 pub struct Failed;
 
-/// What bytes are pulled from.
+/// A source that bytes are pulled from.
 pub trait Pull {
-    /// The bytes that are left, where they are told.
+    /// The bytes that are left, if they are known.
     ghost left: { Self → Option (List ℕ) };
 
     /// Whether it is marked as failed.
     ghost failed: { Self → Bool };
 
-    /// Puts the next bytes at the start of the piece and says how many; none only at the end, or where the piece has no room.
+    /// Puts the next bytes at the start of the piece and returns their number. It is 0 only at the
+    /// end, or if the piece is empty.
     ///
-    /// It is never asked for more than 4,096 bytes. Failed where it cannot: it is marked then, and no byte is gone.
+    /// The piece is at most 4,096 bytes.
+    ///
+    /// # Errors
+    /// `Failed` if the read fails. The source is marked as failed then, and no byte is lost.
     fn pull(&mut self, piece: &mut [u8]) -> Result<usize, Failed>
         requires { length piece.old ≤ max_piece }
         ensures { Pulls (left self.old) (left self.new) (failed self.old)
             (failed self.new) result piece.new };
 }
 
-/// What bytes are pushed to.
+/// A target that bytes are pushed to.
 pub trait Push {
-    /// The bytes that were written, where they are told.
+    /// The bytes that were written, if they are known.
     ghost written: { Self → Option (List ℕ) };
 
     /// Whether it is marked as failed.
     ghost failed: { Self → Bool };
 
-    /// Takes bytes from the start of the piece and says how many: one at least, where the piece has any.
+    /// Takes bytes from the start of the piece and returns their number: at least one, unless the
+    /// piece is empty.
     ///
-    /// Failed where it cannot: it is marked then, and has taken none.
+    /// # Errors
+    /// `Failed` if the write fails. The target is marked as failed then, and has taken no bytes.
     fn push(&mut self, piece: &[u8]) -> Result<usize, Failed>
         ensures { Pushes (written self.old) (written self.new) (failed self.old)
             (failed self.new) result piece.now };
 }
 
-/// Writes all of the bytes, by as many pushes as it takes; at a failure a part of them is written.
+/// Writes all of the bytes, with as many pushes as are needed. If one fails, a part of them is
+/// written.
 pub(crate) fn push_all<W: Push>(writer: &mut W, bytes: &[u8]) -> Result<(), Failed>
     ensures ok { OnOk result (Appends (W.written writer.old) (W.written writer.new) bytes.now) }
     ensures kept { OnOk result (W.failed writer.new ≡ W.failed writer.old) }

@@ -48,14 +48,15 @@ pub answered_kept : (old : ServiceState) (n : ℕ) (body : Body) (answer : Answe
 unfolding Answered
 answered_kept old n body answer new kept h = (stands reading old new n kept body h.0 h.1).kept
 
--- whether a number is a keysym's, as its reader tells
+-- is the number a keysym? its reader decides
 pub not_keysym : (k : ℕ) (r : Option ℕ) → r ≡ None → (k ≤ 0x1fffffff → r ≡ Some k) → IsFalse (is_keysym k)
 not_keysym k r none some = elim (cases_Bool (is_keysym k)) [
   | inl e ↦ absurd (let is : r ≡ Some k = some (leb-true k 0x1fffffff e) in cc)
   | inr e ↦ e
 ]
 
--- where a reader gives each number up to the greatest keysym and none above it, what it gives is that number, a keysym
+-- if a reader returns each number up to the greatest keysym and none above it, then what it returns is that number, a
+-- keysym
 pub keysym_is : (k x : ℕ) (r : Option ℕ) → r ≡ Some x → (k ≤ 0x1fffffff → r ≡ Some k) → (0x1fffffff < k → r ≡ None) → (x ≡ k) × IsTrue (is_keysym k)
 keysym_is k x r is some none = elim (cases_Bool (is_keysym k)) [
   | inl e ↦ (let k_is : r ≡ Some k = some (leb-true k 0x1fffffff e) in cc, e)
@@ -70,7 +71,7 @@ module _ (old : ServiceState) (n : ℕ) where
   unfolding Answered
   open_taken number e h = (words.refused words.session_taken, (h, refl), e)
 
-  -- an Open of another session may be refused as full where there are already as many sessions as there may be, and nothing changes
+  -- an Open of another session may be refused as full if the greatest number of sessions is open, and nothing changes
   pub open_full : (number : ℕ) → number ≡ code words.full → IsNone (session_of old.sessions n) → max_sessions ≤ length old.sessions → Answered old n words.open_session (Refused number) old
   unfolding Answered
   open_full number e h l = (words.refused words.full, (h, l, refl), e)
@@ -81,7 +82,7 @@ module _ (old : ServiceState) (n : ℕ) where
   unfolding Answered
   open_no_memory number rows e h l r = (words.refused words.no_memory, (h, l, ap (with_sessions old) r), e)
 
-  -- an Open of a new session that has room may be answered with opened, and the session stands last, at rest
+  -- an Open of a new session that has room may be answered with opened, and the session comes last, at rest
   pub open_opened : (rows : List Row) → IsNone (session_of old.sessions n) → length old.sessions < max_sessions → rows ≡ old.sessions ++ record { number = n; session = rest } ∷ []
       → Answered old n words.open_session Opened (with_sessions old rows)
   unfolding Answered
@@ -101,7 +102,8 @@ module _ (old : ServiceState) (n : ℕ) where
     unfolding Answered
     key_no_session k number e h = (words.refused words.no_session, (none_there h, ap (with_sessions old) refed_rows), e)
 
-    -- a key that is no keysym is refused for that where its session is there, and the sessions stay as they are after refeeding
+    -- a key that is not a keysym is refused for that if its session exists, and the sessions stay as they are after
+    -- refeeding
     pub key_bad : (k number : ℕ) → number ≡ code words.bad_keysym → IsSome (session_of rows n) → IsFalse (is_keysym k) → Answered old n (words.key k) (Refused number) (with_sessions old rows)
     unfolding Answered
     key_bad k number e h f = (words.refused words.bad_keysym, (one_there h, f, ap (with_sessions old) refed_rows), e)
@@ -147,17 +149,19 @@ module _ (old : ServiceState) (n : ℕ) where
     unfolding Answered
     close_done rows' h r = (words.closed, (one_there h, ap (with_sessions old) (r ∙ ap (λ rs. without_session rs n) refed_rows)), tt)
 
-    -- a question about a session that is not there is refused for that, and the sessions stay as they are after refeeding
+    -- a question about a session that is not there is refused for that, and the sessions stay as they are after
+    -- refeeding
     pub ask_no_session : (number : ℕ) → number ≡ code words.no_session → IsNone (session_of rows n) → Answered old n words.ask (Refused number) (with_sessions old rows)
     unfolding Answered
     ask_no_session number e h = (words.refused words.no_session, (none_there h, ap (with_sessions old) refed_rows), e)
 
-    -- a question about a session that is there may be answered with the status and the pending keysyms that it has after refeeding
+    -- a question about a session that is there may be answered with the status and the pending keysyms that it has
+    -- after refeeding
     pub ask_told : (answer : Answer) (s : Session) → session_of rows n ≡ Some s → SaysAnswer answer (words.state s.status s.pending) → Answered old n words.ask answer (with_sessions old rows)
     unfolding Answered
     ask_told answer s h says = (words.state s.status s.pending, (subst (λ (rs : List Row). session_of rs n ≡ Some s) refed_rows h, ap (with_sessions old) refed_rows), says)
 
-  -- a key, where its session is refed and fed at once
+  -- a key whose session is refed and fed at once
 
   -- a key for a session that is not stored is refused for that, and what is stored stays
   pub key_nobody : (k number : ℕ) (rows : List Row) → number ≡ code words.no_session → session_of old.sessions n ≡ None → rows ≡ old.sessions
@@ -165,7 +169,8 @@ module _ (old : ServiceState) (n : ℕ) where
   key_nobody k number rows e none r =
       key_no_session rows (r ∙ sym (nobody_changed n (session_loaded old.table) old.sessions none)) k number e (ap (λ rs. is_some (session_of rs n)) r ∙ ap is_some none)
 
-  -- a key for a session that is stored is answered as the table answers it after refeeding the session, which is then stored fed
+  -- a key for a session that is stored is answered as the table answers it after refeeding the session, which is then
+  -- stored fed
   pub key_refed : (k x : ℕ) (answer : Answer) (rows : List Row) (s : Session) → (x ≡ k) × IsTrue (is_keysym k) → session_of old.sessions n ≡ Some s
       → rows ≡ with_session old.sessions n (session_fed old.table (session_loaded old.table s) x)
       → SaysAnswer answer (words.fed (session_fed old.table (session_loaded old.table s) x).status (not (is_ignored x)) (step old.names old.table (session_loaded old.table s).pending x).text)
@@ -206,15 +211,16 @@ module _ (now : ServiceState) (rule : Rule) (bytes : List ℕ) {T : Type 0} (vie
   unfolding Answered ReadsLoad
   load_not_accepted n p number e h refuses = (words.refused words.verdict_no, (view p.0, p.1, h, refuses, refl), e)
 
-  -- a load that is read and accepted may be answered as loaded, with the count of loads, and its table is then the current one
+  -- a load that is read and accepted may be answered as loaded, with the count of loads, and its table is then the
+  -- current one
   pub load_done : (n : ℕ) (p : T × Certificate) (answer : Answer) (new : ServiceState) → ReadsLoad now rule bytes view (Ok p) → is_prefix_free (view p.0) ≡ true → Accepts now (view p.0) p.1
       → new ≡ swapped now (view p.0) p.1.fresh → SaysAnswer answer (words.loaded (one_more now.loads)) → Answered now n (words.load rule bytes) answer new
   unfolding Answered ReadsLoad
   load_done n p answer new h free accepted e says = (words.loaded (one_more now.loads), (view p.0, p.1, h, free, accepted, refl, e), says)
 
-  -- ---- what a load reads as
+  -- ---- what a load is read as
 
-  -- a payload that is not read as a bundle refuses the load by that fault
+  -- if a payload is not read as a bundle, the load is refused for that fault
   pub bundle_fault : (fault : BundleFault) → AreBytes bytes → NotRead fault bytes → ReadsLoad now rule bytes view (Err (of_bundle fault))
   unfolding ReadsLoad
   bundle_fault bundle_faults.Form are h = (ap (bundle_parts rule now.names) (none bytes are h), refl)
@@ -237,7 +243,7 @@ module _ (now : ServiceState) (rule : Rule) (bytes : List ℕ) {T : Type 0} (vie
     table_refused_by fault (Err why) is e h = (reads (Err why) e, refl)
     table_refused_by fault (Ok table) is e h = absurd (no_fault fault table h)
 
-    -- sources of a bundle that give no table refuse the load by that fault
+    -- if the sources of a bundle have no table, the load is refused for that fault
     pub table_fault : (fault : TableFault) → TableGives view (Err fault) (first_table now.names b.sources rule) → ReadsLoad now rule bytes view (Err (of_table fault))
     unfolding ReadsLoad
     table_fault table_faults.NoMemory h = refl
@@ -252,14 +258,14 @@ module _ (now : ServiceState) (rule : Rule) (bytes : List ℕ) {T : Type 0} (vie
       reads_on : (said : Result Certificate CertFault) → certificate_of b.certificate ≡ said → reading rule now.names bytes ≡ parts_by (Ok (view table)) said
       reads_on said e = reads (Ok (view table)) is_table ∙ ap (parts_by (Ok (view table))) e
 
-      -- where the table is read, a certificate that is not read refuses the load by that fault
+      -- if the table is read and the certificate is not, the load is refused for that fault
       pub certificate_fault : (fault : CertFault) → CertificateGives (Err fault) (certificate_of b.certificate) → ReadsLoad now rule bytes view (Err (of_certificate fault))
       unfolding ReadsLoad
       certificate_fault cert_faults.NoMemory h = refl
       certificate_fault (cert_faults.NotText line) h = (reads_on (Err (cert_faults.NotText line)) h, refl)
       certificate_fault cert_faults.TooLarge h = (reads_on (Err cert_faults.TooLarge) h, refl)
 
-      -- where table and certificate are read, the load is
+      -- if the table and the certificate are read, the load is
       pub load_read : (certificate : Certificate) → certificate_of b.certificate ≡ Ok certificate → ReadsLoad now rule bytes view (Ok (table, certificate))
       unfolding ReadsLoad
       load_read certificate is_certificate = reads_on (Ok certificate) is_certificate
@@ -273,7 +279,7 @@ raised now rule bytes view (Err e) why is h = subst (λ (y : Refusal). ReadsLoad
 -- ---- any request
 
 module _ (old : ServiceState) (n : ℕ) (body : Body) (answer : Answer) (new : ServiceState) where
-  -- each answer of the service says one that the late service may give, under the number of the same session
+  -- each answer of the service is one that the late service may return, under the number of the same session
   pub answered_stored : Answered old n body answer new
       → (said : words.Answer) × LateAnswers reading old n body said new × SaysReply (record { session = n; answer = answer }) (record { session = n; answer = said })
   unfolding Answered

@@ -17,7 +17,7 @@ say_more [] (t ∷ said) r s a h = absurd a
 say_more (x ∷ replies) [] r s a h = absurd a
 say_more (x ∷ replies) (t ∷ said) r s a h = (a.0, say_more replies said r s a.1 h)
 
--- the run so far, told by these replies
+-- the run so far, with these replies
 abbrev pub Told : Reading → ServiceState → List words.Request → List Reply → ServiceState → Type 0
 Told reading old requests replies new = (said : List words.Reply) × Run reading old requests said new × SayReplies replies said
 

@@ -28,7 +28,7 @@ verdict_no : (o : Option CheckFault) (f : CheckFault) → No f ≡ verdict_of o 
 verdict_no None f e = cc
 verdict_no (Some g) f e = cc
 
--- no fault says that there is a table
+-- a fault excludes a table
 no_fault : (fault : TableFault) (table : List Definition) → TableFails fault (Ok table) → ⊥
 no_fault (table_faults.Read fault) table h = search rules
 no_fault (table_faults.Settle fault) table h = search rules
@@ -41,7 +41,7 @@ module _ (names : KeysymNames) (repertoire : Repertoire) where
   fails fault (Err why) certificate h = (why, refl, h)
   fails fault (Ok table) certificate h = absurd (no_fault fault table h)
 
-  -- where the service is given no table, it does not start, by the fault of that table
+  -- if the service is given no table, it does not start, for the fault of that table
   pub table_fault : {T : Type 0} (view : T → List Definition) (result : Result ServiceState StartFault) (fault : TableFault) (said : Result (List Definition) NoTable)
       (certificate : Result Certificate CertFault)
       → IsErrAnd result (λ e. e ≡ table_raised fault) → TableGives view (Err fault) said → StartGives names repertoire result (started names repertoire said certificate)
@@ -56,7 +56,7 @@ module _ (names : KeysymNames) (repertoire : Repertoire) where
       go (table_faults.Build build_faults.TooManyNodes) h = fails (table_faults.Build build_faults.TooManyNodes) said certificate h
       go (table_faults.Build build_faults.NoMemory) h = absurd h
 
-  -- where the certificate of the table that is read is not valid for it, no service starts, by the same fault
+  -- if the certificate is not valid for the table that is read, no service starts, for the same fault
   pub not_begun : (result : Result ServiceState StartFault) (fault : StartFault) (said : Result (List Definition) NoTable) (spelt : Result Certificate CertFault) (table : List Definition)
       → said ≡ Ok table → IsErrAnd result (λ e. e ≡ fault) → StartGives names repertoire (Err fault) (started names repertoire (Ok table) spelt)
       → StartGives names repertoire result (started names repertoire said spelt)
@@ -69,10 +69,10 @@ module _ (names : KeysymNames) (repertoire : Repertoire) where
     read : started names repertoire (Ok table) spelt ≡ begun_by (fault_of names table table repertoire certificate) table certificate
     read = ap (started names repertoire (Ok table)) c
 
-    -- where the verdict on its own certificate is yes, the service starts with this table and certificate
+    -- if the verdict on its own certificate is yes, the service starts with this table and certificate
     pub begins : Yes ≡ verdict_of (fault_of names table table repertoire certificate) → started names repertoire (Ok table) spelt ≡ Ok (record { table = table; certificate = certificate })
     begins e = read ∙ ap (λ o. begun_by o table certificate) (verdict_yes (fault_of names table table repertoire certificate) e)
 
-    -- where the verdict on its own certificate is no, the service does not start, by the checker's fault
+    -- if the verdict on its own certificate is no, the service does not start, for the checker's fault
     pub begins_not : (f : CheckFault) → No f ≡ verdict_of (fault_of names table table repertoire certificate) → started names repertoire (Ok table) spelt ≡ Err (not_valid f)
     begins_not f e = read ∙ ap (λ o. begun_by o table certificate) (verdict_no (fault_of names table table repertoire certificate) f e)

@@ -1,4 +1,4 @@
--- Why the program refuses a request, as a value; and which fault leads to which refusal.
+-- Why the program refuses a request, as a value, and which fault leads to which refusal.
 use Rattle.compose_wire.specs.Messages as words
 use Rattle.compose_wire.specs.Messages.{Refusal as RefusalValue}
 use Rattle.compose_tree.specs.declared.reading.TableFault.{TableFault}

@@ -16,7 +16,7 @@ use Rattle.compose_machine.specs.Machine.{ServiceState}
 use Rattle.compose_service.specs.declared.service.StartFault.{StartFault}
 use Rattle.compose_service.specs.declared.service.StartFault.TheVariants as start_faults
 
--- why no service starts
+-- why a service does not start
 pub data NoStart : Type 0 where
   without_table : NoTable → NoStart
   without_certificate : CertFault → NoStart
@@ -51,7 +51,7 @@ abbrev pub CertificateSaid : CertFault → Result Begun NoStart → Type 0
 CertificateSaid cert_faults.NoMemory said = ⊥
 CertificateSaid fault said = said ≡ Err (without_certificate fault)
 
--- the service without sessions that is said, whose table waits and types as its certificate says, or the first fault
+-- the given service without sessions, whose table waits and types as its certificate states, or the first fault
 abbrev pub StartGives : KeysymNames → Repertoire → Result ServiceState StartFault → Result Begun NoStart → Type 0
 StartGives names repertoire (Ok service) said =
     (b : Begun) × (said ≡ Ok b) × (service ≡ at_start b.table names repertoire) × Waits b.table b.certificate.bound × TypesAll names b.table repertoire b.certificate.typings
@@ -60,7 +60,7 @@ StartGives names repertoire (Err (start_faults.Certificate fault)) said = Certif
 StartGives names repertoire (Err (start_faults.No fault)) said = said ≡ Err (not_valid fault)
 StartGives names repertoire (Err start_faults.NoMemory) said = Unit {0}
 
--- the certificate that is said is valid for this table against itself, which waits and types as it says; or the first fault
+-- the given certificate is valid for this table against itself, which waits and types as it states; or the first fault
 abbrev pub BeginsBy : {A : Type 0} → KeysymNames → Repertoire → List Definition → Result A StartFault → Result Certificate CertFault → Type 0
 BeginsBy names repertoire table (Ok begun) said =
     (c : Certificate) × (started names repertoire (Ok table) said ≡ Ok (record { table = table; certificate = c })) × Waits table c.bound × TypesAll names table repertoire c.typings

@@ -21,14 +21,14 @@ impl Model for Allowed {
 }
 
 impl Allowed {
-    /// Any keysym.
+    /// Allows any keysym.
     pub fn any() -> Allowed
         ensures { result ≡ None }
     {
         Allowed { keysyms: None }
     }
 
-    /// These keysyms alone.
+    /// Allows these keysyms alone.
     pub fn among(keysyms: Vec<Keysym>) -> Allowed
         ensures { result ≡ Some keysyms.items }
     {

@@ -1,11 +1,13 @@
 //! The typing service: sessions over one current table, which may be changed while they type.
 //!
-//! A service answers requests one after another. Every answer is one step of the machine in `compose_machine`, which says what a
-//! service is: its current table, and the sessions in the order in which they were opened. What is stored differs from the machine in
-//! one thing: a load touches no session, and a session that is named is first refed by the current table.
+//! A service answers requests one after another. Every answer is one step of the machine in
+//! `compose_machine`, which defines what a service is: its current table, and its sessions in the
+//! order in which they were opened. What is stored differs from the machine in one way: a load
+//! touches no session. Instead a session is refed by the current table when a request names it.
 //!
 //! ```text
-//! let mut service: Service<PackedTable> = Service::start(alloc, names, repertoire, sources, rule, &certificate)?;
+//! let mut service: Service<PackedTable> =
+//!     Service::start(alloc, names, repertoire, sources, rule, &certificate)?;
 //! service.answer(alloc, &Request { session: 7, body: Body::Open })
 //! ```
 #![tactic(auto)]

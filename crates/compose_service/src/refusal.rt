@@ -7,22 +7,32 @@ use compose_bundle::BundleFault;
 use compose_cert::CertFault;
 use compose_tree::TableFault;
 
-/// Why a request is refused; the numbers are the codes of the protocol.
+/// Why a request is refused. Each refusal has its code in the protocol.
 #[derive(Clone, Copy, Debug, PartialEq, Eq, Drop)]
 pub enum Refusal {
+    /// Open: a session with this number is open.
     SessionTaken,
+    /// No session with this number is open.
     NoSession,
+    /// Open: the greatest number of sessions is open.
     Full,
+    /// Key: the number is not a keysym's.
     BadKeysym,
+    /// Load: the payload is not a bundle, or is too large.
     BadBundle,
+    /// Load: no table can be read from the sources of the bundle.
     TableRefused,
+    /// Load: the text of the certificate is not a certificate.
     CertificateRefused,
+    /// Load: the certificate is not valid for the new table, or lists a fresh keysym that is not
+    /// allowed.
     VerdictNo,
+    /// Memory ran out.
     NoMemory,
 }
 
 impl Refusal {
-    /// The code that a reply carries. O(1).
+    /// Returns the code that a reply carries, from 1 to 9. O(1).
     pub fn code(self) -> u16
         ensures { result ≡ code (refusal_of self) }
     {

@@ -16,22 +16,22 @@ use std::alloc::Global;
 use std::marker::Model;
 use thiserror::Error;
 
-/// The most sessions that are open at once.
+/// The greatest number of sessions that are open at once.
 const MOST_SESSIONS: usize = 4_096;
 
-/// Why no service starts.
+/// Why a service does not start.
 #[derive(Debug, PartialEq, Eq, Drop, Error)]
 pub enum StartFault {
-    /// The sources give no table.
+    /// The table could not be read from the sources.
     #[error("1 Table: {0}")]
     Table(TableFault),
-    /// The text is no certificate.
+    /// The text is not a certificate.
     #[error("2 Certificate: {0}")]
     Certificate(CertFault),
     /// The certificate is not valid for the table against itself.
     #[error("3 No: {0}")]
     No(CheckFault),
-    /// Memory was refused in this call.
+    /// Memory ran out in this call.
     #[error("4 NoMemory")]
     NoMemory,
 }
@@ -75,7 +75,7 @@ impl From<CheckFault> for StartFault {
     }
 }
 
-/// Why requests are not run.
+/// Why requests were not answered.
 #[derive(Clone, Copy, Debug, PartialEq, Eq, Drop, Error)]
 pub enum RunFault {
     /// There is no room for the replies.
@@ -85,8 +85,9 @@ pub enum RunFault {
 
 /// Sessions over one current table, which loads change.
 ///
-/// A contract sees what is stored: the table, the names, the repertoire, the count of loads, and the sessions in the order in which they
-/// were opened, each as it was last used. `seen` of it is the state of the machine: there each session is refed by the current table.
+/// A contract sees what is stored: the table, the names, the repertoire, the number of loads, and
+/// the sessions in the order in which they were opened, each as it was last used. `seen` turns this
+/// into the state of the machine, in which each session is refed by the current table.
 #[derive(Drop)]
 pub struct Service<T: ComposeTable> {
     table: T,
@@ -114,7 +115,8 @@ impl<T: ComposeTable> Model for Service<T> {
           s.sessions;
     } };
 
-    // the current table does not cancel on what is pending in a session, and its status is composing exactly where something is pending
+    // for each session, the current table does not cancel on the pending keys, and the status is composing exactly if a
+    // key is pending
     ghost invariant = { λ s. AreKept (T.definitions s.table) s.sessions };
 }
 
@@ -134,9 +136,15 @@ impl<T: ComposeTable> Service<T> {
     ghost use Rattle.compose_cert.specs.Reading.{certificate_of};
     ghost use Rattle.compose_serve.specs.Ends.{Serves};
 
-    /// A service without sessions over the table of the sources, whose root is the first one: the table is read by the rule, then the
-    /// certificate, and it is checked against itself. The first fault decides, in this order. O(b + n log n) in the bytes of the sources
-    /// and of the certificate and the definitions of the table, beside what `check` costs on the pairs of the certificate.
+    /// Starts a service without sessions over the table of the sources, whose root is the first
+    /// one. The table is read by the rule, then the certificate is read, and the table is checked
+    /// against itself. O(b + n log n) in the bytes of the sources and of the certificate and in the
+    /// definitions of the table, besides what `check` costs for the pairs of the certificate.
+    ///
+    /// # Errors
+    /// The first fault in this order: `Table` if the table cannot be read, `Certificate` if the
+    /// text is not a certificate, `No` if it is not valid for the table against itself. `NoMemory`
+    /// if memory runs out.
     pub fn start(
         alloc: Global,
         names: Names,
@@ -179,7 +187,8 @@ impl<T: ComposeTable> Service<T> {
         }
     }
 
-    /// The same service, where the certificate of a load may list these keysyms alone as fresh. O(1).
+    /// Returns the same service, except that the certificate of a load may list only these keysyms
+    /// as fresh. O(1).
     pub fn allow_fresh(self, keysyms: Vec<Keysym>) -> Service<T>
         ensures { result ≡ record self { allowed = Some keysyms.items } }
     {
@@ -201,43 +210,49 @@ impl<T: ComposeTable> Service<T> {
         }
     }
 
-    /// The names of keysyms. O(1).
+    /// Returns the names of keysyms. O(1).
     pub fn names(&self) -> &Names
         ensures { result.now ≡ self.now.names }
     {
         &self.names
     }
 
-    /// The current table. O(1).
+    /// Returns the current table. O(1).
     pub fn table(&self) -> &T
         ensures { T.definitions result.now ≡ self.now.table }
     {
         &self.table
     }
 
-    /// How many loads were accepted; it stays at the greatest number once that is reached. O(1).
+    /// Returns the number of accepted loads; once it reaches the greatest `u64` it stays there.
+    /// O(1).
     pub fn loads(&self) -> u64
         ensures { result ≡ self.now.loads }
     {
         self.loads
     }
 
-    /// How many sessions are open. O(1).
+    /// Returns the number of open sessions. O(1).
     pub fn session_count(&self) -> usize
         ensures { result ≡ length self.now.sessions }
     {
         self.sessions.count()
     }
 
-    /// Answers one request, which is one step of the machine. A Key, a Reset, a Close and an Ask take no memory and always give their
-    /// answer; a request that is refused changes nothing.
+    /// Answers one request, which is one step of the machine. A Key, a Reset, a Close and an Ask
+    /// take no memory and never fail for lack of it. A request that is refused changes nothing.
     ///
-    /// Open: O(1), its growth spread over the Opens. Key: what `ComposeState::refeed_and_feed` costs, which is what `feed` costs where no
-    /// load came since the session was last used; only then, and where the key breaks off a sequence, what is pending is walked once
-    /// more. The session of a key is looked for where one with the same last twelve bits of its number was found last, and else by its
-    /// hash. Reset, Ask: O(1) beside refeeding. Close: that, and O(sessions opened later), since the order of opening is kept. Load: what
-    /// reading, settling, building and checking cost; an accepted one touches no session, unless its certificate has fresh keysyms, and
-    /// then refeeds each.
+    /// Costs:
+    ///
+    /// - Open: O(1), amortized.
+    /// - Key: what `ComposeState::refeed_and_feed` costs. If no load came since the session was
+    ///   last used, that is what `feed` costs. The pending keys are walked once more only after a
+    ///   load, and when the key breaks off a sequence. The session is looked up where one with the
+    ///   same last twelve bits of its number was found last, and failing that by its hash.
+    /// - Reset, Ask: O(1) besides refeeding.
+    /// - Close: the same, and O(sessions opened later), since the order of opening is kept.
+    /// - Load: the cost of reading, settling, building and checking. An accepted load touches no
+    ///   session, unless its certificate has fresh keysyms; then it refeeds each.
     #[inline(always)]
     pub fn answer(&mut self, alloc: Global, request: &Request) -> Reply
         ensures stored { (said : words.Answer)
@@ -249,10 +264,10 @@ impl<T: ComposeTable> Service<T> {
             × Step reading (seen self.old) (request_of request.now) said (seen self.new)
             × SaysReply result said }
     {
-        // what is stored is sound, which its invariant tells
+        // the stored state is sound: its invariant says so
         let _sessions = &self.sessions;
         let session = request.session;
-        // a reply is large and most requests are keys, so the reply to a key is made at once and not moved
+        // a reply is large and most requests are keys: the reply to a key is made in place and not moved
         if let Body::Key(keysym) = &request.body {
             return Reply {
                 session,
@@ -263,8 +278,12 @@ impl<T: ComposeTable> Service<T> {
         Reply { session, answer }
     }
 
-    /// Answers requests in order, each by `answer`. Room for all replies is taken first; refused then, nothing has changed. The sum of
-    /// what the requests cost, and one allocation for the replies.
+    /// Answers requests in order, each by `answer`. It costs the sum of what the requests cost, and
+    /// one allocation for the replies.
+    ///
+    /// # Errors
+    /// `NoMemory` if there is no memory for all replies. It is taken first, so nothing has changed
+    /// then.
     pub fn run(&mut self, alloc: Global, requests: &[Request]) -> Result<Vec<Reply>, RunFault>
         ensures ok { IfOk result
             (λ replies. (said : List words.Reply)
@@ -282,8 +301,13 @@ impl<T: ComposeTable> Service<T> {
         Ok(replies)
     }
 
-    /// Answers the requests of a stream until it ends, and writes each reply before the next frame is looked at. The answered requests
-    /// stand in every case, and the service can serve again.
+    /// Answers the requests of a stream until it ends, and writes each reply before the next frame
+    /// is read. The answered requests keep their effect however the stream ends, and the service
+    /// can serve again.
+    ///
+    /// # Errors
+    /// As [`compose_serve::serve`]: a failed read or write, an end in the middle of a frame, too
+    /// many frames, or no memory for bytes that were read.
     pub fn serve<R: Pull, W: Push>(
         &mut self,
         alloc: Global,
@@ -301,7 +325,7 @@ impl<T: ComposeTable> Service<T> {
         serve(self, alloc, reader, writer)
     }
 
-    /// Answers what is asked of the session.
+    /// Answers this request to the session.
     #[inline(never)]
     fn answer_body(&mut self, alloc: Global, number: u32, body: &Body) -> Answer
         ensures { Answered self.old number (body_of body.now) result self.new }
@@ -349,13 +373,13 @@ impl<T: ComposeTable> Service<T> {
         let Some(fed) = fed else {
             return Answer::Refused(Refusal::NoSession.code());
         };
-        // a text is blanked where it is made, and the key would wait for that
+        // made only after the key is fed: a new `ArrayString` clears all of its bytes, and the key would wait for that
         let mut text = ArrayString::new();
         fed.text_into(&mut text);
         Answer::Fed(fed.status, fed.accepted, text)
     }
 
-    /// Refuses a key whose number is no keysym's.
+    /// Refuses a key whose number is not a keysym's.
     fn refuse_key(&mut self, number: u32, keysym: u32) -> Answer
         requires { IsFalse (is_keysym keysym) }
         ensures { Answered self.old number (words.key keysym) result self.new }
@@ -366,7 +390,7 @@ impl<T: ComposeTable> Service<T> {
         Answer::Refused(Refusal::BadKeysym.code())
     }
 
-    /// Puts the session to rest.
+    /// Resets the session.
     fn reset(&mut self, number: u32) -> Answer
         ensures { Answered self.old number words.reset result self.new }
     {
@@ -388,7 +412,7 @@ impl<T: ComposeTable> Service<T> {
         Answer::Closed
     }
 
-    /// Tells where the session stands.
+    /// Answers with the status of the session and its pending keys.
     fn ask(&mut self, number: u32) -> Answer
         ensures { Answered self.old number words.ask result self.new }
     {
@@ -399,7 +423,7 @@ impl<T: ComposeTable> Service<T> {
         answer
     }
 
-    /// Changes the current table, where the certificate is accepted for that.
+    /// Changes the current table, if the certificate is accepted for that.
     fn load(&mut self, alloc: Global, number: u32, payload: &[u8], rule: Rule) -> Answer
         ensures { Answered self.old number (words.load rule payload.now) result self.new }
     {
@@ -413,7 +437,7 @@ impl<T: ComposeTable> Service<T> {
         self.swap(table, &certificate)
     }
 
-    /// The table and the certificate of a load.
+    /// Reads the table and the certificate of a load.
     fn read_load(
         &self,
         alloc: Global,
@@ -428,14 +452,15 @@ impl<T: ComposeTable> Service<T> {
         Ok((table, certificate))
     }
 
-    /// Whether the certificate is valid for the move from the current table to this one, and lists no fresh keysyms but allowed ones.
+    /// Whether the certificate is valid for the change from the current table to this one, and
+    /// lists only allowed keysyms as fresh.
     fn accepts(&self, table: &T, certificate: &Certificate) -> bool
         ensures prefix_free { IsTrue (is_prefix_free (T.definitions table.now)) }
         ensures yes { result ≡ true → Accepts self.now (T.definitions table.now) certificate.now }
         ensures no { result ≡ false → Accepts self.now (T.definitions table.now) certificate.now
             → ⊥ }
     {
-        // every table is settled, which its count of nodes tells
+        // every table is settled: the contract of this call says so
         let _nodes = table.node_count();
         if !self.allowed.has_all(certificate.fresh_keys()) {
             return false;
@@ -464,7 +489,7 @@ impl<T: ComposeTable> Service<T> {
         self.count_load()
     }
 
-    /// Counts a load, and answers how many were accepted.
+    /// Counts a load, and answers with the number of accepted loads.
     fn count_load(&mut self) -> Answer
         ensures counted { self.new ≡ record self.old { loads = one_more self.old.loads } }
         ensures told { SaysAnswer result (words.loaded (one_more self.old.loads)) }
@@ -473,8 +498,8 @@ impl<T: ComposeTable> Service<T> {
         Answer::Loaded(self.loads)
     }
 
-    /// Makes the table the current one. The sessions stay as they are, but before a table with fresh keysyms comes, all of them are
-    /// refed by the one that goes.
+    /// Makes the table the current one. The sessions stay as they are, unless the new table has
+    /// fresh keysyms: then all of them are first refed by the old table.
     fn change_table(&mut self, table: T, certificate: &Certificate)
         requires prefix_free { IsTrue (is_prefix_free (T.definitions table)) }
         requires accepted { Accepts self.old (T.definitions table) certificate.now }

@@ -18,14 +18,15 @@ use keysym_core::{Keysym, Names};
 use std::alloc::{AllocError, Global};
 use std::marker::Model;
 
-/// How many hints are kept.
+/// The number of hints.
 const HINTS: usize = 4_096;
 
 /// Sessions by their numbers, in the order in which they were opened.
 #[derive(Drop)]
 pub struct Sessions {
     rows: IndexMap<u32, ComposeState>,
-    // for the last twelve bits of a number, the index of the session that was found last: a hint, which is checked and never trusted
+    // by the last twelve bits of a session number: the index of the session that was found last; a hint, which is
+    // always checked
     hints: [u16; HINTS],
 }
 
@@ -40,7 +41,7 @@ impl Model for Sessions {
 }
 
 impl Sessions {
-    /// No session; takes no memory yet. O(1).
+    /// Makes an empty list of sessions; takes no memory yet. O(1).
     pub fn new(alloc: Global) -> Sessions
         ensures { result ≡ [] }
     {
@@ -50,7 +51,7 @@ impl Sessions {
         }
     }
 
-    /// How many sessions are open. O(1).
+    /// Returns the number of open sessions. O(1).
     pub fn count(&self) -> usize
         ensures { result ≡ length self.now }
     {
@@ -64,7 +65,8 @@ impl Sessions {
         self.rows.contains_key(&number)
     }
 
-    /// Puts a session at rest after the others. Refused where memory is, it changes nothing. O(1), the growth spread.
+    /// Adds a session at rest after the others. `Err(AllocError)` if memory runs out; nothing
+    /// changes then. O(1), amortized.
     pub fn open(&mut self, number: u32) -> Result<(), AllocError>
         requires { IsNone (session_of self.old number) }
         ensures ok { OnOk result
@@ -75,7 +77,8 @@ impl Sessions {
         Ok(())
     }
 
-    /// Refeeds the session by the table, and tells whether there is one. Takes no memory. O(pending keysyms × log edges).
+    /// Refeeds the session by the table, and returns whether there is one. Takes no memory.
+    /// O(pending keysyms × log edges).
     pub fn refeed<T: ComposeTable>(&mut self, number: u32, table: &T, names: &Names) -> bool
         ensures value { self.new ≡ map (refed_row (T.definitions table.now) number) self.old }
         ensures some { result ≡ is_some (session_of self.new number) }
@@ -87,8 +90,9 @@ impl Sessions {
         true
     }
 
-    /// Refeeds the session by the table and feeds a key to it, if there is one. Takes no memory, and costs what
-    /// `ComposeState::refeed_and_feed` does; the session is looked for at its hint first.
+    /// Refeeds the session by the table and feeds a key to it, if there is one. Takes no memory,
+    /// and costs what `ComposeState::refeed_and_feed` does; the session is looked up at its hint
+    /// first.
     #[inline(always)]
     pub fn feed<'t, T: ComposeTable>(
         &mut self,
@@ -117,7 +121,7 @@ impl Sessions {
         Some(fed)
     }
 
-    /// Puts the session at rest, if there is one, and tells whether there is. O(1).
+    /// Resets the session, if there is one, and returns whether there is. O(1).
     pub fn reset(&mut self, number: u32) -> bool
         ensures value { self.new ≡ with_session self.old number rest }
         ensures some { result ≡ is_some (session_of self.old number) }
@@ -129,7 +133,8 @@ impl Sessions {
         true
     }
 
-    /// Takes the session out, if there is one, and tells whether there was. O(sessions opened later).
+    /// Removes the session, if there is one, and returns whether there was. O(sessions opened
+    /// later).
     pub fn close(&mut self, number: u32) -> bool
         ensures value { self.new ≡ without_session self.old number }
         ensures some { result ≡ is_some (session_of self.old number) }
@@ -138,7 +143,7 @@ impl Sessions {
         self.rows.shift_remove(&number).is_some()
     }
 
-    /// What is pending in the session and its status, if there is one. O(pending keysyms).
+    /// Returns the pending keys of the session and its status, if there is one. O(pending keysyms).
     pub fn state(&self, number: u32) -> Option<Answer>
         ensures { MatchOption result (session_of self.now number ≡ None)
             (λ answer. (s : Session) × (session_of self.now number ≡ Some s)
@@ -152,8 +157,9 @@ impl Sessions {
         Some(Answer::State(session.status(), pending))
     }
 
-    /// Prepares for a table that comes with this certificate, where the given one goes: with fresh keysyms, all sessions are refed by the
-    /// one that goes, and without, they stay as they are. Takes no memory.
+    /// Prepares for a table that comes with this certificate and replaces the given one: if it has
+    /// fresh keysyms, all sessions are refed by the old table, and otherwise they stay as they are.
+    /// Takes no memory.
     pub fn leave<T: ComposeTable>(&mut self, certificate: &Certificate, table: &T, names: &Names)
         ensures { self.new ≡ rows_at_swap certificate.now.fresh (T.definitions table.now) self.old }
     {
@@ -162,7 +168,8 @@ impl Sessions {
         }
     }
 
-    /// Refeeds every session by the table. Takes no memory. O(sessions × pending keysyms × log edges).
+    /// Refeeds every session by the table. Takes no memory. O(sessions × pending keysyms × log
+    /// edges).
     pub fn refeed_all<T: ComposeTable>(&mut self, table: &T, names: &Names)
         ensures { self.new ≡ all_loaded (T.definitions table.now) self.old }
     {
@@ -185,7 +192,8 @@ fn has_fresh(certificate: &Certificate) -> bool
     certificate.fresh_count() > 0
 }
 
-/// The index of the session, if there is one. Looks at the hinted index first, and hints what it finds elsewhere. O(1).
+/// Returns the index of the session, if there is one. It checks the hinted index first, and updates
+/// the hint if the session is found elsewhere. O(1).
 #[inline(always)]
 fn index_of(rows: &IndexMap<u32, ComposeState>, number: u32, hint: &mut u16) -> Option<usize>
     ensures { MatchOption result (lookup (nat_eq number) rows.now.entries ≡ None)

@@ -1,4 +1,4 @@
--- An exchange that is underway.
+-- An unfinished exchange.
 use Rattle.std.proofs.Common.{◌≡◌, ◌∙◌, ◌<◌, ◌≤◌, ◌+◌, ap, sym, refl, ℕ, Bool, true, false, if◌then◌else◌, List, [], ◌∷◌, ◌++◌, drop, length, get_or, append-nil}
 use Rattle.std.specs.Prelude.{Option, Some, None}
 use Rattle.std.proofs.lemmas.List.{append_assoc, drop_all, drop_more}
@@ -6,7 +6,8 @@ use Rattle.compose_wire.specs.declared.request.Request.{Request}
 use Rattle.compose_wire.specs.declared.reply.Reply.{Reply}
 use Rattle.compose_service_runs.specs.Turns.{Turn, is_refusal, then_turns, turns_of}
 
--- the turns so far; and whatever is replied to the requests that are left comes after them
+-- the turns so far; whatever the replies to the remaining requests are, their turns come after
+-- these
 pub record IsUnderway (before now : Option (List Turn)) (requests : List Request) (index : ℕ) (replies : List Reply) : Type 0 where
   pub done : List Turn
   pub turns : now ≡ then_turns before done
@@ -27,7 +28,7 @@ then_more (Some turns) a b = ap Some (append_assoc turns a b)
 pub begin_turns : (before : Option (List Turn)) (requests : List Request) → IsUnderway before before requests 0 []
 begin_turns before requests = record { done = []; turns = none_more before; goes_on = λ more. refl }
 
--- what comes of the next request and these replies
+-- the turns of the next request with these replies
 next_turns : (before now : Option (List Turn)) (requests : List Request) (i : ℕ) (q : Request) (replies more : List Reply) → (u : IsUnderway before now requests i replies) → i < length requests
     → q ≡ get_or requests i q → turns_of requests (replies ++ more) ≡ u.done ++ turns_of (q ∷ drop (i + 1) requests) more
 next_turns before now requests i q replies more u within at =

@@ -1,4 +1,5 @@
--- What `load` and `session` send, and what they print of the replies (this project's profile: docs/PROTOCOL.md).
+-- What `load` and `session` send, and what they print for the replies (defined by this project:
+-- docs/PROTOCOL.md).
 use Rattle.std.specs.Prelude.{◌≡◌, ◌⊎◌, ◌||◌, not, ◌<◌, ℕ, Bool, true, false, List, [], ◌∷◌, ◌++◌, map, length, Option, Some, None, option_map, if◌then◌else◌, Result, Ok, Err, string_bytes, codes}
 use Rattle.keysym_core.specs.Core.{core_names}
 use Rattle.keysym_core.specs.Header.{names_of}
@@ -39,7 +40,7 @@ use Rattle.compose_service_runs.specs.Turns.{Turn, then_turns, turns_of}
 use Rattle.compose_service_runs.specs.declared.client.ClientRequests.{ClientRequests}
 use Rattle.compose_runs.specs.declared.options.Options.{Options}
 
--- ---- load: one request, without keys
+-- ---- load: one request, and no keys
 
 -- the bundle of the table and this certificate
 abbrev pub bundle_of : TableFiles → List ℕ → Bundle
@@ -53,13 +54,13 @@ pub record LoadsTable (table : TableFiles) (certificate said : List ℕ) (sent :
   pub one : sent.requests.items ≡ request ∷ []
   pub loads : LoadGives (Ok request) table.rule (bundle_of table certificate)
 
--- no load can carry the bundle
+-- the bundle doesn't fit into a load
 abbrev pub IsUnsendable : Bundle → Fault → Type 0
 IsUnsendable bundle (faults.Refused part why) = (part.now ≡ codes "load") × (BundleFits bundle → max_payload < length (bundle_bytes bundle))
 IsUnsendable bundle faults.NoMemory = Unit {0}
 IsUnsendable bundle fault = ⊥
 
--- the new table, and the certificate at the path that is given, with what is noted of the table
+-- the new table, the certificate at its path, and the notes on the table
 pub record IsLoadRun (folder : Option (List Entry)) (environment : Environment) (arguments : LoadArguments) (sent : ClientRequests) : Type 0 where
   pub new : NotedTable
   pub is_new : IsGivenTable folder environment arguments.new new
@@ -67,7 +68,7 @@ pub record IsLoadRun (folder : Option (List Entry)) (environment : Environment) 
   pub is_certificate : IsHeld folder arguments.certificate.now (File certificate)
   pub loads : LoadsTable new.table certificate (string_bytes new.notes) sent
 
--- both are read, and no load can carry them
+-- both are read, and don't fit into a load
 pub record IsUnsendableLoad (folder : Option (List Entry)) (environment : Environment) (arguments : LoadArguments) (fault : Fault) : Type 0 where
   pub new : NotedTable
   pub is_new : IsGivenTable folder environment arguments.new new
@@ -75,7 +76,7 @@ pub record IsUnsendableLoad (folder : Option (List Entry)) (environment : Enviro
   pub is_certificate : IsHeld folder arguments.certificate.now (File certificate)
   pub unsendable : IsUnsendable (bundle_of new.table certificate) fault
 
--- the table, the certificate, the load
+-- in the order of reading: the table, the certificate; then the load
 abbrev pub FailsLoad : Option (List Entry) → Environment → LoadArguments → Fault → Type 0
 FailsLoad folder environment arguments fault =
     OrMemory (λ f. FailsGivenTable folder environment (codes "new") arguments.new f
@@ -83,7 +84,7 @@ FailsLoad folder environment arguments fault =
 
 -- ---- session
 
--- what the arguments ask for, with these keysyms
+-- the request that the arguments describe, with these keysyms
 pub record IsAsked (keys : List ℕ) (arguments : SessionArguments) (asked : Asked) : Type 0 where
   pub session : asked.session ≡ arguments.session
   pub opens : asked.open ≡ arguments.open
@@ -92,7 +93,7 @@ pub record IsAsked (keys : List ℕ) (arguments : SessionArguments) (asked : Ask
   pub asks_state : asked.ask ≡ arguments.ask
   pub closes : asked.close ≡ arguments.close
 
--- its requests, in order; nothing is noted
+-- its requests, in order, and no notes
 pub record AsksSession (n : NamedParts) (arguments : SessionArguments) (sent : ClientRequests) : Type 0 where
   pub quiet : string_bytes sent.notes ≡ []
   pub names : sent.names ≡ n.names
@@ -100,7 +101,8 @@ pub record AsksSession (n : NamedParts) (arguments : SessionArguments) (sent : C
   pub is_asked : IsAsked n.keys arguments asked
   pub requests : sent.requests.items ≡ map (asks asked.session) (bodies_of asked)
 
--- a refusal of the names or of the keys, with each faulty line where that is asked for, and with `--files` always, and for people
+-- a refusal of the names or of the keys; with `verbose` or `--files` with each faulty line, and
+-- with `--files` for people
 pub record IsKeysReported (verbose are_files : Bool) (names : NameFiles) (keys : List (List ℕ)) (refusal : Refusal) (outcome : Outcome) : Type 0 where
   pub given : Given
   pub parts : IsGiven (parts_of names keys []) given
@@ -111,18 +113,18 @@ abbrev pub IsKeysRefused : Bool → Bool → NameFiles → List (List ℕ) → O
 IsKeysRefused verbose are_files names keys outcome =
     (refusal : Refusal) × IsRefused refusal (given_key_names names.lines.items keys) × IsKeysReported verbose are_files names keys refusal outcome
 
--- of the keys of these names; or what is printed where the names or the keys are refused
+-- the requests, by the keys with these names; or the outcome if the names or the keys are refused
 abbrev pub IsSessionBy : Bool → NameFiles → SessionArguments → List (List ℕ) → Result ClientRequests Outcome → Type 0
 IsSessionBy verbose names arguments keys (Ok sent) = (n : NamedParts) × (given_key_names names.lines.items keys ≡ Ok n) × AsksSession n arguments sent
 IsSessionBy verbose names arguments keys (Err outcome) = IsKeysRefused verbose arguments.files names keys outcome
 
--- the same of the keys that the words are: with `--files` a key may be written as its character
+-- the same by the keys as they are written: with `--files` a key may be written as its character
 pub record IsSessionOf (verbose : Bool) (names : NameFiles) (arguments : SessionArguments) (started : Result ClientRequests Outcome) : Type 0 where
   pub keys : List (List ℕ)
   pub are_keys : AreKeyNames arguments.files (names_of names.lines.items) (map (λ key. key.now) arguments.keys.items) keys
   pub is : IsSessionBy verbose names arguments keys started
 
--- the same by the names that the folder has
+-- the same by the names in the folder
 pub record IsSessionRun (folder : Option (List Entry)) (options : Options) (arguments : SessionArguments) (started : Result ClientRequests Outcome) : Type 0 where
   pub names : NameFiles
   pub are_names : AreNames folder (names_for arguments.files (map (λ name. name.now) options.names.now)) names
@@ -130,7 +132,8 @@ pub record IsSessionRun (folder : Option (List Entry)) (options : Options) (argu
 
 -- ---- the exchange
 
--- each request is sent once all before it are answered, and none of them refused; then the report on the replies is printed, below the notes
+-- each request is sent once all before it are answered, and none of them is refused; then the
+-- report on the replies is printed, after the notes
 pub record IsExchange (sent : ClientRequests) (before after : Option (List Turn)) (outcome : Outcome) : Type 0 where
   pub replies : List Reply
   pub turns : after ≡ then_turns before (turns_of sent.requests.items replies)

@@ -1,4 +1,5 @@
--- Why `serve` can't read what it begins with: the first that is refused says it (this project's profile). Memory may run out at any time.
+-- Why `serve` can't read its files: the fault is that of the first one that is refused (defined by
+-- this project). Memory may run out at any time.
 use Rattle.std.specs.Prelude.{◌⊎◌, ℕ, List, ◌++◌, Option, Err, codes}
 use Rattle.compose_folder.specs.Content.{Entry, File, IsHeld}
 use Rattle.compose_arguments.specs.declared.given_tables.TypeTable.{TypeTable}
@@ -14,7 +15,7 @@ use Rattle.compose_runs.specs.Updating.{builtin}
 use Rattle.compose_runs.specs.declared.environment.Environment.{Environment}
 use Rattle.compose_service_runs.specs.Serving.{is_file, kept_path}
 
--- the names, the table, the repertoire, the certificate
+-- in the order of reading: the names, the table, the repertoire, the certificate
 abbrev pub FailsGiven : Option (List Entry) → Environment → List (List ℕ) → TypeTable → List ℕ → List ℕ → Fault → Type 0
 FailsGiven folder environment names table repertoire certificate fault =
     OrMemory (λ f. FailNames folder (names_for (is_file table) names) f
@@ -22,11 +23,11 @@ FailsGiven folder environment names table repertoire certificate fault =
     × (FailsGivenTable folder environment (codes "table") table f
     ⊎ (HasGivenTable folder environment table × (IsRead folder repertoire (Err f) ⊎ (HasFile folder repertoire × IsRead folder certificate (Err f))))))) fault
 
--- the words of where it is kept
+-- the place of the kept table, as a fault names it
 abbrev pub place_words : List ℕ → List ℕ
 place_words path = path ++ codes ": "
 
--- the names that are built in, and then what is kept
+-- in the order of reading: the built-in names, then the kept table
 abbrev pub FailsKept : Option (List Entry) → List ℕ → Fault → Type 0
 FailsKept folder path fault =
     OrMemory (λ f. FailNames folder builtin f ⊎ (HasNames folder builtin × (IsRead folder path (Err f) ⊎ ((bytes : List ℕ) × IsHeld folder path (File bytes) × IsDamaged (place_words path) bytes f)))) fault

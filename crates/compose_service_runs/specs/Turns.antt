@@ -1,4 +1,5 @@
--- What is sent and replied in an exchange with a service, in turn (this project's profile: docs/PROTOCOL.md).
+-- The requests and replies of an exchange with a service, in turn (defined by this project:
+-- docs/PROTOCOL.md).
 use Rattle.std.specs.Prelude.{Bool, true, false, if◌then◌else◌, List, [], ◌∷◌, ◌++◌, Option, Some, None, option_map}
 use Rattle.compose_wire.specs.declared.request.Request.{Request}
 use Rattle.compose_wire.specs.declared.reply.Answer.{Answer}
@@ -14,12 +15,13 @@ abbrev pub is_refusal : Answer → Bool
 is_refusal (Refused code) = true
 is_refusal answer = false
 
--- the turns of these requests with these replies: the one that is refused is the last, and so is one without a reply
+-- the turns of these requests with these replies: a refused request is the last one, and so is one
+-- without a reply
 abbrev pub turns_of : List Request → List Reply → List Turn
 turns_of [] replies = []
 turns_of (q ∷ requests) [] = record { request = q; reply = None } ∷ []
 turns_of (q ∷ requests) (r ∷ replies) = record { request = q; reply = Some r } ∷ (if is_refusal r.answer then [] else turns_of requests replies)
 
--- the same turns and these after them, where they are known
+-- the same turns followed by these, if they are known
 abbrev pub then_turns : Option (List Turn) → List Turn → Option (List Turn)
 then_turns turns more = option_map (λ before. before ++ more) turns

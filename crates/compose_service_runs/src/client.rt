@@ -1,4 +1,4 @@
-//! `load` and `session`: what a client of a service sends, and what it prints of the replies.
+//! `load` and `session`: what a client of a service sends, and what it prints for the replies.
 ghost use Rattle.std.specs.Prelude.{◌≡◌, ◌||◌, [], ◌∷◌, map, Ok, IfOk, IfErr, string_bytes};
 ghost use Rattle.keysym_core.specs.Core.{core_names};
 ghost use Rattle.compose_migration.specs.MigrationGives.{named_parts};
@@ -27,16 +27,22 @@ use compose_wire::{Answer, Reply, Request};
 use keysym_core::Names;
 use std::alloc::{AllocError, Global};
 
-/// What a client sends, in order, the names by which it prints keys, and what is noted of what it read, in lines.
+/// The requests of a client, in the order in which they are sent, and what it needs for the report.
 #[derive(Drop)]
 pub struct ClientRequests {
+    /// Notes on the files that were read, as lines.
     pub notes: String,
+    /// The names with which keys are printed.
     pub names: Names,
+    /// The requests, in the order in which they are sent.
     pub requests: Vec<Request>,
 }
 
-/// The load of the new table by the certificate, which are read in this order, with notes on where the files of the table lie. At the cost of
-/// reading them.
+/// Reads the new table and then the certificate. Returns the request that loads them, with notes on
+/// where the files of the table lie. Takes the time of reading them.
+/// Errors: the fault of the first file that can't be read or is refused; `Word` if a variable of
+/// the environment that is needed is not UTF-8; a refusal if they don't fit into a load; `NoMemory`
+/// if memory runs out.
 pub fn run_load<F: Folder>(
     alloc: Global,
     files: &mut ReadOnce<F>,
@@ -55,7 +61,8 @@ pub fn run_load<F: Folder>(
     noted_load(alloc, &table, &certificate, notes)
 }
 
-/// The load of this table by the certificate, with no note. O(bytes).
+/// Returns the request that loads this table with this certificate, without notes. O(bytes).
+/// Errors: a refusal if they don't fit into a load; `NoMemory` if memory runs out.
 pub fn load_requests(
     alloc: Global,
     table: &TableFiles,
@@ -67,7 +74,7 @@ pub fn load_requests(
     noted_load(alloc, table, certificate, String::new(alloc))
 }
 
-/// The load of this table by the certificate, with these notes.
+/// Returns the request that loads this table with this certificate, and these notes.
 fn noted_load(
     alloc: Global,
     table: &TableFiles,
@@ -82,7 +89,7 @@ fn noted_load(
     Ok(one_request(alloc, request, notes)?)
 }
 
-/// The request that loads this table by the certificate.
+/// Returns the request that loads this table with this certificate.
 fn request_to_load(alloc: Global, table: &TableFiles, certificate: &[u8]) -> Result<Request, Fault>
     ensures loads { IfOk result
         (λ request. LoadGives (Ok request) table.now.rule (bundle_of table.now certificate.now)) }
@@ -95,7 +102,7 @@ fn request_to_load(alloc: Global, table: &TableFiles, certificate: &[u8]) -> Res
     }
 }
 
-/// One request without keys, with these notes.
+/// Returns one request without keys, with these notes.
 fn one_request(alloc: Global, request: Request, notes: String) -> Result<ClientRequests, AllocError>
     ensures notes { IfOk result (λ sent. string_bytes sent.notes ≡ string_bytes notes) }
     ensures names { IfOk result (λ sent. sent.names ≡ core_names) }
@@ -113,7 +120,9 @@ fn one_request(alloc: Global, request: Request, notes: String) -> Result<ClientR
     })
 }
 
-/// The requests of a session; or the outcome where the names or the keys are refused. At the cost of reading the names.
+/// Returns the requests of a session, or the outcome if the names or the keys are refused. Takes
+/// the time of reading the names.
+/// Errors: the fault of the first names file that can't be read; `NoMemory` if memory runs out.
 pub fn run_session<T: ComposeTable, F: Folder>(
     alloc: Global,
     files: &mut ReadOnce<F>,
@@ -131,7 +140,7 @@ pub fn run_session<T: ComposeTable, F: Folder>(
     Ok(session_of::<T>(alloc, options.verbose, &names, arguments)?)
 }
 
-/// The same by these names; with `--files` a key may be written as its character.
+/// Returns the same by these names; with `--files` a key may be written as its character.
 fn session_of<T: ComposeTable>(
     alloc: Global,
     verbose: bool,
@@ -145,7 +154,7 @@ fn session_of<T: ComposeTable>(
     session_by::<T>(alloc, verbose, names, arguments, &keys)
 }
 
-/// The same of the keys of these names.
+/// Returns the same by the keys with these names.
 fn session_by<T: ComposeTable>(
     alloc: Global,
     verbose: bool,
@@ -166,7 +175,7 @@ fn session_by<T: ComposeTable>(
     }
 }
 
-/// The names of a header, and the keysyms of key names.
+/// Returns the names of a header, and the keysyms of key names.
 fn read_keys(alloc: Global, header: &[u8], key_names: &[&str]) -> Result<Named, Refusal>
     ensures { Gives (λ said read. said ≡ named_parts read) result
         (given_key_names header.now (map (λ name. name.now) key_names.now)) }
@@ -177,7 +186,7 @@ fn read_keys(alloc: Global, header: &[u8], key_names: &[&str]) -> Result<Named, 
     }
 }
 
-/// The requests of the session, by the keysyms of its keys.
+/// Returns the requests of the session, by the keysyms of its keys.
 fn requests_of(
     alloc: Global,
     named: Named,
@@ -201,7 +210,8 @@ fn requests_of(
     })
 }
 
-/// The outcome where the names or the keys are refused, with each faulty line where that is asked for, and with `--files` always, and for people.
+/// Returns the outcome if the names or the keys are refused; with `verbose` or `--files` with each
+/// faulty line, and with `--files` for people.
 fn keys_outcome<T: ComposeTable>(
     alloc: Global,
     verbose: bool,
@@ -219,14 +229,18 @@ fn keys_outcome<T: ComposeTable>(
     worded_outcome::<T>(alloc, !are_files, detailed, &given, Err(refusal))
 }
 
-/// Whether each faulty line of a refusal is printed: if that is asked for, and with `--files` always.
+/// Returns whether each faulty line of a refusal is printed: if `verbose`, and with `--files`
+/// always.
 fn tells_lines(verbose: bool, are_files: bool) -> bool
     ensures { result ≡ verbose || are_files }
 {
     verbose || are_files
 }
 
-/// Sends the requests one after another, until one is refused or the other side closes, and gives what is printed of the replies, below the notes.
+/// Sends the requests one after another, until one is refused or the other side closes. Returns
+/// what is printed for the replies, after the notes.
+/// Errors: the fault of the first request that can't be sent or whose reply is malformed;
+/// `NoMemory` if memory runs out.
 pub fn run_exchange<P: Peer>(
     alloc: Global,
     peer: &mut P,
@@ -241,7 +255,7 @@ pub fn run_exchange<P: Peer>(
     Ok(printed.with_notes(sent.notes))
 }
 
-/// The replies to the requests, until one is refused or the other side closes.
+/// Returns the replies to the requests, until one is refused or the other side closes.
 fn replies_of<P: Peer>(
     alloc: Global,
     peer: &mut P,
@@ -265,7 +279,7 @@ fn replies_of<P: Peer>(
     Ok(replies)
 }
 
-/// Whether the answer is a refusal.
+/// Returns whether the answer is a refusal.
 fn is_refusal(answer: &Answer) -> bool
     ensures { result ≡ words.is_refusal answer.now }
 {

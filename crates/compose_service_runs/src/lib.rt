@@ -1,6 +1,7 @@
-//! A service and its clients as functions over values: the service that `serve` begins, what `load` and `session` send, and what they print
-//! of the replies. Nothing is printed here, files are read through a [`ReadOnce`](compose_folder::ReadOnce) alone, and the other side of an
-//! exchange is a [`Peer`].
+//! A service and its clients as functions over values: the service that `serve` starts, what `load`
+//! and `session` send, and what they print for the replies. Nothing is printed here, files are read
+//! through a [`ReadOnce`](compose_folder::ReadOnce) alone, and the other side of an exchange is a
+//! [`Peer`].
 //!
 //! ```text
 //! let sent = run_load(alloc, &mut files, &arguments)?;

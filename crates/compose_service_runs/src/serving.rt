@@ -1,4 +1,4 @@
-//! `serve`: the service that begins, or what is printed where none does.
+//! `serve`: the service that starts, or the outcome if none does.
 ghost use Rattle.std.specs.Prelude.{◌≡◌, ◌<◌, ◌++◌, Some, length, map, option_map, slice_get, IfOk, IfErr, true, string_bytes, codes};
 ghost use Rattle.compose_runs.specs.Checking.{allowed_names};
 ghost use Rattle.compose_runs.specs.Stored.{IsDamaged};
@@ -23,11 +23,15 @@ use compose_serving::{BeginFault, BeginInput, allow_fresh, begin};
 use compose_tree::ComposeTable;
 use std::alloc::{AllocError, Global};
 
-/// The service that begins with the files that are given, or with the table that is kept in a folder, and notes on where the files of the table lie,
-/// in lines: the names, the table, the repertoire and the certificate are read in this order. Its loads may list the keysyms of the allowed names
-/// alone as fresh, where these are given. Where no service begins, the outcome says why, below the notes; with `verbose`, and of a refusal always
-/// where a Compose file is served, the files are read again, of what was read, since the service took their bytes over. At the cost of reading the
-/// files, and of `begin`.
+/// Starts the service with the given files, or with the table that is kept in a folder, and returns
+/// it with notes on where the files of the table lie, as lines. The names, the table, the
+/// repertoire and the certificate are read in this order. If names are allowed, the service's loads
+/// may list only their keysyms as fresh. If no service starts, returns the outcome, which says why
+/// after the notes. For the details of it (with `verbose`, and for a refusal always if a Compose
+/// file is served) the files are taken again from what `files` has read, since the service took
+/// over their bytes. Takes the time of reading the files and of `begin`.
+/// Errors: the fault of the first file that can't be read or is refused; `Word` if a variable of
+/// the environment that is needed is not UTF-8; `NoMemory` if memory runs out.
 pub fn start_service<T: ComposeTable, F: Folder>(
     alloc: Global,
     files: &mut ReadOnce<F>,
@@ -74,7 +78,7 @@ struct ServiceFiles<'n> {
     certificate: Vec<u8>,
 }
 
-/// The files of a service, and notes on where those of its table lie, in lines.
+/// The files of a service, and notes on where those of its table lie, as lines.
 #[derive(Drop)]
 struct NotedFiles<'n> {
     read: ServiceFiles<'n>,
@@ -85,7 +89,7 @@ impl<'n> NotedFiles<'n> {
     ghost use Rattle.compose_service_runs.specs.Serving.{AreGivenFiles, AreKeptFiles, AreServiceFiles, kept_path};
     ghost use Rattle.compose_service_runs.specs.ServingFaults.{FailsGiven, FailsKept};
 
-    /// Reads the names, the table, the repertoire and the certificate, or the table that is kept.
+    /// Reads the names, the table, the repertoire and the certificate, or the kept table.
     fn read<F: Folder>(
         files: &mut ReadOnce<F>,
         alloc: Global,
@@ -146,7 +150,8 @@ impl<'n> NotedFiles<'n> {
         Ok(NotedFiles { read, notes })
     }
 
-    /// Reads the table that `update` keeps in the folder at this path, with the names that are built in and an empty repertoire.
+    /// Reads the table that `update` keeps in the folder at this path, with the built-in names and
+    /// an empty repertoire.
     fn kept<F: Folder>(
         files: &mut ReadOnce<F>,
         alloc: Global,
@@ -177,7 +182,8 @@ impl<'n> NotedFiles<'n> {
 impl<'n> ServiceFiles<'n> {
     ghost use Rattle.compose_service_runs.specs.Serving.{Begins, BeginsAllowing};
 
-    /// The service that begins with them, whose loads may list these keysyms alone as fresh, if some are given.
+    /// Starts the service with these files. If names are given, its loads may list only their
+    /// keysyms as fresh.
     fn begin_allowing<T: ComposeTable>(
         self,
         alloc: Global,
@@ -191,7 +197,7 @@ impl<'n> ServiceFiles<'n> {
         }
     }
 
-    /// The service that begins with them.
+    /// Starts the service with these files.
     fn begin<T: ComposeTable>(self, alloc: Global) -> Result<Service<T>, BeginFault>
         ensures { Begins self.entry result }
     {
@@ -206,7 +212,7 @@ impl<'n> ServiceFiles<'n> {
     }
 }
 
-/// The service, whose loads may list the keysyms of these names alone as fresh, if names are given.
+/// Returns the service; if names are given, its loads may list only their keysyms as fresh.
 fn allow_alone<T: ComposeTable>(
     alloc: Global,
     service: Service<T>,
@@ -223,14 +229,14 @@ fn allow_alone<T: ComposeTable>(
     }
 }
 
-/// A table that is kept, and the certificate of it against itself.
+/// A kept table, and its certificate against itself.
 #[derive(Drop)]
 struct KeptBundle {
     table: TableFiles,
     certificate: Vec<u8>,
 }
 
-/// The table and the certificate of the bundle that is kept at this path.
+/// Returns the table and the certificate of the bundle that is kept at this path.
 fn kept_bundle(alloc: Global, path: String, bytes: &[u8]) -> Result<KeptBundle, Fault>
     ensures kept { IfOk result
         (λ kept. IsKeptBundle (string_bytes path) bytes.now kept) }
@@ -242,7 +248,7 @@ fn kept_bundle(alloc: Global, path: String, bytes: &[u8]) -> Result<KeptBundle, 
     Ok(kept_parts(alloc, path, bundle)?)
 }
 
-/// The table and the certificate of a bundle that is kept at this path.
+/// Returns the table and the certificate of a bundle that is kept at this path.
 fn kept_parts(alloc: Global, path: String, bundle: Bundle<'_>) -> Result<KeptBundle, AllocError>
     ensures { IfOk result
         (λ kept. AreKeptParts (string_bytes path) bundle.entry.sources bundle.entry.certificate.now
@@ -253,14 +259,15 @@ fn kept_parts(alloc: Global, path: String, bundle: Bundle<'_>) -> Result<KeptBun
     Ok(KeptBundle { table, certificate })
 }
 
-/// Where it is kept, as a fault says it.
+/// Returns the place of the kept table, as a fault names it.
 fn place_of(alloc: Global, path: &str) -> Result<String, AllocError>
     ensures { IfOk result (λ place. string_bytes place ≡ place_words path.now) }
 {
     format!(in alloc; "{path}: ")
 }
 
-/// A table of these sources that is kept at this path, each of which is called as it was when it was taken into use.
+/// Returns a table with these sources that is kept at this path. The path of each file is the name
+/// that its source had when the table was taken into use.
 fn kept_table(alloc: Global, path: String, sources: Sources) -> Result<TableFiles, AllocError>
     ensures sources { IfOk result (λ table. table.sources ≡ sources) }
     ensures kept { IfOk result (λ table. IsKeptTable (string_bytes path) table) }
@@ -276,7 +283,7 @@ fn kept_table(alloc: Global, path: String, sources: Sources) -> Result<TableFile
     })
 }
 
-/// The names of these sources.
+/// Returns the names of these sources.
 fn source_names(alloc: Global, sources: &Sources) -> Result<Vec<String>, AllocError>
     ensures { IfOk result
         (λ names. map string_bytes names.items ≡ map (λ source. source.name) sources.now) }
@@ -288,7 +295,7 @@ fn source_names(alloc: Global, sources: &Sources) -> Result<Vec<String>, AllocEr
     Ok(names)
 }
 
-/// The name of the source at this index.
+/// Returns the name of the source at this index.
 fn source_name(sources: &Sources, index: usize) -> &str
     requires { index < length sources.now }
     ensures { option_map (λ source. source.name) (slice_get sources.now index) ≡ Some result.now }
@@ -296,7 +303,8 @@ fn source_name(sources: &Sources, index: usize) -> &str
     sources.name(index).unwrap()
 }
 
-/// The paths of the repertoire and of the certificate; both of a table that is kept are in the folder.
+/// Returns the paths of the repertoire and of the certificate; for a kept table, the folder stands
+/// for both.
 fn other_paths<'a>(served: &Served<'a>) -> (&'a str, &'a str)
     ensures repertoire { result.0.now ≡ (words.other_paths served.now).0 }
     ensures certificate { result.1.now ≡ (words.other_paths served.now).1 }
@@ -311,7 +319,7 @@ fn other_paths<'a>(served: &Served<'a>) -> (&'a str, &'a str)
     }
 }
 
-/// Whether a table is given as its Compose file.
+/// Returns whether a table is given as its Compose file.
 fn is_file(table: &TypeTable<'_>) -> bool
     ensures { result ≡ words.is_file table.now }
 {
@@ -321,7 +329,7 @@ fn is_file(table: &TypeTable<'_>) -> bool
     }
 }
 
-/// Whether a Compose file is served.
+/// Returns whether a Compose file is served.
 fn is_of_file(served: &Served<'_>) -> bool
     ensures { result ≡ words.is_of_file served.now }
 {
@@ -331,7 +339,7 @@ fn is_of_file(served: &Served<'_>) -> bool
     }
 }
 
-/// What is answered where no service begins.
+/// Returns the answer if no service starts.
 fn start_answer(fault: BeginFault) -> Result<Answer, Refusal>
     ensures { result ≡ words.start_answer fault }
 {
@@ -341,15 +349,15 @@ fn start_answer(fault: BeginFault) -> Result<Answer, Refusal>
     }
 }
 
-/// Whether each faulty line is printed, and the keys and places of a `no`: if that is asked for, and of a refusal always if a Compose file is
-/// served.
+/// Returns whether details are printed, faulty lines or the keys and places of a `no`: if
+/// `verbose`, and for a refusal always if a Compose file is served.
 fn wants_details(verbose: bool, served: &Served<'_>, answered: &Result<Answer, Refusal>) -> bool
     ensures { result ≡ words.wants_details verbose served.now answered.now }
 {
     verbose || (is_of_file(served) && is_refused(answered))
 }
 
-/// The outcome where no service begins with the files, of what is answered then.
+/// Returns the outcome of this answer if no service starts with the files.
 fn start_outcome<T: ComposeTable, F: Folder>(
     alloc: Global,
     files: &mut ReadOnce<F>,
@@ -378,7 +386,8 @@ fn start_outcome<T: ComposeTable, F: Folder>(
     }
 }
 
-/// The outcome with each faulty line of these files, for people where a Compose file is served.
+/// Returns the outcome with each faulty line of these files; for people if a Compose file is
+/// served.
 fn reported_start<T: ComposeTable>(
     alloc: Global,
     arguments: &ServeArguments<'_>,

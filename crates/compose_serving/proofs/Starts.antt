@@ -1,4 +1,4 @@
--- What a service that does not start says of how it begins.
+-- How a service begins if it does not start.
 use Rattle.std.proofs.Common.{◌≡◌, ℕ, List}
 use Rattle.std.specs.Prelude.{Result, Ok, Err}
 use Rattle.keysym_core.specs.Names.{KeysymNames}
@@ -16,7 +16,7 @@ use Rattle.compose_service.specs.declared.service.StartFault.TheVariants as star
 use Rattle.compose_serving.specs.Begin.{Start, AreRead, BeginGives, repertoire_refused, start_refused}
 use Rattle.compose_serving.specs.declared.start.BeginFault.TheVariants.{Refused}
 
--- a certificate's fault that is told is not memory
+-- a fault of a certificate that is reported is not that memory ran out
 certificate_said : (fault : CertFault) (said : Result Begun NoStart) → CertificateSaid fault said → said ≡ Err (without_certificate fault)
 certificate_said (cert_faults.NotText line) said h = h
 certificate_said cert_faults.TooLarge said h = h

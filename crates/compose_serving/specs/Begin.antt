@@ -1,4 +1,5 @@
--- How a service begins from the bytes of its files: names, repertoire, table and certificate in this order, the first refused one decides.
+-- How a service begins from the bytes of its files: the first part that is refused decides, in the order names,
+-- repertoire, table, certificate.
 use Rattle.std.specs.Prelude.{◌≡◌, ℕ, List, Result, Ok, Err}
 use Rattle.keysym_core.specs.Names.{KeysymNames}
 use Rattle.keysym_core.specs.Header.{names_of}
@@ -22,11 +23,11 @@ use Rattle.compose_service.specs.declared.service.StartFault.TheVariants as star
 use Rattle.compose_serving.specs.declared.start.BeginFault.{BeginFault}
 use Rattle.compose_serving.specs.declared.start.BeginFault.TheVariants.{Invalid, Refused}
 
--- what a service does with names and a repertoire: it starts, or says why not
+-- what a service does with names and a repertoire: it starts, or the reason why not
 abbrev pub Start : Type 0
 Start = KeysymNames → Repertoire → Result Begun NoStart
 
--- a service over the table of the sources starts so
+-- a service over the table of the sources starts this way
 abbrev pub start_over : List Source → Rule → List ℕ → Start
 start_over sources rule certificate names repertoire = started names repertoire (first_table names sources rule) (certificate_of certificate)
 
@@ -39,7 +40,7 @@ pub record AreRead (header bytes : List ℕ) (names : KeysymNames) (repertoire :
 abbrev pub StartIs : List ℕ → List ℕ → Start → Result Begun NoStart → Type 0
 StartIs header bytes start said = (names : KeysymNames) × (repertoire : Repertoire) × AreRead header bytes names repertoire × (start names repertoire ≡ said)
 
--- the refusal says which part is refused first, and why
+-- the refusal names the first part that is refused, and the reason
 abbrev pub IsRefused : List ℕ → List ℕ → Start → Refusal → Type 0
 IsRefused header bytes start (refusals.Names fault) = names_of header ≡ Err fault
 IsRefused header bytes start (refusals.Repertoire fault) = (names : KeysymNames) × (names_of header ≡ Ok names) × (repertoire_of bytes ≡ Err fault)
@@ -48,7 +49,8 @@ IsRefused header bytes start (refusals.Certificate fault) = StartIs header bytes
 IsRefused header bytes start refusals.NoMemory = Unit {0}
 IsRefused header bytes start _ = ⊥
 
--- the service that starts; or that its certificate is not valid, by the first condition that it does not meet; or the first part that is refused
+-- the service that starts; or that its certificate is not valid, with the first condition that it does not meet; or the
+-- first part that is refused
 abbrev pub BeginGives : List ℕ → List ℕ → Start → Result ServiceState BeginFault → Type 0
 BeginGives header bytes start (Ok service) =
     (names : KeysymNames) × (repertoire : Repertoire) × AreRead header bytes names repertoire × StartGives names repertoire (Ok service) (start names repertoire)

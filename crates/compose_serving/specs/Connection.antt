@@ -6,7 +6,7 @@ use Rattle.compose_serve.specs.declared.ends.ServeFault.TheVariants.{Read, Write
 use Rattle.compose_hub.specs.declared.ends.ConnectionEnd.{ConnectionEnd}
 use Rattle.compose_hub.specs.declared.ends.ConnectionEnd.TheVariants.{Served, Stalled, Idle}
 
--- how a connection ended; a fault with its number
+-- how a connection ended; a fault has its number
 abbrev pub end_words : ConnectionEnd → List ℕ
 end_words (Served (Ok InputEnd)) = codes "ended"
 end_words (Served (Ok Malformed)) = codes "malformed"
@@ -21,14 +21,15 @@ end_words Idle = codes "idle"
 abbrev pub connection_line : ℕ → ConnectionEnd → List ℕ
 connection_line number how = codes "connection " ++ (digits 10 false number ++ (codes ": " ++ (end_words how ++ (10 ∷ []))))
 
--- how many ends could not be printed
+-- the number of ends that could not be printed
 abbrev pub unprinted_line : ℕ → List ℕ
 unprinted_line unprinted = codes "ends not printed: " ++ (digits 10 false unprinted ++ (10 ∷ []))
 
--- the same, where there are any
+-- the same, if there are any
 abbrev pub unprinted_text : ℕ → List ℕ
 unprinted_text unprinted = if unprinted == 0 then [] else unprinted_line unprinted
 
--- an end that is printed leaves none that is not, since how many these are is printed before it; one that is not is counted, up to 64 bits
+-- 0 after an end that is printed, since the number of unprinted ends is printed before it; otherwise one more, up to 64
+-- bits
 abbrev pub unprinted_after : ℕ → Bool → ℕ
 unprinted_after unprinted is_printed = if is_printed then 0 else min (unprinted + 1) (2 ^ 64 - 1)

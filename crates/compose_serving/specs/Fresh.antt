@@ -1,4 +1,4 @@
--- A service whose loads may list the keysyms of some names alone as fresh.
+-- A service whose loads may list only the keysyms of some names as fresh.
 use Rattle.std.specs.Prelude.{◌≡◌, ℕ, List, Some, Result, Ok, Err}
 use Rattle.compose_machine.specs.Machine.{ServiceState}
 use Rattle.compose_answer.specs.declared.refusal.Refusal.{Refusal}

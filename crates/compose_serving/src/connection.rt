@@ -6,8 +6,10 @@ use compose_hub::ConnectionEnd;
 use compose_serve::{Ended, ServeFault};
 use std::alloc::{AllocError, Global};
 
-/// What is printed at the end of the connection with this number, from 1: how many ends could not be printed before, if there are any, and
-/// then how it ended. O(1).
+/// Returns what is printed at the end of the connection with this number, from 1: the number of
+/// ends that could not be printed before, if there are any, and then how it ended. O(1).
+///
+/// Errors: `AllocError` if memory runs out.
 pub fn end_text(
     alloc: Global,
     unprinted: u64,
@@ -24,7 +26,10 @@ pub fn end_text(
     Ok(text)
 }
 
-/// How many ends of connections could not be printed, as a line; nothing where there are none. O(1).
+/// Returns the number of ends of connections that could not be printed, as a line, or an empty text
+/// if there are none. O(1).
+///
+/// Errors: `AllocError` if memory runs out.
 pub fn unprinted_text(alloc: Global, unprinted: u64) -> Result<String, AllocError>
     ensures { IfOk result (λ text. string_bytes text ≡ lines.unprinted_text unprinted) }
 {
@@ -34,7 +39,8 @@ pub fn unprinted_text(alloc: Global, unprinted: u64) -> Result<String, AllocErro
     format!(in alloc; "ends not printed: {unprinted}\n")
 }
 
-/// How many ends are not printed after one more, whose text was printed or was not. O(1).
+/// Returns the number of ends that are not printed after one more end, whose text was printed or
+/// not. O(1).
 pub fn unprinted_after(unprinted: u64, is_printed: bool) -> u64
     ensures { result ≡ lines.unprinted_after unprinted is_printed }
 {
@@ -45,7 +51,8 @@ pub fn unprinted_after(unprinted: u64, is_printed: bool) -> u64
     }
 }
 
-/// How a connection ended, in words; a fault with its number. One that held room for a load of which nothing came was cut.
+/// Returns the words for how a connection ended; a fault has its number. A connection that stalled
+/// in the middle of a load is reported as cut.
 fn end_words(how: ConnectionEnd) -> &'static str
     ensures { result.now ≡ lines.end_words how }
 {

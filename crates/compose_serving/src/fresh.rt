@@ -1,4 +1,4 @@
-//! Which keysyms the loads of a service may list as fresh.
+//! The keysyms that the loads of a service may list as fresh.
 ghost use Rattle.std.specs.Prelude.{map};
 ghost use Rattle.compose_migration.specs.Keys.{keys_of};
 ghost use Rattle.compose_serving.specs.Fresh.{Allows};
@@ -9,8 +9,11 @@ use compose_service::Service;
 use compose_tree::ComposeTable;
 use std::alloc::Global;
 
-/// The service, where its loads may list the keysyms of these names alone as fresh; or the index of the first name without a keysym.
-/// O(bytes of the names).
+/// Returns the service with the keysyms of these names as the only ones that its loads may list as
+/// fresh. O(bytes of the names).
+///
+/// Errors: `Key` with the index, from 0, of the first name that has no keysym, or `NoMemory` if
+/// memory runs out.
 pub fn allow_fresh<T: ComposeTable>(
     alloc: Global,
     service: Service<T>,

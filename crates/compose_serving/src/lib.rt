@@ -1,7 +1,9 @@
-//! What the command `serve` says over values: how a service begins from the bytes of its files, and the lines for connections.
+//! The command `serve` over values: how a service begins from the bytes of its files, and the lines
+//! for connections.
 //!
 //! ```text
-//! match begin::<PackedTable>(alloc, &BeginInput { header, repertoire, rule, certificate }, sources) {
+//! let input = BeginInput { header, repertoire, rule, certificate };
+//! match begin::<PackedTable>(alloc, &input, sources) {
 //!     Ok(service) => ..,                            // listening
 //!     Err(BeginFault::Invalid(fault)) => ..,        // printed as `check` prints it
 //!     Err(BeginFault::Refused(refusal)) => ..,

@@ -13,31 +13,36 @@ use compose_tree::ComposeTable;
 use keysym_core::{NameFault, Names};
 use std::alloc::Global;
 
-/// What a service begins from, beside the sources of its table: the bytes of its files, and what is done with overlaps.
+/// What a service begins from, besides the sources of its table: the bytes of its files, and the
+/// rule for overlaps.
 #[derive(Clone, Copy)]
 pub struct BeginInput<'a> {
-    /// The header of names.
+    /// The bytes of the header with the keysym names.
     pub header: &'a [u8],
-    /// The repertoire.
+    /// The bytes of the repertoire.
     pub repertoire: &'a [u8],
-    /// What is done with overlaps.
+    /// The rule for overlaps.
     pub rule: Rule,
-    /// The certificate of the table against itself.
+    /// The bytes of the certificate of the table against itself.
     pub certificate: &'a [u8],
 }
 
 /// Why no service begins.
 #[derive(Debug, PartialEq, Eq, Drop)]
 pub enum BeginFault {
-    /// The certificate is not valid for the table against itself: the first condition that it does not meet.
+    /// The certificate is not valid for the table against itself; this is the first condition that
+    /// it does not meet.
     Invalid(CheckFault),
-    /// A part is refused, or memory was.
+    /// A part is refused, or memory ran out.
     Refused(Refusal),
 }
 
-/// A service over the table of the sources, the first of which is the root. The names are read first, then the repertoire, the table
-/// and the certificate, which is then checked for the table against itself; the first part that is refused decides. At the cost of
-/// reading these, and of `check`.
+/// Starts a service over the table of the sources, the first of which is the root. The names are
+/// read first, then the repertoire, the table and the certificate, which is then checked for the
+/// table against itself. Costs as much as reading these, and `check`.
+///
+/// Errors: `Refused` with the first part that is refused, or if memory runs out; `Invalid` if the
+/// certificate is not valid.
 pub fn begin<T: ComposeTable>(
     alloc: Global,
     input: &BeginInput<'_>,
@@ -52,7 +57,7 @@ pub fn begin<T: ComposeTable>(
     }
 }
 
-/// The same with the names of the header.
+/// Does the same with the names of the header.
 fn begin_with<T: ComposeTable>(
     alloc: Global,
     input: &BeginInput<'_>,
@@ -69,7 +74,7 @@ fn begin_with<T: ComposeTable>(
     }
 }
 
-/// The same with the names of the header and the repertoire.
+/// Does the same with the names of the header and the repertoire.
 fn start_with<T: ComposeTable>(
     alloc: Global,
     input: &BeginInput<'_>,
@@ -94,7 +99,7 @@ fn start_with<T: ComposeTable>(
     }
 }
 
-/// The refusal of the names.
+/// Returns the refusal of the names.
 fn of_names(fault: NameFault) -> Refusal
     ensures { result ≡ names_refused fault }
 {
@@ -104,7 +109,7 @@ fn of_names(fault: NameFault) -> Refusal
     }
 }
 
-/// The refusal of the repertoire.
+/// Returns the refusal of the repertoire.
 fn of_repertoire(fault: RepertoireFault) -> Refusal
     ensures { result ≡ repertoire_refused fault }
 {
@@ -114,7 +119,7 @@ fn of_repertoire(fault: RepertoireFault) -> Refusal
     }
 }
 
-/// Why no service starts.
+/// Returns why no service begins.
 fn of_start(fault: StartFault) -> BeginFault
     ensures { result ≡ start_refused fault }
 {

@@ -1,4 +1,4 @@
--- One reply more of an exchange.
+-- An exchange after one more reply.
 use Rattle.std.proofs.Common.{◌≡◌, ◌≤◌, ◌<◌, ◌+◌, ℕ, List, [], ◌∷◌, length, drop, get_or, refl, sym, ◌∙◌, ap, ap₂}
 use Rattle.std.specs.Prelude.{Option, Some, None}
 use Rattle.std.proofs.lemmas.List.{drop_more, drop_all}
@@ -9,7 +9,7 @@ use Rattle.compose_session.specs.declared.told.End.{End}
 use Rattle.compose_session.specs.declared.told.End.TheVariants.{Answered, Closed}
 use Rattle.compose_session.specs.Told.{Reported, goes_on, ended, after, told, course_of, reported_on}
 
--- an exchange that has ended is not looked at further
+-- nothing follows the end of an exchange
 stopped : (names : KeysymNames) (requests : List Request) (replies : List Reply) (report : Reported) → reported_on names requests replies (ended report) ≡ report
 stopped names [] replies report = refl
 stopped names (q ∷ requests) [] report = refl
@@ -36,7 +36,7 @@ module _ (names : KeysymNames) (requests : List Request) (replies : List Reply) 
     pub goes_further : end ≡ None → reported_on names (drop (i + 1) requests) (drop (i + 1) replies) (goes_on more) ≡ all
     goes_further none = ap (λ e. reported_on names (drop (i + 1) requests) (drop (i + 1) replies) (course_of more e)) (sym none) ∙ one_more
 
-    -- or they are the last
+    -- or they are the last ones
     pub ends_there : (last : End) → end ≡ Some last → record { text = more; end = last } ≡ all
     ends_there last some =
         sym (stopped names (drop (i + 1) requests) (drop (i + 1) replies) (record { text = more; end = last }))

@@ -1,4 +1,4 @@
--- The requests of a command (this project's profile).
+-- The requests of a command (defined by this project).
 use Rattle.std.specs.Prelude.{◌≡◌, ◌<◌, ◌≤◌, ℕ, List, [], ◌∷◌, ◌++◌, length, map, if◌then◌else◌, Result, Ok, Err}
 use Rattle.compose_model.specs.declared.Rule.{Rule}
 use Rattle.compose_bundle.specs.Bundle.{Bundle, BundleFits, IsBundle, bundle_bytes}
@@ -12,17 +12,18 @@ use Rattle.compose_wire.specs.declared.request.Body.TheVariants.{Open, Key, Rese
 use Rattle.compose_wire.specs.declared.request.Request.{Request}
 use Rattle.compose_session.specs.declared.asked.Asked.{Asked}
 
--- this, of the session
+-- a request of the session
 abbrev pub asks : ℕ → Body → Request
 asks session body = record { session = session; body = body }
 
--- what is asked, in order
+-- the requests, in the order in which they are sent
 abbrev pub bodies_of : Asked → List Body
 bodies_of asked =
     (if asked.open then Open ∷ [] else []) ++ (if asked.reset then Reset ∷ [] else []) ++ map (λ k. Key k) asked.keys.now
     ++ (if asked.ask then Ask ∷ [] else []) ++ (if asked.close then Close ∷ [] else [])
 
--- the request is a load by this rule, whose payload is the bundle; or no load can carry it; or memory was refused
+-- the request is a load by this rule, whose payload is the bundle; or the bundle doesn't fit into a
+-- load; or memory runs out
 abbrev pub LoadGives : Result Request BundleFault → Rule → Bundle → Type 0
 LoadGives (Ok request) rule b =
     (payload : List ℕ) × IsBundle payload b × (length payload ≤ max_payload) × (request_of request ≡ record { session = 0; body = load rule payload })

@@ -1,4 +1,4 @@
--- What is told of replies, one after another (this project's profile).
+-- What is printed for replies, one after another (this project's format).
 use Rattle.std.specs.Prelude.{ℕ, Bool, Option, Some, None, ◌==◌, if◌then◌else◌, List, [], ◌∷◌, ◌++◌, flat_map, codes, string_bytes}
 use Rattle.std.specs.Fmt.{decimal}
 use Rattle.keysym_core.specs.Names.{KeysymNames}
@@ -21,7 +21,7 @@ use Rattle.compose_session.specs.declared.told.Told.TheVariants as said
 
 -- ---- lines
 
--- as `type` prints a key: the word for what happened, and the text in quotes
+-- the line of a key, as `type` prints it: the word of its status, and the text in quotes
 abbrev pub key_line : Status → Bool → List ℕ → List ℕ
 key_line status accepted text = (if accepted then status_word status else codes "ignored") ++ 32 ∷ (quote text ++ 10 ∷ [])
 
@@ -40,7 +40,8 @@ refused_line code = codes "refused: " ++ (refusal_words code ++ 10 ∷ [])
 
 -- ---- one reply
 
--- what is told of a reply: a text, and the exchange goes on; a refusal, and it ends; or that it is no reply to the request
+-- what is printed for a reply: a line, and the exchange goes on; a refusal, and it ends; or
+-- nothing, as the reply does not belong to the request
 pub data Told : Type 0 where
   line : List ℕ → Told
   refusal : List ℕ → Told
@@ -57,18 +58,18 @@ told_body names (bodies.Load payload) (answers.Loaded count) = line (loaded_line
 told_body names (bodies.LoadLongest payload) (answers.Loaded count) = line (loaded_line count)
 told_body names body answer = unexpected
 
--- the reply is to be of the request's session
+-- the reply has to be of the request's session
 abbrev pub told : KeysymNames → Request → Reply → Told
 told names q r = if q.session == r.session then told_body names q.body r.answer else unexpected
 
--- ---- all of them
+-- ---- all replies
 
 -- what is printed, and how the exchange ended
 pub record Reported : Type 0 where
   pub text : List ℕ
   pub end : End
 
--- the text so far, or the whole
+-- the text so far, or the whole report
 pub data Course : Type 0 where
   goes_on : List ℕ → Course
   ended : Reported → Course
@@ -78,7 +79,7 @@ after text (line more) = goes_on (text ++ more)
 after text (refusal more) = ended (record { text = text ++ more; end = Refused })
 after text unexpected = ended (record { text = text; end = Unexpected })
 
--- the text so far, and the end of the exchange where it has come to it
+-- the text so far, and how the exchange ended, if it has ended
 abbrev pub course_of : List ℕ → Option End → Course
 course_of text None = goes_on text
 course_of text (Some end) = ended (record { text = text; end = end })

@@ -9,24 +9,26 @@ use compose_wire::{Body, Payload, Request};
 use keysym_core::Keysym;
 use std::alloc::{AllocError, Global};
 
-/// What is asked of a session: to open it, to put it to rest, keys, where it stands, and to close it, in this order.
+/// The requests of a session, in the order in which they are sent: open it, reset it, type keys,
+/// ask for its state, close it.
 #[derive(Clone, Copy)]
 pub struct Asked<'k> {
     /// The number of the session.
     pub session: u32,
-    /// Whether it is opened.
+    /// Whether the session is opened.
     pub open: bool,
-    /// Whether it is put to rest.
+    /// Whether its compose state is reset.
     pub reset: bool,
     /// The keys that are typed in it.
     pub keys: &'k [Keysym],
-    /// Whether it is asked where it stands.
+    /// Whether its state is asked for.
     pub ask: bool,
     /// Whether it is closed.
     pub close: bool,
 }
 
-/// The requests of a session, in their order. O(keys).
+/// Returns the requests of a session, in the order in which they are sent. O(keys).
+/// Errors: `AllocError` if memory runs out.
 pub fn session_requests(alloc: Global, asked: &Asked<'_>) -> Result<Vec<Request>, AllocError>
     ensures { IfOk result
         (λ requests. requests.items
@@ -42,7 +44,7 @@ pub fn session_requests(alloc: Global, asked: &Asked<'_>) -> Result<Vec<Request>
     Ok(requests)
 }
 
-/// Puts a request behind the others, where it is wanted.
+/// Appends a request, if it is wanted.
 fn push_if(
     requests: &mut Vec<Request>,
     wanted: bool,
@@ -59,7 +61,7 @@ fn push_if(
     Ok(())
 }
 
-/// Puts a request for each key behind the others.
+/// Appends a request for each key.
 fn push_keys(requests: &mut Vec<Request>, session: u32, keys: &[Keysym]) -> Result<(), AllocError>
     ensures { IfOk result
         (λ _. requests.new.items
@@ -72,10 +74,11 @@ fn push_keys(requests: &mut Vec<Request>, session: u32, keys: &[Keysym]) -> Resu
     Ok(())
 }
 
-/// The request that loads the table of these sources, the first of which is the root, with a certificate that it follows the table in
-/// use. Session 0, which a load does not look at. O(bytes).
-///
-/// TooLarge where no load can carry them; NoMemory where a growth was refused.
+/// Returns the request that loads the table of these sources, the first of which is the root, with
+/// a certificate that the new table follows the one in use. Its session is 0, which a load ignores.
+/// O(bytes).
+/// Errors: `TooLarge` if the sources and the certificate don't fit into a load; `NoMemory` if
+/// memory runs out.
 pub fn load_request(
     alloc: Global,
     sources: &Sources,

@@ -1,7 +1,8 @@
-//! What a client of the typing service asks, and what is told of the replies: the commands `load` and `session` over values.
+//! The client side of the typing service: the requests of the commands `load` and `session`, and
+//! what they print for the replies, as functions over values.
 //!
-//! A command makes its requests, sends each and waits for its reply, until one is refused. [`report_replies`] says what is then printed
-//! and how the exchange ended.
+//! A command makes its requests, sends each and waits for its reply, until one is refused.
+//! [`report_replies`] returns what is then printed, and how the exchange ended.
 //!
 //! ```text
 //! session 7, open, keys Multi_key apostrophe, ask

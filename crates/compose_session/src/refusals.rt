@@ -1,8 +1,8 @@
-//! Why a service refuses, in words.
+//! The refusals of a service, in words.
 ghost use Rattle.std.specs.Prelude.{◌≡◌};
 ghost use Rattle.compose_session.specs.Refusals as words;
 
-/// The words for the code of a refusal. O(1).
+/// Returns the words for the code of a refusal. O(1).
 pub fn refusal_words(code: u16) -> &'static str
     ensures { result.now ≡ words.refusal_words code }
 {

@@ -1,4 +1,4 @@
-//! What is told of replies.
+//! What is printed for replies.
 ghost use Rattle.std.specs.Prelude.{◌≡◌, ◌++◌, IfOk, string_bytes};
 ghost use Rattle.compose_state.specs.Answers as state_words;
 ghost use Rattle.compose_session.specs.Told.{told_of, told, told_body, after, course_of, report_of, reported, key_line, state_line, loaded_line, refused_line, pending_names};
@@ -13,37 +13,41 @@ use std::alloc::{AllocError, Global};
 /// How an exchange ended.
 #[derive(Clone, Copy, Debug, PartialEq, Eq, Drop)]
 pub enum End {
-    /// Each request was answered, and none refused.
+    /// Each request was answered, and none was refused.
     Answered,
     /// A request was refused.
     Refused,
-    /// A request has no reply.
+    /// A request got no reply.
     Closed,
-    /// A reply is none to its request.
+    /// A reply does not belong to its request.
     Unexpected,
 }
 
-/// What is printed of an exchange, and how it ended.
+/// What is printed for an exchange, and how it ended.
 #[derive(Debug, PartialEq, Eq, Drop)]
 pub struct Report {
+    /// The lines printed for the replies, each with its newline.
     pub text: String,
+    /// How the exchange ended.
     pub end: End,
 }
 
-/// What is told of a reply.
+/// What is printed for one reply.
 #[derive(Drop)]
 enum Told {
-    /// This text; the exchange goes on.
+    /// This line; the exchange goes on.
     Line(String),
-    /// This refusal, which ends the exchange.
+    /// The line of a refusal, which ends the exchange.
     Refusal(String),
-    /// It is no reply to the request.
+    /// Nothing: the reply does not belong to the request.
     Unexpected,
 }
 
-/// What is printed of the replies to these requests, in order: for a key the line that `type` prints, `state` and where the session
-/// stands, `loaded` and the number of loads, or the first refusal in words, with which the exchange ends. O(bytes of the texts + look-up
-/// of the names).
+/// Returns what is printed for the replies to these requests, in order: for a key the line that
+/// `type` prints, `state` with the status and the pending keys, `loaded` with the number of loads,
+/// or the first refusal in words, which ends the exchange. O(bytes of the texts + look-up of the
+/// names).
+/// Errors: `AllocError` if memory runs out.
 pub fn report_replies(
     alloc: Global,
     names: &Names,
@@ -68,7 +72,7 @@ pub fn report_replies(
     Ok(Report { text, end })
 }
 
-/// Puts what is told of a reply behind the text; the end of the exchange, if it is its last.
+/// Appends the line of a reply to the text. Returns the end of the exchange, if this reply ends it.
 fn push_told(text: &mut String, answered: &Told) -> Result<Option<End>, AllocError>
     ensures { IfOk result
         (λ end. course_of (string_bytes text.new) end
@@ -87,7 +91,7 @@ fn push_told(text: &mut String, answered: &Told) -> Result<Option<End>, AllocErr
     }
 }
 
-/// What is told of a reply to a request, which is to be of its session.
+/// Returns what is printed for a reply to a request. A reply of another session is unexpected.
 fn tell(alloc: Global, names: &Names, request: &Request, reply: &Reply) -> Result<Told, AllocError>
     ensures { IfOk result (λ answer. told_of answer ≡ told names.now request.now reply.now) }
 {
@@ -97,7 +101,7 @@ fn tell(alloc: Global, names: &Names, request: &Request, reply: &Reply) -> Resul
     tell_answer(alloc, names, &request.body, &reply.answer)
 }
 
-/// What is told of an answer.
+/// Returns what is printed for an answer.
 fn tell_answer(
     alloc: Global,
     names: &Names,
@@ -124,7 +128,7 @@ fn tell_answer(
     }
 }
 
-/// The line of a refusal.
+/// Returns the line of a refusal.
 fn tell_refusal(alloc: Global, code: u16) -> Result<String, AllocError>
     ensures { IfOk result (λ line. string_bytes line ≡ refused_line code) }
 {
@@ -132,14 +136,14 @@ fn tell_refusal(alloc: Global, code: u16) -> Result<String, AllocError>
     format!(in alloc; "refused: {why}\n")
 }
 
-/// The line of accepted loads.
+/// Returns the line of a load.
 fn tell_loaded(alloc: Global, count: u64) -> Result<String, AllocError>
     ensures { IfOk result (λ line. string_bytes line ≡ loaded_line count) }
 {
     format!(in alloc; "loaded {count}\n")
 }
 
-/// The word of a status.
+/// Returns the word of a status.
 fn status_word(status: Status) -> &'static str
     ensures { result.now ≡ state_words.status_word status }
 {
@@ -151,7 +155,7 @@ fn status_word(status: Status) -> &'static str
     }
 }
 
-/// The line of a key, as `type` prints it.
+/// Returns the line of a key, as `type` prints it.
 fn tell_key(alloc: Global, status: Status, accepted: bool, text: &str) -> Result<String, AllocError>
     ensures { IfOk result (λ line. string_bytes line ≡ key_line status accepted text.now) }
 {
@@ -166,7 +170,7 @@ fn tell_key(alloc: Global, status: Status, accepted: bool, text: &str) -> Result
     format!(in alloc; "{word} {quoted}\n")
 }
 
-/// The line of a state: the word of its status, and the names of the keys that are pending.
+/// Returns the line of a state: the word of its status, and the names of the pending keys.
 fn tell_state(
     alloc: Global,
     names: &Names,
@@ -182,7 +186,7 @@ fn tell_state(
     Ok(line)
 }
 
-/// Puts the names of the keysyms behind the line, each after a blank.
+/// Appends the names of the keysyms to the line, each after a blank.
 fn push_names(
     alloc: Global,
     line: &mut String,

@@ -5,18 +5,18 @@ use Rattle.std.specs.Str.{chars}
 use Rattle.std.specs.Char.{encode_utf8}
 use Rattle.compose_text.specs.Numbers.{is_between}
 
--- a control, or a character that turns the direction of writing
+-- a control character, or a character that changes the direction of writing
 abbrev pub is_unsafe : ℕ → Bool
 is_unsafe c = is_between 0 0x1f c || is_between 0x7f 0x9f c || is_between 0x202a 0x202e c || is_between 0x2066 0x2069 c
 
--- such a one by its number, any other one itself
+-- such a character by its number, any other as it is
 abbrev pub shown_character : ℕ → List ℕ
 shown_character c = if is_unsafe c then codes "\\u{" ++ digits 16 false c ++ codes "}" else encode_utf8 c
 
 abbrev pub shown_text : List ℕ → List ℕ
 shown_text text = flat_map shown_character (chars text)
 
--- a newline (code 10) itself, any other character as above
+-- a newline (code 10) as it is, any other character as above
 abbrev pub shown_in_lines : ℕ → List ℕ
 shown_in_lines c = if c == 10 then encode_utf8 c else shown_character c
 

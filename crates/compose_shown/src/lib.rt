@@ -1,4 +1,4 @@
-//! What users and files wrote, as a terminal may show it.
+//! Text that users and files wrote, printed so that it is safe to show on a terminal.
 //!
 //! ```text
 //! println!(rt; "{}", Shown("a\u{1b}[2J"))    // a\u{1b}[2J

@@ -1,4 +1,4 @@
-//! What users and files wrote, as it is printed to a terminal.
+//! Text that users and files wrote, as it is printed to a terminal.
 ghost use Rattle.std.specs.Prelude.{◌≡◌, Some, IsOk};
 ghost use Rattle.std.specs.Fmt.{HasWritten, IsPlainFormatter};
 ghost use Rattle.compose_shown.specs.Shown as words;
@@ -6,8 +6,9 @@ ghost use Rattle.compose_shown.specs.Shown.{shown_character, shown_in_lines, sho
 
 use std::fmt;
 
-/// A text, printed so that it can't steer a terminal: a control (U+0000 to U+001F, U+007F to U+009F), and a character that turns the
-/// direction of writing (U+202A to U+202E, U+2066 to U+2069), is printed as `\u{202e}`, any other one as it is.
+/// A text, printed so that it cannot control a terminal. A control character (U+0000 to U+001F,
+/// U+007F to U+009F) or a character that changes the direction of writing (U+202A to U+202E, U+2066
+/// to U+2069) is printed as an escape such as `\u{202e}`, any other as it is.
 #[derive(Clone, Copy, Debug)]
 pub struct Shown<'a>(pub &'a str);
 
@@ -31,7 +32,7 @@ fn write_shown<W: fmt::Write>(text: &str, f: &mut fmt::Formatter<W>) -> fmt::Res
     Ok(())
 }
 
-/// A text of several lines, printed as [`Shown`] prints one, but for its newlines, which stay.
+/// A text of several lines, printed as by [`Shown`], except that its newlines are kept.
 #[derive(Clone, Copy, Debug)]
 pub struct ShownLines<'a>(pub &'a str);
 
@@ -55,7 +56,7 @@ fn write_lines<W: fmt::Write>(text: &str, f: &mut fmt::Formatter<W>) -> fmt::Res
     Ok(())
 }
 
-/// A character of several lines, printed so that it can't steer a terminal.
+/// A character of a text of several lines, printed so that it cannot control a terminal.
 #[derive(Clone, Copy, Debug)]
 struct ShownInLines(char);
 
@@ -71,7 +72,7 @@ impl fmt::Display for ShownInLines {
     }
 }
 
-/// A character, printed so that it can't steer a terminal.
+/// A character, printed so that it cannot control a terminal.
 #[derive(Clone, Copy, Debug)]
 struct ShownCharacter(char);
 
@@ -87,7 +88,7 @@ impl fmt::Display for ShownCharacter {
     }
 }
 
-/// Whether a terminal may take the character for an instruction.
+/// Returns whether a terminal may interpret the character as a command.
 fn is_unsafe(number: u32) -> bool
     ensures { result ≡ words.is_unsafe number }
 {

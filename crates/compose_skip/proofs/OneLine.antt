@@ -1,4 +1,4 @@
--- The fault of a line, by what is read of it.
+-- The fault of a line, given what is read from it.
 use Rattle.std.proofs.Common.{◌≡◌, ◌+◌, ℕ, Bool, true, false, List, [], ◌∷◌, length, cond, refl, sym, ◌∙◌, ap, inl, inr}
 use Rattle.std.specs.Prelude.{Option, Some, None, Result, Ok, Err}
 use Rattle.std.specs.Option.{option_map_or}
@@ -20,7 +20,7 @@ use Rattle.compose_read.specs.declared.ReadFault.{ReadFault}
 use Rattle.compose_read.specs.declared.ReadFault.TheVariants.{NotUtf8, Lex, UnknownKeysym, IgnoredKeysym}
 use Rattle.compose_skip.specs.Faulty.{own, own_fault}
 
--- ---- what is wrong with a production is no include's fault
+-- ---- a fault of a production is not that of an include
 
 abbrev IsOwn : {X : Type 0} → Result X ReadFault → Type 0
 IsOwn r = own (result_err r) ≡ result_err r

@@ -41,7 +41,7 @@ module _ (names : KeysymNames) (sources : List Source) (index : ℕ) (within : i
   count : index ≡ 0 + length (take index sources)
   count = let few : index ≤ length sources = omega (arith, within) in let n = length-take-le index sources few in omega (arith, n)
 
-  -- the source that is read next, as its name and its bytes were given
+  -- the source that is read next, with its name and its bytes
   module _ (name : Option (List ℕ)) (bytes : List ℕ) (named : name ≡ option_map (λ (s : Source). s.name) (slice_get sources index))
       (held : option_map (λ (s : Source). s.bytes) (slice_get sources index) ≡ Some bytes) where
     name_is : unwrap_or name [] ≡ at.name

@@ -10,26 +10,26 @@ use Rattle.compose_read.specs.Lines.{Visit}
 use Rattle.compose_read.specs.Read.{event_keysym, sequence_of}
 use Rattle.compose_read.specs.declared.ReadFault.{ReadFault}
 
--- ---- one step, and then what goes on
+-- ---- one step, and then the next ones
 
 -- a fault of the step is that of both
 pub first_fault : {X Y : Type 0} (r : Result X ReadFault) (next : X → Result Y ReadFault) (fault : ReadFault) → Some fault ≡ result_err r → Some fault ≡ result_err (r >>= next)
 first_fault (Ok x) next fault h = cc
 first_fault (Err e) next fault h = h
 
--- of a step without a fault nothing is left in the fault of both
+-- if the step has no fault, the fault of both is that of the next
 pub no_fault : {X Y : Type 0} (r : Result X ReadFault) (next : X → Result Y ReadFault) (fault : Option ReadFault) → None ≡ result_err r → ((x : X) → fault ≡ result_err (next x))
     → fault ≡ result_err (r >>= next)
 no_fault (Ok x) next fault h k = k x
 no_fault (Err e) next fault h k = cc
 
--- the last step gives its fault
+-- the fault of the last step
 pub last_fault : {X Y : Type 0} (r : Result X ReadFault) (f : X → Y) (fault : Option ReadFault) → fault ≡ result_err r
     → fault ≡ result_err (r >>= (λ x. let y : Result Y ReadFault = Ok (f x) in y))
 last_fault (Ok x) f fault h = h
 last_fault (Err e) f fault h = h
 
--- what holds of a value that is given, if one is
+-- what holds of a value, if there is one
 pub ok_map : {X E : Type 0} (P Q : X → Type 0) (r : Result X E) → ((x : X) → P x → Q x) → IfOk r P → IfOk r Q
 ok_map P Q (Ok x) f h = f x h
 ok_map P Q (Err e) f h = tt
@@ -74,7 +74,7 @@ event_faulty names v events index d fault l h =
     (λ k. sequence_of names v (1 + index) (drop (index + 1) (map (λ e. e.now) events)) >>= (λ s. Ok (k ∷ s))) fault h
     ∙ ap (λ es. result_err (sequence_of names v index es)) (sym (at_event events index d l))
 
--- behind the last event there is none
+-- after the last event there is no fault
 pub events_end : (names : KeysymNames) (v : Visit) (events : List (Bor (List ℕ))) (index : ℕ) → index ≡ length events → fault_from names v events index ≡ None
 events_end names v events index h =
     ap (λ es. result_err (sequence_of names v index es)) (drop_of_length-le (map (λ (e : Bor (List ℕ)). e.now) events) (omega (arith, length-map events (λ (e : Bor (List ℕ)). e.now))))

@@ -1,4 +1,4 @@
--- Sources whose faulty lines are left empty are read as the others are, but for these lines.
+-- Sources whose faulty lines are left empty are read like the original ones, except for these lines.
 use Rattle.std.proofs.Common.{◌≡◌, ◌<◌, ◌+◌, ◌-◌, ℕ, zero, suc, Bool, true, false, not, List, [], ◌∷◌, ◌++◌, length, map, flat_map, get_or, cond, refl, sym, ◌∙◌, ap, ap₂, inl, inr, arith, nat_lt, ltb-true}
 use Rattle.std.specs.Prelude.{Option, Some, None, is_some, filter, Result, Ok, Err, bytes_eq}
 use Rattle.std.specs.List.{cons_option, filter_map}
@@ -83,7 +83,7 @@ numbered_kept names source depth number (line ∷ lines) =
     let v : Visit = record { source = source; line = number; bytes = line; depth = depth } in
     ap₂ (λ bytes vs. let v : Visit = record { source = source; line = number; bytes = bytes; depth = depth } in v ∷ vs) (same_kept names v 0) (numbered_kept names source depth (1 + number) lines)
 
--- ---- an empty line says nothing
+-- ---- an empty line defines nothing
 
 empty_is_text : is_utf8 [] ≡ true
 empty_is_text = is_utf8-from_IsUtf8 [] IsUtf8-nil
@@ -122,7 +122,7 @@ same_lines names index (suc at) (s ∷ sources) (o ∷ others) d are within =
     same_lines names (1 + index) at sources others d are.2 (omega (arith, within)) ∙ ap (λ n. map (kept_line names) (lines_in n (get_or sources at d).bytes)) next
 
 module _ (names : KeysymNames) (sources others : List Source) (are : AreOthers names sources others) where
-  -- ---- what a line gives
+  -- ---- the result of a line
 
   same_include : (v : Visit) (name : List ℕ) → include_fault others v name ≡ include_fault sources v name
   same_include v name =
@@ -138,7 +138,7 @@ module _ (names : KeysymNames) (sources others : List Source) (are : AreOthers n
       go (Ok (include name)) = same_include v name
       go (Ok (production events raw name)) = refl
 
-  -- a faulty line that is left empty gives nothing, and each other one what it gave
+  -- a faulty line that is left empty defines nothing, and any other one has the same result as before
   pub kept_gives : (v : Visit) → line_gives names others (kept_visit names v) ≡ cond (is_faulty names v) (Ok None) (line_gives names sources v)
   kept_gives v = elim (cases_Bool (is_faulty names v)) [
     | inl h ↦ ap (λ b. line_gives names others (record { source = v.source; line = v.line; bytes = cond b [] v.bytes; depth = v.depth })) h
@@ -254,7 +254,7 @@ module _ (names : KeysymNames) (sources others : List Source) (are : AreOthers n
           ∙ ap (given names others) (visits_kept max_depth (source_named sources root) within)
           ∙ given_kept (visits sources (source_named sources root))
 
--- ---- no line is faulty any more
+-- ---- no line is faulty any longer
 
 kept_is_right : (names : KeysymNames) (v : Visit) → own_fault names (kept_visit names v) ≡ None
 kept_is_right names v = elim (cases_Bool (is_faulty names v)) [

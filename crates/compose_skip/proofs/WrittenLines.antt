@@ -1,4 +1,4 @@
--- Lines that are written, each with its newline, are just these lines.
+-- Lines that are written, each with its newline, are read as exactly these lines.
 use Rattle.std.proofs.Common.{◌≡◌, ◌+◌, ℕ, Bool, true, false, not, List, [], ◌∷◌, ◌++◌, cond, map, refl, sym, ◌∙◌, ap, inl, inr, append_assoc}
 use Rattle.std.specs.Prelude.{◌==◌, Option, Some, None, option_to_list}
 use Rattle.std.specs.List.{cons_option, filter_map, list_all}
@@ -65,7 +65,7 @@ put_before : {Y : Type 0} (o : Option Y) (ys : List Y) → option_to_list o ++ y
 put_before None ys = refl
 put_before (Some y) ys = refl
 
--- its fault after those that were found
+-- its fault after those that were found before
 pub found_more : {X Y : Type 0} (f : X → Option Y) (v : X) (vs : List X) (found more whole : List Y) → found ++ filter_map f (v ∷ vs) ≡ whole
     → more ≡ found ++ option_to_list (f v) → more ++ filter_map f vs ≡ whole
 found_more f v vs found more whole h e =

@@ -1,4 +1,4 @@
--- Faulty lines, and sources without them (libxkbcommon, which skips a faulty line and reads on).
+-- Faulty lines, and sources without them (like libxkbcommon, which skips a faulty line and reads on).
 use Rattle.std.specs.Prelude.{◌≡◌, ◌+◌, ℕ, Bool, if◌then◌else◌, List, [], ◌∷◌, ◌++◌, map, Option, Some, None, is_some}
 use Rattle.std.specs.List.{filter_map}
 use Rattle.keysym_core.specs.Names.{KeysymNames}
@@ -9,20 +9,20 @@ use Rattle.compose_read.specs.declared.ReadFault.TheVariants.{MissingInclude, In
 
 -- ---- a line
 
--- the fault, if it is that of the line itself: that of an include is one of the files
+-- the fault, if it is one of the line itself; a fault of an include depends on the files
 abbrev pub own : Option ReadFault → Option ReadFault
 own (Some (MissingInclude source line)) = None
 own (Some (IncludeDepth source line)) = None
 own fault = fault
 
--- the line's own fault, which it has among any sources
+-- the line's own fault, which it has with any sources
 abbrev pub own_fault : KeysymNames → Visit → Option ReadFault
 own_fault names v = own (fault_of names [] v)
 
 abbrev pub is_faulty : KeysymNames → Visit → Bool
 is_faulty names v = is_some (own_fault names v)
 
--- the line's bytes; a faulty one is left empty
+-- the bytes of the line; a faulty one is left empty
 abbrev pub kept_line : KeysymNames → Visit → List ℕ
 kept_line names v = if is_faulty names v then [] else v.bytes
 
@@ -32,7 +32,8 @@ kept_line names v = if is_faulty names v then [] else v.bytes
 abbrev pub lines_in : ℕ → List ℕ → List Visit
 lines_in source bytes = numbered source 0 1 (source_lines bytes)
 
--- the sources have the same names as those from this index on, and the same lines, of which the faulty ones are left empty
+-- the sources have the same names as those from this index on, and the same lines, except that the faulty ones are left
+-- empty
 abbrev pub AreOthersFrom : KeysymNames → ℕ → List Source → List Source → Type 0
 AreOthersFrom names index [] [] = Unit {0}
 AreOthersFrom names index (s ∷ sources) (o ∷ others) =

@@ -1,4 +1,4 @@
--- What is read of sources whose faulty lines are left empty.
+-- What is read from sources whose faulty lines are left empty.
 use Rattle.std.specs.Prelude.{ℕ, not, List, filter, flat_map}
 use Rattle.keysym_core.specs.Names.{KeysymNames}
 use Rattle.compose_model.specs.Table.{Definition}
@@ -7,14 +7,14 @@ use Rattle.compose_read.specs.Lines.{Source, Visit, source_named, visits}
 use Rattle.compose_read.specs.Read.{line_gives}
 use Rattle.compose_skip.specs.Faulty.{is_faulty, kept_line}
 
--- the line, where it is met; a faulty one is left empty
+-- the line as it is visited; a faulty one is left empty
 abbrev pub kept_visit : KeysymNames → Visit → Visit
 kept_visit names v = record { source = v.source; line = v.line; bytes = kept_line names v; depth = v.depth }
 
--- all lines that are read from the root but the faulty ones
+-- all lines that are read from the root, except for the faulty ones
 abbrev pub other_visits : KeysymNames → List Source → List ℕ → List Visit
 other_visits names sources root = filter (λ v. not (is_faulty names v)) (visits sources (source_named sources root))
 
--- the definitions that these give
+-- the definitions on these lines
 abbrev pub other_definitions : KeysymNames → List Source → List ℕ → List Definition
 other_definitions names sources root = flat_map (λ v. definitions_in (line_gives names sources v)) (other_visits names sources root)

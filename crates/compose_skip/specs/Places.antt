@@ -1,4 +1,4 @@
--- The line at a place. Words for private functions.
+-- The line at a position. Definitions for private functions.
 use Rattle.std.specs.Prelude.{ℕ, List}
 use Rattle.compose_read.specs.Lines.{Visit}
 use Rattle.compose_skip.specs.declared.line.Place.{Place}

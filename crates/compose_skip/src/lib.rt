@@ -1,13 +1,15 @@
-//! A table without its faulty lines, as libxkbcommon reads one: each faulty line is left empty, and reported.
+//! A table without its faulty lines, as libxkbcommon reads one: each faulty line is left empty, and
+//! reported.
 //!
-//! A line is faulty where it has a fault wherever it is read: it isn't UTF-8, it has a syntax error, its string is no text, or it has
-//! a name that no keysym has, or an ignored keysym in its sequence. An include that leads nowhere, or too deep, is none: it refuses
-//! the table, here as in libxkbcommon.
+//! A line is faulty if it has a fault in any table: it is not UTF-8, it has a syntax error, the raw
+//! text of its string has a fault, it has a name that is not that of a keysym, or an ignored keysym
+//! in its sequence. An include of a missing file, or one that is nested too deeply, does not make a
+//! line faulty: the whole table is rejected because of it, here as in libxkbcommon.
 //!
 //! ```text
-//! <Multi_key> <a> : "x"            <Multi_key> <a> : "x"
-//! <Multi_kei> <b> : "y"      ->                                # 4 UnknownKeysym source=0 line=2 index=0
-//! include "%L"                     include "%L"
+//! <Multi_key> <a> : "x"      <Multi_key> <a> : "x"
+//! <Multi_kei> <b> : "y"   ->                             # 4 UnknownKeysym source=0 line=2 index=0
+//! include "%L"               include "%L"
 //! ```
 #![tactic(auto)]
 
@@ -25,8 +27,9 @@ mod others;
 
 pub use others::{OtherLines, other_lines};
 
-/// The table that is read without the faulty lines is that of the other lines: what each of these gives, in order. None of them is faulty,
-/// and wherever a line is read, a faulty one gives nothing, and each other one what it gave among the sources as they were.
+/// The table that is read without the faulty lines has the definitions of the other lines, in
+/// order. None of these lines is faulty. Wherever a line is read, a faulty one has no definition,
+/// and any other one has the same result as in the original sources.
 pub fn law_other_lines()
     ensures table { (names : KeysymNames) (sources others : List Source) (root : List ℕ)
         (table : List Definition) → AreOthers names sources others

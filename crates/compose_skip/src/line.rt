@@ -13,17 +13,17 @@ use compose_read::ReadFault;
 use keysym_core::Names;
 use std::alloc::{AllocError, Global};
 
-/// The place of a line: the index of its source, and its number from 1.
+/// The position of a line: the index of its source, counted from 0, and its number, counted from 1.
 #[derive(Clone, Copy)]
 pub(crate) struct Place {
     pub(crate) source: usize,
     pub(crate) line: usize,
 }
 
-/// The names of the events of the line that was read last. Each line uses the list anew.
+/// The names of the events of the last line that was read. The list is cleared for each line.
 pub(crate) type Events<'a> = ArrayVec<&'a str, 32>;
 
-/// The fault of the line at this place by itself, if it has one. O(bytes).
+/// Returns the fault of the line at this position by itself, if it has one. O(bytes).
 pub(crate) fn line_fault<'a>(
     alloc: Global,
     names: &Names,
@@ -57,7 +57,7 @@ pub(crate) fn line_fault<'a>(
     }
 }
 
-/// The fault of a line's part at this place.
+/// Returns the fault of a part of the line at this position.
 fn lex_fault(place: Place, fault: LexFault) -> ReadFault
     ensures { result ≡ Lex place.source place.line fault }
 {
@@ -69,7 +69,7 @@ fn lex_fault(place: Place, fault: LexFault) -> ReadFault
     }
 }
 
-/// The fault of the production of these parts, if it has one.
+/// Returns the fault of the production with these parts, if it has one.
 fn production_fault(
     alloc: Global,
     names: &Names,
@@ -93,7 +93,7 @@ fn production_fault(
     Ok(result_fault(names, place, events.len(), result_name))
 }
 
-/// The fault of the first event that has one.
+/// Returns the fault of the first event that has one.
 fn events_fault(names: &Names, place: Place, events: &[&str]) -> Option<ReadFault>
     ensures { (bytes : List ℕ) → result
         ≡ result_err
@@ -107,7 +107,7 @@ fn events_fault(names: &Names, place: Place, events: &[&str]) -> Option<ReadFaul
     None
 }
 
-/// The fault of the event at this index, if it has one.
+/// Returns the fault of the event at this index, if it has one.
 fn event_fault(names: &Names, place: Place, index: usize, event: &str) -> Option<ReadFault>
     ensures { (bytes : List ℕ) → result
         ≡ result_err
@@ -129,7 +129,7 @@ fn event_fault(names: &Names, place: Place, index: usize, event: &str) -> Option
     }
 }
 
-/// The fault of a raw text, if it is there and has one.
+/// Returns the fault of a raw text, if there is one and it has a fault.
 fn text_fault(
     alloc: Global,
     place: Place,
@@ -149,7 +149,8 @@ fn text_fault(
     }
 }
 
-/// The fault of the name of a result keysym, if it is there and has one; so many events are before it.
+/// Returns the fault of the name of a result keysym, if there is one and it has a fault; `events`
+/// is the number of events before it.
 fn result_fault(
     names: &Names,
     place: Place,

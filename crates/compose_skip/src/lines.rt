@@ -11,8 +11,9 @@ use compose_text::first_line;
 use keysym_core::Names;
 use std::alloc::{AllocError, Global};
 
-/// The source with this index, of these bytes, with its faulty lines left empty; their faults are added to the others. What it gives begins
-/// with a byte order mark and ends in a newline, so that it has just these lines. O(bytes).
+/// Returns the bytes of the source with this index, with its faulty lines left empty, and adds
+/// their faults to the others. The result begins with a byte order mark, and each line ends in a
+/// newline, so that it has exactly these lines. O(bytes).
 pub(crate) fn other_bytes(
     alloc: Global,
     names: &Names,
@@ -42,7 +43,7 @@ pub(crate) fn other_bytes(
     Ok(kept)
 }
 
-/// Adds a line, which is left empty where it has a fault, and the fault.
+/// Adds a line, which is left empty if it has a fault, and the fault.
 fn push_line(
     kept: &mut Vec<u8>,
     faults: &mut Vec<ReadFault>,
@@ -61,7 +62,7 @@ fn push_line(
     Ok(())
 }
 
-/// The bytes without a byte order mark at their beginning.
+/// Returns the bytes without a leading byte order mark.
 fn without_mark(bytes: &[u8]) -> &[u8]
     ensures { result.now ≡ without_mark bytes.now }
 {

@@ -10,13 +10,17 @@ use std::alloc::{AllocError, Global};
 /// Sources in which faulty lines are left empty, and the faults of these lines.
 #[derive(Drop)]
 pub struct OtherLines {
+    /// The sources, with their names and in their order; all other lines keep their numbers.
     pub sources: Sources,
-    /// In the order of the sources and of their lines.
+    /// The faults, in the order of the sources and of their lines.
     pub faults: Vec<ReadFault>,
 }
 
-/// The sources with their faulty lines left empty, so that all other lines keep their numbers, and the fault of each of these. The sources
-/// then begin with a byte order mark and end in a newline. O(bytes).
+/// Returns the sources with their faulty lines left empty, so that all other lines keep their
+/// numbers, and the fault of each faulty line. Each source then begins with a byte order mark, and
+/// each of its lines ends in a newline. O(bytes).
+///
+/// Errors: `AllocError` if memory runs out.
 pub fn other_lines(
     alloc: Global,
     names: &Names,
@@ -37,7 +41,7 @@ pub fn other_lines(
     })
 }
 
-/// Adds a source of this name behind the others.
+/// Adds a source with this name after the others.
 fn add_source(others: &mut Sources, name: Option<&str>, bytes: Vec<u8>) -> Result<(), AllocError>
     ensures { OnOk result
         (others.new

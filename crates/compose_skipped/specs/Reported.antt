@@ -1,4 +1,4 @@
--- What is reported of lines that are left out (this project's profile).
+-- The report of skipped lines (this project's format).
 use Rattle.std.specs.Prelude.{ℕ, ◌+◌, ◌==◌, if◌then◌else◌, List, [], ◌∷◌, ◌++◌, flat_map, length, map, get_or, Some, string_bytes, codes}
 use Rattle.std.specs.Fmt.{decimal}
 use Rattle.std.specs.Option.{option_map_or}
@@ -17,11 +17,11 @@ use Rattle.compose_skipped.specs.Kept.{skipped_faults}
 abbrev pub path_of : List (List ℕ) → ℕ → List ℕ
 path_of paths source = get_or paths source []
 
--- a file, a place in it, and what is said there (code 10 ends the line)
+-- a file, a place in it, and a message (code 10 ends the line)
 abbrev pub said_at : List ℕ → Position → List ℕ → List ℕ
 said_at path position said = codes "composecheck: " ++ shown_text path ++ position_text (Some position) ++ codes ": " ++ said ++ 10 ∷ []
 
--- of a fault
+-- the line of a fault
 abbrev pub skipped_line : List Source → List (List ℕ) → ReadFault → List ℕ
 skipped_line sources paths fault = option_map_or (λ (at : ℕ × Position). said_at (path_of paths at.0) at.1 (read_said sources fault)) (position_of sources fault) []
 
@@ -30,7 +30,7 @@ fault_lines table faults = flat_map (skipped_line table.sources (map string_byte
 
 -- ---- the report
 
--- the lines, and how many lines are left out
+-- the lines, and the number of skipped lines
 pub record Reported : Type 0 where
   pub lines : List ℕ
   pub count : ℕ
@@ -38,18 +38,18 @@ pub record Reported : Type 0 where
 abbrev pub nothing : Reported
 nothing = record { lines = []; count = 0 }
 
--- with these faults of a table too
+-- the report with these faults of a table too
 abbrev pub with_faults : Reported → TableFiles → List ReadFault → Reported
 with_faults r table faults = record { lines = r.lines ++ fault_lines table faults; count = r.count + length faults }
 
--- the last line, which says how many lines are left out
+-- the last line, which has the number of skipped lines
 abbrev pub count_line : ℕ → List ℕ
 count_line count = if count == 1 then codes "1 faulty line left out\n" else decimal count ++ codes " faulty lines left out\n"
 
 abbrev pub report_of : Reported → List ℕ
 report_of r = r.lines ++ count_line r.count
 
--- the lines that are left out of these tables, and their number
+-- the report of the skipped lines of these tables
 abbrev pub report_text : List ℕ → List TableFiles → List ℕ
 report_text header tables =
     flat_map (λ table. fault_lines table (skipped_faults header table)) tables ++ count_line (length (flat_map (λ table. skipped_faults header table) tables))

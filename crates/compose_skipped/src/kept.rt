@@ -12,8 +12,9 @@ use compose_skip::{OtherLines, other_lines};
 use keysym_core::{NameFault, Names};
 use std::alloc::{AllocError, Global};
 
-/// The table without its faulty lines by the names of this header, which are added to the report; the table as it is, where the header is refused.
-/// O(bytes).
+/// Returns the table without its faulty lines, by the names of this header, and adds these lines to
+/// the report. If the header is refused, the table is returned unchanged. O(bytes).
+/// Errors: `AllocError` if memory runs out.
 pub fn kept_table(
     alloc: Global,
     header: &[u8],
@@ -36,14 +37,15 @@ pub fn kept_table(
     }
 }
 
-/// The table with these sources.
+/// Returns the table with these sources.
 fn with_sources(table: TableFiles, sources: Sources) -> TableFiles
     ensures { IsOtherTable table sources result }
 {
     TableFiles { sources, ..table }
 }
 
-/// The other lines of these sources by the names of this header; none where the header is refused.
+/// Returns the lines of these sources that have no fault by the names of this header, and the
+/// faults of the others; `None` if the header is refused.
 pub(crate) fn others_by(
     alloc: Global,
     header: &[u8],

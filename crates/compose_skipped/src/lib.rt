@@ -1,4 +1,4 @@
-//! The tables that commands read, without their faulty lines, and the report of these.
+//! Tables that commands read, without their faulty lines, and a report of these lines.
 //!
 //! ```text
 //! composecheck: home/.XCompose:12:13: no keysym has the name "Multi_kei"

@@ -1,4 +1,4 @@
-//! The report of lines that are left out.
+//! The report of skipped lines.
 ghost use Rattle.std.specs.Prelude.{◌≡◌, ◌++◌, flat_map, map, OnOk, string_bytes};
 ghost use Rattle.compose_skipped.specs.Reported as words;
 ghost use Rattle.compose_skipped.specs.Kept as kept_words;
@@ -11,7 +11,7 @@ use std::alloc::{AllocError, Global};
 use std::fmt::Write;
 use std::marker::Model;
 
-/// The report of lines that are left out: a line for each, and how many they are.
+/// The report of skipped lines: a line for each, and their number.
 #[derive(Drop)]
 pub struct Report {
     lines: String,
@@ -32,7 +32,7 @@ impl Report {
     ghost use Rattle.compose_skipped.specs.Reported as words;
     ghost use Rattle.compose_skipped.specs.Kept as kept_words;
 
-    /// No line is left out.
+    /// Returns the report without any lines.
     pub fn new(alloc: Global) -> Report
         ensures { result ≡ words.nothing }
     {
@@ -54,7 +54,9 @@ impl Report {
         Ok(())
     }
 
-    /// Adds the faulty lines of a table by the names of this header; none, where the header is refused. O(bytes).
+    /// Adds the faulty lines of a table, by the names of this header; none if the header is
+    /// refused. O(bytes).
+    /// Errors: `AllocError` if memory runs out.
     pub fn push(
         &mut self,
         alloc: Global,
@@ -72,7 +74,8 @@ impl Report {
         }
     }
 
-    /// The lines, and a last one that counts them.
+    /// Returns the lines, followed by one with their number.
+    /// Errors: `AllocError` if memory runs out.
     pub fn into_text(self) -> Result<String, AllocError>
         ensures { IfOk result (λ text. string_bytes text ≡ words.report_of self) }
     {
@@ -129,7 +132,7 @@ fn push_fault(
     Ok(())
 }
 
-/// The path of the file of the source with this index; nothing where there is none.
+/// Returns the path of the file of the source with this index; an empty text if there is none.
 fn path_of(paths: &[String], source: usize) -> &str
     ensures { result.now ≡ words.path_of (map string_bytes paths.now) source }
 {

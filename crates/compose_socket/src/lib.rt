@@ -1,5 +1,6 @@
-//! The socket of a service: a file that has its mode from its first moment, that is never put over another file, and that other
-//! users cannot reach before it is ready; or a socket that systemd hands over.
+//! The socket of a service. It is either a file that has its mode from the start, never replaces
+//! another file, and can't be reached by other users before it is ready; or a socket that systemd
+//! passes.
 //!
 //! ```text
 //! let socket = SocketFile { path: "compose.socket", mode: 0o600, replace: false };
@@ -7,8 +8,8 @@
 //! for stream in listener.incoming() { .. }
 //! ```
 //!
-//! What a file system holds can't be said in a contract, so these functions are proved safe and total, and the rest is tested over
-//! real sockets.
+//! A contract can't say what a file system holds. So these functions are proved safe and total, and
+//! the rest is tested over real sockets.
 #![tactic(auto)]
 
 mod handed_over;

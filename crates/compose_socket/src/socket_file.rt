@@ -1,4 +1,4 @@
-//! A socket file that is made with its mode.
+//! A socket file that is created with its mode.
 use std::alloc::AllocError;
 use std::fs::{DirBuilder, Permissions};
 use std::net::Net;
@@ -11,13 +11,13 @@ use thiserror::Error;
 /// Why no socket is bound.
 #[derive(Clone, Copy, Debug, PartialEq, Eq, Drop, Error)]
 pub enum SocketFault {
-    /// Something stands at the path that is not to be replaced.
+    /// The path exists, and what is there may not be replaced.
     #[error("1 Taken")]
     Taken,
-    /// The system refused a call, and why.
+    /// The system refused a call, with this kind of error.
     #[error("2 System")]
     System(io::ErrorKind),
-    /// Memory was refused.
+    /// Memory ran out.
     #[error("3 NoMemory")]
     NoMemory,
 }
@@ -38,20 +38,24 @@ impl From<AllocError> for SocketFault {
     }
 }
 
-/// Where a socket's file is made, and how.
+/// The place and the mode of a socket's file.
 #[derive(Clone, Copy, Debug)]
 pub struct SocketFile<'p> {
     /// The path of the file, of at most 95 bytes.
     pub path: &'p str,
     /// Who may connect, as the mode of a file: 0o600 is the user alone.
     pub mode: u32,
-    /// Whether a socket that nobody listens on is replaced.
+    /// Whether a socket on which nobody listens is replaced.
     pub replace: bool,
 }
 
 impl SocketFile<'_> {
-    /// Listens on a new socket file. It is bound in a folder that is made for it beside the path and that this user alone may enter,
-    /// is given its mode there, and then linked into its place, which does not replace what stands there.
+    /// Listens on a new socket file. The socket is bound in a new folder beside the path, which
+    /// only this user may enter, gets its mode there, and is then linked to the path, which
+    /// replaces nothing.
+    /// Errors: `Taken` if the path exists, unless `replace` is set and a socket is there on which
+    /// nobody listens; also if the new folder exists. `System` with the kind of error if the system
+    /// refuses a call. `NoMemory` if memory runs out.
     pub fn bind(
         &self,
         rt: &(impl Files + Net + AllocGlobal),
@@ -67,7 +71,7 @@ impl SocketFile<'_> {
         bound
     }
 
-    /// Binds in the folder, and links the socket into its place.
+    /// Binds in the folder, and links the socket to the path.
     fn bind_inside(
         &self,
         rt: &(impl Files + Net + AllocGlobal),
@@ -81,7 +85,7 @@ impl SocketFile<'_> {
         Ok(listener)
     }
 
-    /// Gives the socket its mode, and links it into its place.
+    /// Sets the mode of the socket, and links it to the path.
     fn place(&self, rt: &impl Files, inside: &str) -> Result<(), SocketFault> {
         fs::set_permissions(rt, inside, Permissions::from_mode(self.mode))?;
         fs::hard_link(rt, inside, self.path)?;
@@ -89,7 +93,7 @@ impl SocketFile<'_> {
     }
 }
 
-/// Removes the file at the path if it is a socket that nobody listens on.
+/// Removes the file at the path if it is a socket on which nobody listens.
 fn remove_unused(rt: &(impl Files + Net), path: &str) -> Result<(), SocketFault> {
     let Ok(found) = fs::symlink_metadata(rt, path) else {
         return Ok(());

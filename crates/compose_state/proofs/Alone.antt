@@ -1,4 +1,4 @@
--- What a key does to a session where no names are known.
+-- The effect of a key on a session without keysym names.
 use Rattle.std.proofs.Common.{◌≡◌, ℕ, List, [], Bool, true, false, not, sym, refl, ◌∙◌, ap, Option, Some, None}
 use Rattle.keysym_core.specs.Keysym.{is_ignored}
 use Rattle.keysym_core.specs.Names.{KeysymNames}

@@ -1,4 +1,4 @@
--- What a key does to a session, by the target behind what is pending.
+-- The effect of a key on a session, by the target after the pending keysyms.
 use Rattle.std.proofs.Common.{◌≡◌, subst, ℕ, ◌<◌, List, [], ◌∷◌, ◌++◌, Bool, true, false, length, not, refl, sym, ◌∙◌, ap, ap₂, ◌+◌, Option, Some, None, arith, unwrap_or}
 use Rattle.std.proofs.lemmas.List.{length-append}
 use Rattle.keysym_core.specs.Keysym.{is_ignored}
@@ -29,7 +29,7 @@ fed_by table s k x e = ap (λ y. let t : Session = record { pending = pending_by
 pub effect_is_by : (table : List Definition) (p : List ℕ) (k : ℕ) (t : Option Target) → is_ignored k ≡ false → target_of table p k ≡ t → effect table p k ≡ effect_at (is_empty p) t
 effect_is_by table p k t fed e = effect_by_target table p k fed ∙ ap (effect_at (is_empty p)) e
 
--- what a key that is not ignored does to a session where it leads to this target
+-- the effect on a session of a key that is not ignored and leads to this target
 module _ (table : List Definition) (s : Session) (k : ℕ) (t : Option Target) (accepted : is_ignored k ≡ false) (leads : target_of table s.pending k ≡ t) where
   -- the session after it
   pub session_after : (u : List ℕ) (status : Status) → u ≡ pending_by (effect_at (is_empty s.pending) t) s.pending k → status ≡ status_by (effect_at (is_empty s.pending) t) s.status
@@ -38,7 +38,7 @@ module _ (table : List Definition) (s : Session) (k : ℕ) (t : Option Target) (
       ap₂ (λ (v : List ℕ) (x : Status). let after : Session = record { pending = v; status = x } in after) e f
       ∙ sym (fed_by table s k (effect_at (is_empty s.pending) t) (effect_is_by table s.pending k t accepted leads))
 
-  -- the answer to it, where the session is another name of this one
+  -- the answer to it, if the session is another name of this one
   pub answered : (same : Session) → s ≡ same → (names : KeysymNames) (answer : Fed) → answer.accepted ≡ true → answer.status ≡ status_by (effect_at (is_empty s.pending) t) s.status
       → text_bytes answer.text ≡ text_by (effect_at (is_empty s.pending) t) names table s.pending k → ComesFrom (effect_at (is_empty s.pending) t) answer.text → IsFed names table same k answer
   answered same is names answer e f g from = record {
@@ -48,24 +48,24 @@ module _ (table : List Definition) (s : Session) (k : ℕ) (t : Option Target) (
     source = subst (λ x. ComesFrom x answer.text) (sym (effect_is_by table s.pending k t accepted leads) ∙ ap (λ x. effect table x.pending k) is) from;
   }
 
--- the text of the leaf where the key leads is the one that its step commits
+-- the text of the leaf to which the key leads is the one that its step commits
 pub leaf_commits : (table : List Definition) (p : List ℕ) (k : ℕ) (l : LeafId) (text : List ℕ) → target_of table p k ≡ Some (Leaf l) → leaf_text table l.0 ≡ Some text
     → text ≡ unwrap_or (text_at table (p ++ k ∷ [])) []
 leaf_commits table p k l text e f = ap (λ o. unwrap_or o []) (sym f ∙ (to_leaf table p k l e).text)
 
--- where a key leads on to a node, fewer than 31 keysyms were pending before it
+-- if a key leads on to a node, fewer than 31 keysyms were pending before it
 pub node_room : (table : List Definition) (p : List ℕ) (k : ℕ) (n : NodeId) → is_table table ≡ true → target_of table p k ≡ Some (Node n) → length p < 31
 node_room table p k n sound e =
     let short : length (p ++ k ∷ []) < 32 = extended_short table (p ++ k ∷ []) sound (to_node table p k n e).extended in
     let long : length (p ++ k ∷ []) ≡ length p + 1 = length-append p (k ∷ []) in
     omega arith
 
--- where the key leads nowhere, it passes at rest and else cancels
+-- a key that leads nowhere passes at rest, and else cancels
 abbrev pub session_apart : Session → Session
 session_apart s = if is_empty s.pending then record { pending = []; status = Nothing } else record { pending = []; status = Cancelled }
 
 module _ (table : List Definition) (s : Session) (k : ℕ) (accepted : is_ignored k ≡ false) (nowhere : target_of table s.pending k ≡ None) where
-  -- a key that leads nowhere leaves this session
+  -- the session after a key that leads nowhere
   pub fed_apart : session_apart s ≡ fed table s k
   fed_apart = go (is_empty s.pending) ∙ sym (fed_by table s k (effect_at (is_empty s.pending) None) (effect_is_by table s.pending k None accepted nowhere))
     where
@@ -94,7 +94,8 @@ module _ (table : List Definition) (s : Session) (k : ℕ) (accepted : is_ignore
       same_text true = refl
       same_text false = refl
 
--- a key that leads somewhere, where typing again what is pending leaves it pending: refeeding first makes no difference
+-- a key that leads somewhere, if typing the pending keysyms again leaves them pending: refeeding first makes no
+-- difference
 module _ (table : List Definition) (s : Session) (k : ℕ) (t : Target) (accepted : is_ignored k ≡ false) (leads : target_of table s.pending k ≡ Some t)
     (again : pending table s.pending ≡ s.pending) where
   refed_effect : effect table (loaded table s).pending k ≡ effect_at (is_empty s.pending) (Some t)
@@ -109,13 +110,13 @@ module _ (table : List Definition) (s : Session) (k : ℕ) (t : Target) (accepte
       (sym e)
   same_after u x y (Leaf l) e = refl
 
-  -- the session after the key is the same, whether or not what was pending is typed again first
+  -- the session after the key is the same, whether or not the pending keysyms are typed again first
   pub refed_fed : fed table s k ≡ fed table (loaded table s) k
   refed_fed =
       fed_by table s k (effect_at (is_empty s.pending) (Some t)) (effect_is_by table s.pending k (Some t) accepted leads)
       ∙ same_after (loaded table s).pending s.status (loaded table s).status t again ∙ sym (fed_by table (loaded table s) k (effect_at (is_empty s.pending) (Some t)) refed_effect)
 
-  -- the answer to the key is the same, whether or not what was pending is typed again first
+  -- the answer to the key is the same, whether or not the pending keysyms are typed again first
   pub refed_answered : (names : KeysymNames) (answer : Fed) → IsFed names table s k answer → IsFed names table (loaded table s) k answer
   refed_answered names answer h = record {
     accepted = h.accepted;

@@ -1,4 +1,4 @@
--- Nodes on the way along a list of keysyms.
+-- Nodes on the path along a list of keysyms.
 use Rattle.std.proofs.Common.{◌≡◌, ℕ, ◌+◌, ◌<◌, ◌≤◌, List, [], ◌∷◌, ◌++◌, Bool, true, false, cond, length, take, drop, get_or, ◌≢◌, refl, sym, ◌∙◌, ap, subst, Option, Some, None, arith, leb-true}
 use Rattle.std.specs.Prelude.{◌==◌, ◌&&◌, not, nat_lt, nat_le}
 use Rattle.std.specs.List.{list_all}
@@ -55,7 +55,7 @@ node_prefix table (j ∷ p) w h =
     (list_any-weaker (λ (d : Definition). is_proper_prefix (j ∷ p ++ w) d.sequence) (λ d. is_proper_prefix (j ∷ p) d.sequence) (λ d. shorter_prefix (j ∷ p) w d.sequence) table
     (sym (node_means table (j ∷ p ++ w)) ∙ h))
 
--- what a sequence extends is shorter than 32 keysyms
+-- a list that a sequence extends is shorter than 32 keysyms
 pub extended_short : (table : List Definition) (p : List ℕ) → is_table table ≡ true → is_extended table p ≡ true → length p < 32
 extended_short table p sound h =
     let d = both_at is_definition (λ (d : Definition). is_proper_prefix p d.sequence) table sound h in
@@ -69,7 +69,7 @@ extended_short table p sound h =
 
 -- ---- targets along a list
 
--- a key whose target is a node leads to the list with one keysym more, which is that node
+-- a key whose target is a node leads to the list with one more keysym, which is that node
 pub to_node : (table : List Definition) (p : List ℕ) (k : ℕ) (n : NodeId) → target_of table p k ≡ Some (Node n) → ToNode table p k n
 to_node table p k n e = subst (Leads table p k) e (leads table p k)
 
@@ -77,7 +77,7 @@ to_node table p k n e = subst (Leads table p k) e (leads table p k)
 pub to_leaf : (table : List Definition) (p : List ℕ) (k : ℕ) (l : LeafId) → target_of table p k ≡ Some (Leaf l) → ToLeaf table p k l
 to_leaf table p k l e = subst (Leads table p k) e (leads table p k)
 
--- behind a list that is no node nothing stands
+-- after a list that is no node there is no target
 pub no_node_no_target : (table : List Definition) (p : List ℕ) (k : ℕ) → is_node table p ≡ false → target_of table p k ≡ None
 no_node_no_target table p k h = go (target_of table p k) refl (leads table p k)
   where
@@ -91,16 +91,16 @@ no_node_no_target table p k h = go (target_of table p k) refl (leads table p k)
 
 -- ---- a walk along the keysyms
 
--- the first so many keysyms are the node with this number
+-- the first `count` keysyms are the node with this number
 pub record IsAt (table : List Definition) (keys : List ℕ) (count number : ℕ) : Type 0 where
   pub is_node : is_node table (take count keys) ≡ true
   pub numbered : number_of table (take count keys) ≡ number
 
--- no keysyms at all are the root, whose number is 0
+-- an empty list of keysyms is the root, whose number is 0
 pub at_root : (table : List Definition) (keys : List ℕ) → IsAt table keys 0 0
 at_root table keys = record { is_node = root_is_node table; numbered = root_number table }
 
--- the number of a node on the way is below the count of the table's nodes
+-- the number of a node on the path is below the number of the table's nodes
 pub at_in_range : (table : List Definition) (keys : List ℕ) (count number : ℕ) → IsAt table keys count number → number < length (nodes table)
 at_in_range table keys count number at = subst (λ n. n < length (nodes table)) at.numbered (number_below table (take count keys) at.is_node)
 
@@ -110,7 +110,7 @@ at_prefix table keys count number at = ap (node table) (sym at.numbered) ∙ nod
 longer_by : (keys : List ℕ) (count k d : ℕ) → count < length keys → k ≡ get_or keys count d → take count keys ++ k ∷ [] ≡ take (count + 1) keys
 longer_by keys count k d less is = ap (λ j. take count keys ++ j ∷ []) is ∙ sym (take_more keys count d less)
 
--- the node behind the next keysym is one keysym on
+-- the node after the next keysym is one keysym further
 pub at_next : (table : List Definition) (keys : List ℕ) (count number k d : ℕ) (next : NodeId) → IsAt table keys count number → count < length keys → k ≡ get_or keys count d
     → node_id table (node table number ++ k ∷ []) ≡ Some next → IsAt table keys (count + 1) next.0
 at_next table keys count number k d next at less is e =
@@ -124,7 +124,7 @@ at_next table keys count number k d next at less is e =
         some-number e = ap (λ o. option_map_or (λ (n : NodeId). n.0) o 0) e
     go false f e = cc
 
--- where no node follows the next keysym, the keysyms are no node
+-- if no node follows the next keysym, the keysyms are no node
 pub at_stop : (table : List Definition) (keys : List ℕ) (count number k d : ℕ) → IsAt table keys count number → count < length keys → k ≡ get_or keys count d
     → node_id table (node table number ++ k ∷ []) ≡ None → node_id table keys ≡ None
 at_stop table keys count number k d at less is e =
@@ -154,7 +154,7 @@ typed_again table keys count number sound at all =
     let whole : take count keys ≡ keys = ap (λ i. take i keys) all ∙ take-length keys in
     (node_reached table keys sound (ap (is_node table) (sym whole) ∙ at.is_node)).again
 
--- ---- the node behind a keysym
+-- ---- the node after a keysym
 
 pub child_of : (table : List Definition) (p : List ℕ) (k : ℕ) (n : NodeId) → target_of table p k ≡ Some (Node n) → node_id table (p ++ k ∷ []) ≡ Some n
 child_of table p k n e =
@@ -174,7 +174,7 @@ pub record IsNode (table : List Definition) (p : List ℕ) (n : NodeId) : Type 0
   pub is : node table n.0 ≡ p
   pub in_range : n.0 < length (nodes table)
 
--- the list that has this node's number is that node, and the number is below the count of nodes
+-- the list with this node's number is that node, and the number is below the number of nodes
 pub node_found : (table : List Definition) (p : List ℕ) (n : NodeId) → node_id table p ≡ Some n → IsNode table p n
 node_found table p n e = go (is_node table p) refl e
   where
@@ -184,7 +184,7 @@ node_found table p n e = go (is_node table p) refl e
         record { is = ap (node table) (sym same_number) ∙ node_at_number table p f; in_range = subst (λ i. i < length (nodes table)) same_number (number_below table p f) }
     go false f e = cc
 
--- a list without a node's number is no node
+-- a list without the number of a node is no node
 pub no_node : (table : List Definition) (p : List ℕ) → node_id table p ≡ None → is_node table p ≡ false
 no_node table p e = go (is_node table p) refl e
   where

@@ -1,4 +1,4 @@
--- The number of the node that a list of keysyms is.
+-- The number of the node of a list of keysyms.
 use Rattle.std.specs.Prelude.{ℕ, List, if◌then◌else◌, Option, Some, None}
 use Rattle.compose_model.specs.Table.{Definition}
 use Rattle.compose_model.specs.Nodes.{is_node, number_of}

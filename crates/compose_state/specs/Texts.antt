@@ -1,4 +1,4 @@
--- What a key commits, as bytes.
+-- The text that a key commits, as bytes.
 use Rattle.std.specs.Prelude.{ℕ, List, [], encode_utf8}
 use Rattle.compose_state.specs.declared.fed.FedText.{FedText}
 use Rattle.compose_state.specs.declared.fed.FedText.TheVariants.{Empty, Char, Slice}

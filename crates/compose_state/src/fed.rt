@@ -1,4 +1,4 @@
-//! What a compose state answers to a key.
+//! The answer of a compose state to a key.
 ghost use Rattle.std.specs.Prelude.{◌≡◌, ◌≤◌, length};
 ghost use Rattle.compose_state.specs.Texts.{text_bytes};
 
@@ -12,18 +12,18 @@ pub enum FedText<'t> {
     Empty,
     /// The character of the key itself.
     Char(char),
-    /// The text of a sequence, lent out of the table.
+    /// The text of a sequence, borrowed from the table.
     Slice(&'t str),
 }
 
-/// What a compose state answers to a key. The text has at most 255 bytes.
+/// The answer of a compose state to a key. The text has at most 255 bytes.
 #[derive(Clone, Copy, Debug, PartialEq, Eq)]
 pub struct Fed<'t> {
-    /// Whether the key was not an ignored one.
+    /// Whether the key was accepted, that is, not ignored as a modifier is.
     pub accepted: bool,
     /// The status after the key.
     pub status: Status,
-    /// What it commits.
+    /// The text that the key commits.
     pub text: FedText<'t>,
     ghost fits: { length (text_bytes text) ≤ 255 },
 }
@@ -31,7 +31,7 @@ pub struct Fed<'t> {
 impl<'t> Fed<'t> {
     ghost use Rattle.compose_state.specs.Answers.{fed_word};
 
-    /// Replaces what the string holds by the text. O(its bytes).
+    /// Replaces the content of the string by the text. O(its bytes).
     pub fn text_into(&self, target: &mut ArrayString<255>)
         ensures { target.new.bytes ≡ text_bytes self.now.text }
     {
@@ -43,7 +43,7 @@ impl<'t> Fed<'t> {
         }
     }
 
-    /// `ignored` where the key was not accepted, else the word of the status. O(1).
+    /// Returns `ignored` if the key was not accepted, else the name of the status. O(1).
     pub fn word(&self) -> &'static str
         ensures { result.now ≡ fed_word self.now }
     {

@@ -1,7 +1,9 @@
-//! One compose state: what happens at each key.
+//! A compose state, which is fed one key after another.
 //!
-//! A state is the keysyms that were typed of a sequence, and a status. [`ComposeState::feed`] takes the next keysym and says what the key
-//! commits; [`ComposeState::refeed`] takes the state from one table to another, as a service does after a load.
+//! A state is the keysyms of a sequence that were typed so far, and a status.
+//! [`ComposeState::feed`] feeds it the next keysym, and returns what the key commits;
+//! [`ComposeState::refeed`] moves the state from one table to another, as a service does after a
+//! load.
 //!
 //! ```text
 //! let mut state = ComposeState::new();                      // <Multi_key> <apostrophe> <e> : "é"

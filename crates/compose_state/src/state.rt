@@ -1,4 +1,4 @@
-//! A compose state: what is pending, and the status.
+//! A compose state: the pending keysyms and the status.
 ghost use Rattle.std.specs.Prelude.{◌≡◌, ◌≤◌, ◌<◌, length, [], ◌∷◌, ◌++◌, Some, option_map, true, IsFalse, IsSome, if◌then◌else◌};
 ghost use Rattle.compose_model.specs.Step.{is_empty, pending, passes, cancels};
 ghost use Rattle.compose_model.specs.declared.Status.TheVariants.{Nothing, Cancelled};
@@ -20,11 +20,13 @@ use compose_tree::{ComposeTable, NodeId, Target};
 use keysym_core::{Keysym, Names};
 use std::marker::Model;
 
-/// What is pending, at most 31 keysyms, and the status (xkb_compose_state). Any state may be fed with any table.
+/// The pending keysyms, at most 31, and the status (xkb_compose_state). Any state can be fed with
+/// any table.
 #[derive(Drop)]
 pub struct ComposeState {
     pending: ArrayVec<Keysym, 31>,
-    // for each pending keysym, where its edge stood in the table that it was fed with: a hint, which is checked and never trusted
+    // for each pending keysym, the index of its edge in the table with which it was fed: a hint, which is always
+    // checked
     edge_indexes: [u32; 31],
     status: Status,
 }
@@ -38,7 +40,7 @@ impl Model for ComposeState {
 }
 
 impl ComposeState {
-    /// At rest: nothing pending, status nothing. O(1).
+    /// Returns a state at rest: no key is pending, and the status is `Nothing`. O(1).
     pub fn new() -> ComposeState
         ensures { result ≡ rest }
     {
@@ -49,14 +51,14 @@ impl ComposeState {
         }
     }
 
-    /// The status after the last key, reset or refeeding. O(1).
+    /// Returns the status after the last key, reset or refeeding. O(1).
     pub fn status(&self) -> Status
         ensures { result ≡ self.now.status }
     {
         self.status
     }
 
-    /// The pending keysyms, at most 31. O(1).
+    /// Returns the pending keysyms, at most 31, in the order in which they were typed. O(1).
     pub fn pending(&self) -> &[Keysym]
         ensures value { result.now ≡ self.now.pending }
         ensures few { length result.now ≤ 31 }
@@ -64,7 +66,7 @@ impl ComposeState {
         self.pending.as_slice()
     }
 
-    /// Puts the state at rest. O(1).
+    /// Puts the state at rest (xkb_compose_state_reset). O(1).
     pub fn reset(&mut self)
         ensures { self.new ≡ rest }
     {
@@ -72,8 +74,9 @@ impl ComposeState {
         self.status = Status::Nothing;
     }
 
-    /// Feeds one key (xkb_compose_state_feed). Takes no memory; O(pending keysyms + log edges of a node) where the pending
-    /// keysyms were fed with this table, and else O(pending keysyms × log edges of a node).
+    /// Feeds one key (xkb_compose_state_feed). Allocates nothing; O(pending keysyms + log edges of
+    /// a node) if the pending keysyms were fed with this table, and else O(pending keysyms × log
+    /// edges of a node).
     #[inline(always)]
     pub fn feed<'t, T: ComposeTable>(
         &mut self,
@@ -97,8 +100,8 @@ impl ComposeState {
         }
     }
 
-    /// The state with these pending keysyms and this status, and a hint for each pending keysym of where its edge stood: any numbers
-    /// are hints. O(1).
+    /// Returns the state with these pending keysyms and this status. For each pending keysym there
+    /// is a hint, the index of its edge; any numbers will do as hints. O(1).
     pub fn restored(
         pending: ArrayVec<Keysym, 31>,
         edge_indexes: [u32; 31],
@@ -113,13 +116,14 @@ impl ComposeState {
         }
     }
 
-    /// The hints, for `restored`. O(1).
+    /// Returns the hints, for `restored`. O(1).
     pub fn edge_indexes(&self) -> [u32; 31] {
         self.edge_indexes
     }
 
-    /// Feeds one key as `feed` does, and knows no names: a key that passes commits no text, as in libxkbcommon, where its text is the
-    /// caller's to find. Takes no memory; as fast as `feed`.
+    /// Feeds one key as `feed` does, but without keysym names: a key that passes commits no text,
+    /// as in libxkbcommon, where the caller has to find its text. Allocates nothing; as fast as
+    /// `feed`.
     #[inline(always)]
     pub fn feed_alone<'t, T: ComposeTable>(&mut self, table: &'t T, keysym: Keysym) -> Fed<'t>
         ensures state { self.new ≡ fed (T.definitions table.now) self.old keysym }
@@ -140,8 +144,9 @@ impl ComposeState {
         }
     }
 
-    /// Goes over to the table, and feeds one key to it: `refeed` and then `feed`. Takes no memory. Where a sequence of the table goes on
-    /// behind the pending keysyms with the key, or nothing is pending, it costs what `feed` alone does, and else what both cost.
+    /// Moves the state to the table, and feeds one key: `refeed` and then `feed`. Allocates
+    /// nothing. It costs as much as `feed` alone if nothing is pending, or if a sequence of the
+    /// table continues the pending keysyms with the key; and else as much as both.
     #[inline(always)]
     pub fn refeed_and_feed<'t, T: ComposeTable>(
         &mut self,
@@ -168,11 +173,13 @@ impl ComposeState {
         self.feed(table, names, keysym)
     }
 
-    /// Goes over to the table: the pending keysyms are fed to it from rest. The status becomes composing where something is
-    /// pending then, and nothing where it was composing and nothing is pending; no text is committed.
-    /// Takes no memory; O(1) where nothing is pending. Where the pending keysyms are a node of the table, nothing but the status may
-    /// change, and that costs O(pending keysyms) where they were fed with this table and O(pending keysyms × log edges of a node)
-    /// where not. Else O(pending keysyms × (pending keysyms + log edges of a node)).
+    /// Moves the state to the table: the pending keysyms are fed to it, starting at rest. If
+    /// something is pending then, the status becomes `Composing`. If nothing is pending and the
+    /// status was `Composing`, it becomes `Nothing`. No text is committed. Allocates nothing; O(1)
+    /// if nothing is pending. If the pending keysyms are a node of the table, only the status may
+    /// change; this costs O(pending keysyms) if they were fed with this table, and O(pending
+    /// keysyms × log edges of a node) if not. Else it costs O(pending keysyms × (pending keysyms +
+    /// log edges of a node)).
     pub fn refeed<T: ComposeTable>(&mut self, table: &T, names: &Names)
         ensures { self.new ≡ loaded (T.definitions table.now) self.old }
     {
@@ -180,7 +187,7 @@ impl ComposeState {
         self.refeed_alone(table);
     }
 
-    /// Goes over to the table as `refeed` does, and knows no names.
+    /// Moves the state to the table as `refeed` does, without keysym names.
     pub fn refeed_alone<T: ComposeTable>(&mut self, table: &T)
         ensures { self.new ≡ loaded (T.definitions table.now) self.old }
     {
@@ -203,7 +210,7 @@ impl ComposeState {
         self.edge_indexes = refed.edge_indexes;
     }
 
-    /// Feeds a key that leads to this target behind what is pending, by the edge at this index.
+    /// Feeds a key that leads from the pending keysyms to this target, by the edge at this index.
     #[inline(always)]
     fn follow<'t, T: ComposeTable>(
         &mut self,
@@ -244,7 +251,8 @@ impl ComposeState {
         }
     }
 
-    /// Feeds a key that no sequence has behind what is pending: it passes where nothing is pending, and else cancels.
+    /// Feeds a key that no sequence has after the pending keysyms: it passes if nothing is pending,
+    /// and else it cancels.
     #[inline(always)]
     fn feed_apart(&mut self, names: &Names, keysym: Keysym) -> Fed<'static>
         ensures state { self.new
@@ -279,7 +287,7 @@ impl ComposeState {
 }
 
 impl ComposeState {
-    /// Takes a key that no sequence has behind what is pending, and commits nothing.
+    /// Feeds a key that no sequence has after the pending keysyms, and commits no text.
     fn break_off(&mut self) -> Fed<'static>
         ensures state { self.new
             ≡ (if is_empty self.old.pending then record {
@@ -305,7 +313,7 @@ impl ComposeState {
     }
 }
 
-/// What is pending in the table after these keysyms, from rest.
+/// Returns the state of the table after these keysyms, starting at rest.
 fn state_after<T: ComposeTable>(table: &T, keysyms: &[Keysym]) -> ComposeState
     ensures { result.pending ≡ pending (T.definitions table.now) keysyms.now }
 {
@@ -316,7 +324,7 @@ fn state_after<T: ComposeTable>(table: &T, keysyms: &[Keysym]) -> ComposeState
     state
 }
 
-/// The text of a key that is not part of a sequence.
+/// Returns the text of a key that is not part of a sequence.
 fn plain_text(names: &Names, keysym: Keysym) -> FedText<'static>
     ensures value { text_bytes result ≡ names_text names.now keysym }
     ensures source { ComesFrom passes result }
@@ -328,7 +336,7 @@ fn plain_text(names: &Names, keysym: Keysym) -> FedText<'static>
     }
 }
 
-/// The node behind the keysym, if a sequence goes on there.
+/// Returns the node after the keysym, if a sequence goes on there.
 fn child<T: ComposeTable>(table: &T, node: NodeId, keysym: Keysym) -> Option<NodeId>
     requires { node.0 < length (nodes (T.definitions table.now)) }
     ensures { result
@@ -341,7 +349,8 @@ fn child<T: ComposeTable>(table: &T, node: NodeId, keysym: Keysym) -> Option<Nod
     }
 }
 
-/// The node behind the keysym, if a sequence goes on there. Looks at this index among the node's edges first.
+/// Returns the node after the keysym, if a sequence goes on there. Tries this index among the
+/// node's edges first.
 #[inline(always)]
 fn child_at<T: ComposeTable>(
     table: &T,
@@ -366,7 +375,7 @@ fn child_at<T: ComposeTable>(
     child(table, node, keysym)
 }
 
-/// The node of these keysyms, if they are a node of the table. The indexes are hints.
+/// Returns the node of these keysyms, if they are a node of the table. The indexes are hints.
 #[inline(always)]
 fn node_of<T: ComposeTable>(
     table: &T,
@@ -377,7 +386,7 @@ fn node_of<T: ComposeTable>(
     ensures value { result ≡ node_id (T.definitions table.now) keysyms.now }
     ensures again { IsSome result → pending (T.definitions table.now) keysyms.now ≡ keysyms.now }
 {
-    // every table is settled, which its count of nodes tells
+    // every table is settled, by the contract of its count of nodes
     let _nodes = table.node_count();
     let mut node = NodeId::ROOT;
     for (index, keysym) in keysyms.iter().enumerate() {
@@ -386,7 +395,8 @@ fn node_of<T: ComposeTable>(
     Some(node)
 }
 
-/// The index of the keysym's edge and where it leads behind the pending ones, if they are a node of the table and it has such an edge.
+/// Returns the index and the target of the keysym's edge after the pending keysyms, if they are a
+/// node of the table and it has such an edge.
 #[inline(always)]
 fn target<T: ComposeTable>(
     table: &T,
@@ -404,7 +414,7 @@ fn target<T: ComposeTable>(
     ensures again { IsSome result
         → steps.pending (T.definitions table.now) pending.now ≡ pending.now }
 {
-    // every table is settled, which its count of nodes tells
+    // every table is settled, by the contract of its count of nodes
     let _nodes = table.node_count();
     let node = node_of(table, pending, edge_indexes)?;
     let edge_index = table.find(node, keysym)?;

@@ -1,4 +1,4 @@
--- Sixteen bytes at a time: from the mask of those that are not of a class to how many of the class stand at the beginning.
+-- Sixteen bytes at a time: from the mask of those that are not of a class to the number of leading bytes of the class.
 use Rattle.std.proofs.Common.{◌≡◌, ℕ, ◌+◌, ◌*◌, ◌<◌, ◌≤◌, ◌^◌, ◌%◌, Bool, true, false, not, cond, List, [], ◌∷◌, ◌++◌, map, length, drop, replicate, refl, sym, ap, ap₂, ◌∙◌, arith, w8, Fits}
 use Rattle.std.specs.List.{prefix_len}
 use Rattle.std.proofs.lemmas.Bool.{agree_below, agree_below_at}
@@ -25,13 +25,13 @@ each_byte : (f : ℕ → ℕ) (p : ℕ → Bool) → agree_below (λ x. top 7 (f
 each_byte f p all [] fits = refl
 each_byte f p all (x ∷ xs) fits = ap₂ (λ b bs. b ∷ bs) (agree_below_at (λ y. top 7 (f y)) p 256 x all fits.0.fits) (each_byte f p all xs fits.1)
 
--- its bits are those of p, if they are so for each of the 256 bytes
+-- its bits are those of p, if the top bit agrees with p for each of the 256 bytes
 pub masked : (f : ℕ → ℕ) (p : ℕ → Bool) (v z : List ℕ) → length v ≤ 64 → Each1 (Fits w8) v → z ≡ map f v → agree_below (λ x. top 7 (f x)) p 256 ≡ true
     → mask_l (map (top 7) z) % 2 ^ 64 ≡ mask_l (map p v)
 masked f p v z few fits lanes all =
     ap (λ l. mask_l l % 2 ^ 64) (ap (map (top 7)) lanes ∙ each_byte f p all v fits) ∙ mask_l-mod (map p v) 64 (omega (arith, length-map v p))
 
--- ---- what stands at the beginning
+-- ---- the leading bytes
 
 module _ (q : ℕ → Bool) where
   abbrev others : List ℕ → ℕ
@@ -55,12 +55,12 @@ module _ (q : ℕ → Bool) where
       go true some again = ap (λ n. 1 + n) (again (omega arith))
       go false some again = refl
 
-  -- no byte of the n is another
+  -- none of the n bytes is of another class
   pub passed : (d : List ℕ) (i n : ℕ) → i + n ≤ length d → others (chunk i n d) ≡ 0 → prefix_len q (drop i d) ≡ n + prefix_len q (drop (i + n) d)
   passed d i n room none =
       ap (prefix_len q) (chunk-drop i n d) ∙ all_of_it (chunk i n d) (drop (i + n) d) none ∙ ap (λ k. k + prefix_len q (drop (i + n) d)) (length-chunk i n d room)
 
-  -- the lowest bit is the first other byte
+  -- the lowest bit is that of the first byte of another class
   pub stopped : (d : List ℕ) (i n : ℕ) → i + n ≤ length d → n ≤ 64 → 0 < others (chunk i n d) → prefix_len q (drop i d) ≡ count_trailing_zeros 64 (others (chunk i n d))
   stopped d i n room few some =
       ap (prefix_len q) (chunk-drop i n d) ∙ sym (part_of_it (chunk i n d) (drop (i + n) d) some)

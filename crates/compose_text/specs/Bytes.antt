@@ -1,4 +1,4 @@
--- Classes of bytes, and the bytes of a class that come first.
+-- Classes of bytes, and the leading bytes of a class.
 use Rattle.std.specs.Prelude.{ℕ, Bool, false, ◌||◌, ◌==◌, if◌then◌else◌, List, [], ◌∷◌}
 use Rattle.std.specs.Char.{is_ascii_alphanumeric}
 
@@ -10,12 +10,12 @@ is_blank b = b == 32 || b == 9 || b == 13
 abbrev pub is_name_byte : ℕ → Bool
 is_name_byte b = is_ascii_alphanumeric b || b == 95
 
--- the first byte passes
+-- the first byte is of the class
 abbrev pub begins : (ℕ → Bool) → List ℕ → Bool
 begins p [] = false
 begins p (b ∷ bytes) = p b
 
--- the bytes up to the first that doesn't pass, and the bytes from there on
+-- the bytes up to the first that is not of the class, and the bytes from there on
 abbrev pub leading : (ℕ → Bool) → List ℕ → List ℕ
 leading p [] = []
 leading p (b ∷ bytes) = if p b then b ∷ leading p bytes else []

@@ -47,7 +47,8 @@ impl ByteClass for NameByte {
     }
 }
 
-/// How many blanks come first. Mostly none or one, which are quicker to see than to find among sixteen. O(blanks).
+/// Returns the number of leading blanks. Mostly there is none or one, and checking for these first
+/// is faster than testing sixteen bytes at once. O(blanks).
 #[inline(always)]
 pub fn blank_len(bytes: &[u8]) -> usize
     ensures { result ≡ prefix_len is_blank bytes.now }
@@ -61,7 +62,8 @@ pub fn blank_len(bytes: &[u8]) -> usize
     leading_len::<Blank>(bytes)
 }
 
-/// How many bytes of a name come first. O(bytes of the name).
+/// Returns the number of leading bytes of a name: ASCII letters, digits and underscores. O(bytes of
+/// the name).
 #[inline(always)]
 pub fn name_len(bytes: &[u8]) -> usize
     ensures { result ≡ prefix_len is_name_byte bytes.now }

@@ -1,4 +1,4 @@
-//! How many bytes of a class come first, found sixteen bytes at a time.
+//! The number of leading bytes of a class, found sixteen bytes at a time.
 ghost use Rattle.std.specs.Prelude.{◌≡◌, ◌≤◌, ◌+◌, length, drop};
 ghost use Rattle.std.specs.List.{prefix_len};
 
@@ -9,19 +9,20 @@ pub trait ByteClass {
     ghost use Rattle.std.specs.Prelude.{ℕ, Bool, not, map};
     ghost use Rattle.std.specs.Simd.Lanes.{mask_l};
 
-    /// Which bytes are of the class.
+    /// The bytes of the class.
     ghost has: { ℕ → Bool };
 
-    /// Whether the byte is of the class.
+    /// Returns whether the byte is of the class.
     fn has(byte: u8) -> bool
         ensures { result ≡ has byte };
 
-    /// A bit for each byte that is not of the class, the lowest for the first byte.
+    /// Returns a bit for each byte that is not of the class; the lowest bit is for the first byte.
     fn others(bytes: u8x16) -> u64
         ensures { result ≡ mask_l (map (λ b. not (has b)) bytes) };
 }
 
-/// The end of the bytes of the class that begin at `from`, one byte at a time. O(bytes of the class).
+/// Returns the end of the run of bytes of the class that begins at `from`, found one byte at a
+/// time. O(bytes of the class).
 #[inline(always)]
 fn end_slowly<C: ByteClass>(bytes: &[u8], from: usize) -> usize
     requires { from ≤ length bytes.now }
@@ -34,7 +35,7 @@ fn end_slowly<C: ByteClass>(bytes: &[u8], from: usize) -> usize
     at
 }
 
-/// How many bytes of the class come first. O(bytes of the class).
+/// Returns the number of leading bytes of the class. O(bytes of the class).
 #[inline(always)]
 pub fn leading_len<C: ByteClass>(bytes: &[u8]) -> usize
     ensures { result ≡ prefix_len C.has bytes.now }

@@ -1,9 +1,11 @@
-//! Lines, classes of bytes and hexadecimal numbers: what headers of names, tables, repertoires and certificates share.
+//! Lines, classes of bytes and hexadecimal numbers, shared by the readers of headers, tables,
+//! repertoires and certificates.
 //!
-//! `first_line` takes the lines of a text one after another, `leading_len` counts the bytes of a class that come first
-//! (`blank_len` the blanks, `name_len` the bytes of a name), and `hexadecimal_number` is the number that digits write:
+//! `first_line` splits off the first line of a text, `leading_len` counts the leading bytes of a
+//! class (`blank_len` those that are blanks, `name_len` those of a name), and `hexadecimal_number`
+//! reads a number:
 //!
-//!     first_line(b"one\ntwo\n")             // "one", and behind it "two\n"
+//!     first_line(b"one\ntwo\n")             // "one", and the rest "two\n"
 //!     blank_len(b"\t x")                     // 2
 //!     hexadecimal_number(4, 6, b"00e9")      // 0xe9
 #![tactic(auto)]

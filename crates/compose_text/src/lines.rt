@@ -22,8 +22,8 @@ impl ByteClass for InLine {
     }
 }
 
-/// The first line of the bytes, without its newline, and what follows it; none where there are no bytes.
-/// O(bytes of the line).
+/// Returns the first line of the bytes, without its newline, and what follows it; `None` if there
+/// are no bytes. O(bytes of the line).
 pub fn first_line(bytes: &[u8]) -> Option<(&[u8], &[u8])>
     ensures lines { MatchOption result (lines_of bytes.now ≡ [])
         (λ parts. lines_of bytes.now ≡ parts.0.now ∷ lines_of parts.1.now) }

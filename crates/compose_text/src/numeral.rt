@@ -1,11 +1,11 @@
-//! Numbers that hexadecimal digits write.
+//! Numbers in hexadecimal digits.
 ghost use Rattle.std.specs.Prelude.{◌≡◌, ◌≤◌, ◌<◌, length, Some, None, SomeIff, if◌then◌else◌};
 ghost use Rattle.std.specs.Char.{digit_value};
 ghost use Rattle.std.specs.List.{list_all};
 ghost use Rattle.compose_text.specs.Numbers as words;
 
-/// The number that `low` to `high` hexadecimal digits of either case write; none where there are fewer, more, or other
-/// bytes. O(1): there are eight at most.
+/// Returns the number that `low` to `high` hexadecimal digits of either case write; `None` if there
+/// are fewer or more, or other bytes. O(1): there are at most eight.
 #[inline(never)]
 pub fn hexadecimal_number(low: usize, high: usize, digits: &[u8]) -> Option<u32>
     requires { high ≤ 8 }
@@ -19,8 +19,8 @@ pub fn hexadecimal_number(low: usize, high: usize, digits: &[u8]) -> Option<u32>
     hexadecimal(digits)
 }
 
-/// For each byte the value of the hexadecimal digit that it is, of either case, and 16 for any other. A branch for each kind of digit
-/// would be mispredicted.
+/// The value of each byte as a hexadecimal digit of either case, and 16 if it is none. A branch for
+/// each kind of digit would be mispredicted.
 #[rattlefmt::skip]
 const DIGIT_VALUES: [u8; 256] = [
     16, 16, 16, 16, 16, 16, 16, 16, 16, 16, 16, 16, 16, 16, 16, 16, // 0x00
@@ -41,7 +41,7 @@ const DIGIT_VALUES: [u8; 256] = [
     16, 16, 16, 16, 16, 16, 16, 16, 16, 16, 16, 16, 16, 16, 16, 16, // 0xf0
 ];
 
-/// The value of a hexadecimal digit. O(1).
+/// Returns the value of a hexadecimal digit. O(1).
 fn digit_value(byte: u8) -> Option<u32>
     ensures { SomeIff result (digit_value byte < 16) (digit_value byte) }
 {
@@ -53,7 +53,7 @@ fn digit_value(byte: u8) -> Option<u32>
     }
 }
 
-/// The number that at most eight hexadecimal digits write; none where one isn't a digit.
+/// Returns the number that at most eight hexadecimal digits write; `None` if one is not a digit.
 fn hexadecimal(digits: &[u8]) -> Option<u32>
     requires { length digits.now ≤ 8 }
     ensures { result

@@ -1,4 +1,4 @@
--- Where a walk or a maker has an answer, the fresh keysyms have no fault.
+-- If a walk or a maker has an answer, the fresh keysyms have no fault.
 use Rattle.std.proofs.Common.{◌≡◌, ◌<◌, ◌≤◌, ℕ, List, cond, length, ◌∙◌, ap}
 use Rattle.std.specs.Prelude.{Some, None, Result, Ok, Err, nat_lt}
 use Rattle.std.specs.Option.{option_map_or}
@@ -12,7 +12,7 @@ use Rattle.compose_walk.specs.declared.fault.MakeFault.TheVariants.{BadFresh, To
 use Rattle.compose_make.proofs.Certified as certified
 use Rattle.compose_answer.specs.Parts.{no_fresh, accepted}
 
--- where a walk or a maker has an answer, they have no fault
+-- if a walk or a maker has an answer, they have no fault
 pub taken : {W P : Type 0} (IsAnswer : W → Type 0) (old : List Definition) (fresh : List ℕ) (parts : P) (r : Result W MakeFault) (w : W) → r ≡ Ok w
     → ((fault : CheckFault) → first_unmet (fresh_conditions old fresh) ≡ Some fault → r ≡ Err (BadFresh fault))
     → (first_unmet (fresh_conditions old fresh) ≡ None → 1048576 < length fresh → r ≡ Err TooManyFresh)

@@ -15,7 +15,7 @@ use Rattle.compose_state.specs.declared.fed.Fed.{Fed}
 use Rattle.compose_state.specs.Answers.{IsFed, status_word, fed_word}
 use Rattle.compose_tool.specs.Typed.{effect_word, typed_line, fed_line}
 
--- the word of a status that the effect gave, and `ignored` where the key was not accepted
+-- the word for the status that the effect led to, and `ignored` if the key was not accepted
 word_is : (i : Bool) (x : Effect) (before : Status) → ((i ≡ true) → x ≡ ignores) → (x ≡ ignores → i ≡ true) → (if not i then status_word (status_by x before) else codes "ignored") ≡ effect_word x
 word_is true x before a b = ap effect_word (sym (a refl))
 word_is false ignores before a b = let clash : false ≡ true = b refl in cc

@@ -46,7 +46,7 @@ step_refused (refusals.Fresh fault) r f h = ap (λ r. r >>= f) h
 step_refused refusals.TooManyFresh r f h = ap (λ r. r >>= f) h
 step_refused refusals.NoMemory r f h = tt
 
--- an answer that is this refusal gives what the refusal gives
+-- an answer that is this refusal has the meaning of the refusal
 pub refusal_gives : {P A : Type 0} (answers : P → A → Type 0) (r : Result A Refusal) (refusal : Refusal) (said : Result P NoAnswer) → IsErrAnd r (λ e. e ≡ refusal) → IsRefused refusal said
     → Gives answers r said
 refusal_gives answers (Ok x) refusal said h g = absurd h
@@ -69,20 +69,20 @@ module _ (header : List ℕ) (key_names : List (List ℕ)) (given : TableSources
     after_named : type_parts header key_names given ≡ (or_because no_only_table (first_table n.names given.sources given.rule) >>= with_table n)
     after_named = ap (λ r. r >>= with_named) (is_read (given_key_names header key_names) n n_read)
 
-    -- of `type`, where the names are read, a refusal of the table is the refusal of the command
+    -- for `type`: if the names are read, a refusal of the table is the refusal of the command
     pub table_refused : (refusal : Refusal) → IsRefused refusal (or_because no_only_table (first_table n.names given.sources given.rule)) → IsRefused refusal (type_parts header key_names given)
     table_refused refusal h =
         subst (λ (s : Result TypedParts NoAnswer). IsRefused refusal s) (sym after_named)
         (step_refused refusal (or_because no_only_table (first_table n.names given.sources given.rule)) (with_table n) h)
 
-    -- of `type`, where the names and the table are read, these are its parts
+    -- for `type`: if the names and the table are read, these are its parts
     pub typed_read : (table : List Definition) → IsRead (or_because no_only_table (first_table n.names given.sources given.rule)) table
         → type_parts header key_names given ≡ Ok (record { names = n.names; keys = n.keys; table = table })
     typed_read table table_read = after_named ∙ ap (λ r. r >>= with_table n) (is_read (or_because no_only_table (first_table n.names given.sources given.rule)) table table_read)
 
 -- ---- check, with the keysyms that may be fresh
 
--- of a part that can be read nothing but memory is refused
+-- a part that can be read is refused only for lack of memory
 pub unrefused : {A B : Type 0} (refusal : Refusal) (x : A) (said : Result B NoAnswer) → IsRefused {P = A} refusal (Ok x) → IsRefused refusal said
 unrefused (refusals.Names fault) x said h = cc
 unrefused (refusals.Key index) x said h = cc
@@ -94,7 +94,7 @@ unrefused (refusals.Fresh fault) x said h = cc
 unrefused refusals.TooManyFresh x said h = cc
 unrefused refusals.NoMemory x said h = tt
 
--- the parts of a check have the certificate that its text says
+-- the parts of a check have the certificate of its text
 pub certificate_read : (input : checks.Input) (p : checks.Parts) → or_because unread (parts_of input) ≡ Ok p
     → or_because (λ why. unread (no_certificate why)) (certificate_of input.certificate) ≡ Ok p.certificate
 certificate_read input p e = go (or_because checks.no_migration (migration_of input.migration)) (or_because no_repertoire (repertoire_of input.repertoire)) (certificate_of input.certificate) e
@@ -107,12 +107,12 @@ certificate_read input p e = go (or_because checks.no_migration (migration_of in
     go (Ok m) (Err f) c e = cc
     go (Err f) r c e = cc
 
--- of `check`, where the keysyms that may be fresh are read, the parts are those of a check among them
+-- for `check`: if the keysyms that may be fresh are read, the parts are those of a check among them
 pub allowed_read : (key_names : List (List ℕ)) (input : checks.Input) (n : NamedParts) → IsRead (given_key_names input.migration.header key_names) n
     → allowed_parts key_names input ≡ among_parts n.keys input
 allowed_read key_names input n n_read = ap (λ r. r >>= (λ n. among_parts n.keys input)) (is_read (given_key_names input.migration.header key_names) n n_read)
 
--- of a check among allowed keysyms, where the parts of the check are read, these are its parts
+-- for a check among allowed keysyms: if the parts of the check are read, these are its parts
 pub among_read : (allowed : List ℕ) (input : checks.Input) (p : checks.Parts) → or_because unread (parts_of input) ≡ Ok p → among_parts allowed input ≡ Ok (record { checked = p; allowed = allowed })
 among_read allowed input p p_read = ap (λ (r : Result checks.Parts NoAnswer). r >>= (λ p. Ok (record { checked = p; allowed = allowed }))) p_read
 
@@ -138,11 +138,11 @@ module _ (given : GivenMigration) where
   make_refused bytes refusal h = step_refused refusal (migration_parts given) (λ move. needs_of move bytes) h
 
   module _ (move : Parts) (move_read : IsRead (migration_parts given) move) where
-    -- of `explain`, once the migration is read, the parts depend on it and on its fresh keysyms in rising order
+    -- for `explain`: once the migration is read, the parts depend on it and on its fresh keysyms in rising order
     pub explain_read : (fresh : List ℕ) → fresh ≡ rising nat_cmp move.keys → explain_parts given ≡ explainable move fresh
     explain_read fresh is = ap (λ r. r >>= with_fresh) (is_read (migration_parts given) move move_read) ∙ ap (explainable move) (sym is)
 
-    -- of `make`, once the migration is read, the parts depend on it and on the repertoire's text
+    -- for `make`: once the migration is read, the parts depend on it and on the repertoire's text
     pub make_read : (bytes : List ℕ) → make_parts given bytes ≡ needs_of move bytes
     make_read bytes = ap (λ r. r >>= (λ move. needs_of move bytes)) (is_read (migration_parts given) move move_read)
 
@@ -154,7 +154,8 @@ module _ (move : Parts) (bytes : List ℕ) where
   pub repertoire_refused : (refusal : Refusal) → IsRefused refusal (or_because (λ why. unread (no_repertoire why)) (repertoire_of bytes)) → IsRefused refusal (needs_of move bytes)
   repertoire_refused refusal h = step_refused refusal (or_because (λ why. unread (no_repertoire why)) (repertoire_of bytes)) with_repertoire h
 
-  -- of `make` on these tables, once the repertoire is read, the parts depend on it and on the fresh keysyms in rising order
+  -- for `make` on these tables: once the repertoire is read, the parts depend on it and on the fresh keysyms in rising
+  -- order
   pub needs_read : (r : Repertoire) → IsRead (or_because (λ why. unread (no_repertoire why)) (repertoire_of bytes)) r → (fresh : List ℕ) → fresh ≡ rising nat_cmp move.keys
       → needs_of move bytes ≡ makeable move r fresh
   needs_read r r_read fresh is = ap (λ x. x >>= with_repertoire) (is_read (or_because (λ why. unread (no_repertoire why)) (repertoire_of bytes)) r r_read) ∙ ap (makeable move r) (sym is)

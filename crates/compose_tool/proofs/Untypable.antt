@@ -15,7 +15,7 @@ use Rattle.compose_tool.specs.Answers.{IsUntypableText, each_untypable, tables_w
 line_regrouped : (s word number tables : List ℕ) → s ++ (word ++ (number ++ (tables ++ 10 ∷ []))) ≡ s ++ (((word ++ number) ++ tables) ++ 10 ∷ [])
 line_regrouped s word number tables = simp append_assoc
 
--- one write behind what was printed gives the line of a character that can't be typed
+-- one write after what was printed adds the line of a character that can't be typed
 pub told : (old : List ℕ) (c : ℕ) (s h tables : List ℕ) → tables ≡ tables_words old c → h ≡ s
     ++ (codes "unreachable U+" ++ (at_least_four (digits 16 true c) ++ (tables ++ 10 ∷ []))) → h ≡ s ++ untypable_line old c
 told old c s h tables et e = rw et at (e ∙ line_regrouped s (codes "unreachable U+") (at_least_four (digits 16 true c)) tables)
@@ -32,7 +32,7 @@ more_lines old new i c s a b h is ea eb =
 count_regrouped : (s n a b first second third : List ℕ) → s ++ (n ++ (first ++ (a ++ (second ++ (b ++ (third ++ 10 ∷ [])))))) ≡ s ++ ((((((n ++ first) ++ a) ++ second) ++ b) ++ third) ++ 10 ∷ [])
 count_regrouped s n a b first second third = simp append_assoc
 
--- one write behind what was printed gives the line that counts the characters that can't be typed
+-- one write after what was printed adds the line that counts the characters that can't be typed
 pub counted : (old new s h : List ℕ) (alone both : ℕ) → alone ≡ count_alone old new → both ≡ count_of_both old new
     → h ≡ s ++ (decimal (length new) ++ (codes " unreachable: " ++ (decimal alone ++ (codes " in the new table alone, " ++ (decimal both ++ (codes " in both tables" ++ 10 ∷ []))))))
     → h ≡ s ++ untypable_count old new

@@ -1,4 +1,4 @@
--- What each command answers on its parts.
+-- The answer of each command on its parts.
 use Rattle.std.specs.Prelude.{◌≡◌, ◌≢◌, ◌⊎◌, ℕ, List, [], ◌∷◌, ◌++◌, length, filter, flat_map, if◌then◌else◌, Option, Some, None, Result, Ok, string_bytes, codes, true, not}
 use Rattle.std.specs.List.{find}
 use Rattle.std.specs.Fmt.{decimal, digits}
@@ -64,7 +64,7 @@ among_parts allowed input = do
   checked ← or_because unread (parts_of input)
   Ok (record { checked = checked; allowed = allowed })
 
--- the verdict; and where it is yes, the first fresh keysym of the certificate that is not allowed, if there is one
+-- the verdict; and if it is yes, the first fresh keysym of the certificate that is not allowed, if there is one
 abbrev pub IsCheckedFor : AllowedParts → Answer → Type 0
 IsCheckedFor p (FreshNotAllowed keysym) = (verdict_on p.checked ≡ verdicts.Yes) × (first_not_among p.allowed p.checked.certificate.fresh ≡ Some keysym)
 IsCheckedFor p (Yes text) = IsChecked p.checked (Yes text) × (first_not_among p.allowed p.checked.certificate.fresh ≡ None)
@@ -86,14 +86,14 @@ IsExplained e (No text) = TellsLeast e.move.names e.fresh e.move.old e.move.new 
 IsExplained e (Invalid fault) = ⊥
 IsExplained e (FreshNotAllowed keysym) = ⊥
 
--- the tables differ, and the bytes tell all their differences and count them
+-- the tables differ, and the bytes list all their differences and count them
 pub record TellsAll (names : KeysymNames) (fresh : List ℕ) (old new : List Definition) (bytes : List ℕ) : Type 0 where
   pub differences : List Evidence
   pub are : AreDifferences names fresh old new differences
   pub some : differences ≢ []
   pub is : bytes ≡ all_explained names differences
 
--- `follows`, where there are no differences; or all of them
+-- `follows` if there are no differences; otherwise all of them
 abbrev pub IsAllExplained : Explainable → Answer → Type 0
 IsAllExplained e (Yes text) = AreDifferences e.move.names e.fresh e.move.old e.move.new [] × (string_bytes text ≡ one_line (codes "follows"))
 IsAllExplained e (No text) = TellsAll e.move.names e.fresh e.move.old e.move.new (string_bytes text)
@@ -102,7 +102,7 @@ IsAllExplained e (FreshNotAllowed keysym) = ⊥
 
 -- ---- make
 
--- what a certificate is made of, once the migration is read
+-- the input from which a certificate is made, once the migration is read
 abbrev pub needs_of : Parts → List ℕ → Result Needs NoAnswer
 needs_of move repertoire = do
   r ← or_because (λ why. unread (no_repertoire why)) (repertoire_of repertoire)
@@ -114,14 +114,15 @@ pub record SpellsMade (needs : Needs) (bytes : List ℕ) : Type 0 where
   pub made : IsMadeFor needs.move.names needs.fresh needs.move.old needs.move.new needs.repertoire certificate
   pub spells : Spells bytes certificate
 
--- the new table follows, no list of keys types the character, the least such one, and the bytes say so
+-- the new table follows, this character is the least one that no list of keys types, and the bytes name it
 pub record TellsUnreachable (needs : Needs) (bytes : List ℕ) : Type 0 where
   pub follows : model.Follows needs.move.names needs.fresh needs.move.old needs.move.new
   pub character : ℕ
   pub unreachable : IsUnreachable needs.move.names needs.move.new needs.repertoire character
   pub is : bytes ≡ one_line (codes "unreachable U+" ++ at_least_four (digits 16 true character))
 
--- a certificate's text; else the least counterexample's, where the new table does not follow; else the first character that has no typing
+-- a certificate's text; or the least counterexample's, if the new table does not follow; or the first character that
+-- has no typing
 abbrev pub IsMadeText : Needs → Answer → Type 0
 IsMadeText needs (Yes text) = SpellsMade needs (string_bytes text)
 IsMadeText needs (No text) = TellsLeast needs.move.names needs.fresh needs.move.old needs.move.new (string_bytes text) ⊎ TellsUnreachable needs (string_bytes text)
@@ -141,14 +142,14 @@ untypable_line old c = one_line (codes "unreachable U+" ++ at_least_four (digits
 abbrev pub each_untypable : List ℕ → List ℕ → List ℕ
 each_untypable old new = flat_map (untypable_line old) new
 
--- how many the old table can type, and how many it can't
+-- the number of characters that the old table can type, and of those that it can't
 abbrev pub count_alone : List ℕ → List ℕ → ℕ
 count_alone old new = length (filter (λ c. not (has_key old c)) new)
 
 abbrev pub count_of_both : List ℕ → List ℕ → ℕ
 count_of_both old new = length (filter (λ c. has_key old c) new)
 
--- as `3 unreachable: 2 in the new table alone, 1 in both tables`
+-- such as `3 unreachable: 2 in the new table alone, 1 in both tables`
 abbrev pub untypable_count : List ℕ → List ℕ → List ℕ
 untypable_count old new =
     one_line (decimal (length new) ++ codes " unreachable: " ++ decimal (count_alone old new) ++ codes " in the new table alone, " ++ decimal (count_of_both old new) ++ codes " in both tables")
@@ -157,7 +158,7 @@ untypable_count old new =
 abbrev pub untypable_lines : List ℕ → List ℕ → List ℕ
 untypable_lines old new = each_untypable old new ++ untypable_count old new
 
--- the bytes tell each character that the new table can't type, and which of them the old table can't type either
+-- the bytes list each character that the new table can't type, and mark those that the old table can't type either
 pub record IsUntypableText (move : Parts) (repertoire : certificates.Repertoire) (bytes : List ℕ) : Type 0 where
   pub old : List ℕ
   pub are_old : AreUntypable move.names move.old repertoire old
@@ -165,14 +166,15 @@ pub record IsUntypableText (move : Parts) (repertoire : certificates.Repertoire)
   pub are_new : AreUntypable move.names move.new repertoire new
   pub is : bytes ≡ untypable_lines old new
 
--- the new table follows, no list of keys types some character, and the bytes tell each such one
+-- the new table follows, no list of keys types some character, and the bytes list all such characters
 pub record TellsUntypable (needs : Needs) (bytes : List ℕ) : Type 0 where
   pub follows : model.Follows needs.move.names needs.fresh needs.move.old needs.move.new
   pub least : ℕ
   pub unreachable : IsUnreachable needs.move.names needs.move.new needs.repertoire least
   pub tells : IsUntypableText needs.move needs.repertoire bytes
 
--- a certificate's text; else the least counterexample's, where the new table does not follow; else all characters that have no typing
+-- a certificate's text; or the least counterexample's, if the new table does not follow; or all characters that have no
+-- typing
 abbrev pub IsAllMadeText : Needs → Answer → Type 0
 IsAllMadeText needs (Yes text) = SpellsMade needs (string_bytes text)
 IsAllMadeText needs (No text) = TellsLeast needs.move.names needs.fresh needs.move.old needs.move.new (string_bytes text) ⊎ TellsUntypable needs (string_bytes text)

@@ -1,4 +1,4 @@
--- What typing keys gives, unless memory ran out.
+-- The result of typing keys, unless memory ran out.
 use Rattle.std.specs.Prelude.{◌≡◌, ℕ, List, Result, Ok, Err, string_bytes}
 use Rattle.std.specs.declared.string.String.{String}
 use Rattle.std.specs.declared.alloc.Global.{Global}
@@ -10,13 +10,13 @@ use Rattle.compose_tool.specs.Typed.{typed_lines}
 use Rattle.compose_tool.specs.declared.typing.TypeFault.{TypeFault}
 use Rattle.compose_tool.specs.declared.typing.TypeFault.TheVariants.{Table, NoMemory as TypeNoMemory}
 
--- why no lines are typed: the table's fault that is said, unless memory is wanting
+-- why keys were not typed: this fault of the table, unless memory ran out
 abbrev pub TypeRefused : TypeFault → Result (List Definition) NoTable → Type 0
 TypeRefused (Table TableNoMemory) said = ⊥
 TypeRefused (Table fault) said = TableGives {T = List Definition} (λ table. table) (Err fault) said
 TypeRefused TypeNoMemory said = Unit {0}
 
--- the lines of the keys over the table that is said, or why there are none
+-- the lines of the keys over this table, or why there are none
 abbrev pub TypeGives : KeysymNames → List ℕ → Result (String Global) TypeFault → Result (List Definition) NoTable → Type 0
 TypeGives names keys (Ok text) said = (table : List Definition) × (said ≡ Ok table) × (string_bytes text ≡ typed_lines names table keys)
 TypeGives names keys (Err fault) said = TypeRefused fault said

@@ -1,4 +1,5 @@
--- What typing keys prints: at each key the word for what happened, and the text that was committed (this project's profile).
+-- The lines printed for typed keys: at each key the word for what happened, and the text that was committed (this
+-- project's profile).
 use Rattle.std.specs.Prelude.{ℕ, List, [], ◌∷◌, ◌++◌, drop, flat_map, take, codes}
 use Rattle.keysym_core.specs.Names.{KeysymNames}
 use Rattle.compose_model.specs.Table.{Definition}
@@ -23,15 +24,15 @@ typed_line s = effect_word s.effect ++ (32 ∷ (quote s.text ++ (10 ∷ [])))
 abbrev pub typed_lines : KeysymNames → List Definition → List ℕ → List ℕ
 typed_lines names table keys = flat_map typed_line (run names table keys)
 
--- the same of a list of keys among others, and an empty line after it (code 10 ends a line)
+-- the same for a list of keys among others, and an empty line after it (code 10 ends a line)
 abbrev pub typed_list : KeysymNames → List Definition → List ℕ → List ℕ
 typed_list names table keys = typed_lines names table keys ++ 10 ∷ []
 
--- the lists of keys, one after another, each of which has so many; those of each are typed from rest
+-- the lists of keys, one after another, each with this number of keys; each list is typed from rest
 abbrev pub typed_lists : KeysymNames → List Definition → List ℕ → List ℕ → List ℕ
 typed_lists names table keys [] = []
 typed_lists names table keys (count ∷ counts) = typed_list names table (take count keys) ++ typed_lists names table (drop count keys) counts
 
--- the same of an answer of a compose state
+-- the same for an answer of a compose state
 abbrev pub fed_line : Fed → List ℕ
 fed_line answer = fed_word answer ++ (32 ∷ (quote (text_bytes answer.text) ++ (10 ∷ [])))

@@ -1,4 +1,4 @@
-//! `check`: whether a certificate shows that the new table follows the old one.
+//! `check`: does a certificate show that the new table follows the old one?
 ghost use Rattle.std.specs.Prelude.{◌≡◌, map};
 ghost use Rattle.compose_cert.specs.Reading.{certificate_of};
 ghost use Rattle.compose_migration.specs.Migration.{or_because};
@@ -16,8 +16,11 @@ use compose_tree::ComposeTable;
 use keysym_core::Keysym;
 use std::alloc::Global;
 
-/// Checks a certificate: `yes`, or the first condition that it does not meet. The parts are read in the order names, old table, new
-/// table, repertoire, certificate, and the first that is refused decides. At the cost of `check_bytes`.
+/// Checks a certificate: the answer is `yes`, or the first condition that it does not meet. It
+/// costs what `check_bytes` does.
+///
+/// The parts are read in the order names, old table, new table, repertoire, certificate. Errors:
+/// the first of these that is refused; `NoMemory` if memory runs out.
 pub fn check_migration<T: ComposeTable>(
     alloc: Global,
     input: &CheckInput<'_>,
@@ -31,9 +34,13 @@ pub fn check_migration<T: ComposeTable>(
     }
 }
 
-/// Checks a certificate as `check_migration` does, and then that its fresh keysyms are all among those of the key names: for the others
-/// nothing is promised, and who made the certificate chose them. The key names are read after the names. At the cost of `check_bytes`, of
-/// reading the names and the certificate once more, and O(f w) in the fresh keysyms and the key names.
+/// Checks a certificate as `check_migration` does, and then that its fresh keysyms are all among
+/// those of the key names: the certificate promises nothing for fresh keysyms, and its maker chose
+/// them. It costs what `check_bytes` does, reads the names and the certificate once more, and takes
+/// O(f w) for f fresh keysyms and w key names.
+///
+/// The key names are read after the names. Errors: the first part that is refused; `NoMemory` if
+/// memory runs out.
 pub fn check_allowed<T: ComposeTable>(
     alloc: Global,
     input: &CheckInput<'_>,
@@ -63,7 +70,7 @@ fn check_among<T: ComposeTable>(
     }
 }
 
-/// The first fresh keysym of a certificate's text that is not among the allowed ones.
+/// Returns the first fresh keysym of a certificate's text that is not among the allowed ones.
 fn fresh_not_allowed(
     alloc: Global,
     certificate: &[u8],
@@ -76,7 +83,7 @@ fn fresh_not_allowed(
     Ok(first_not_allowed(certificate.fresh_keys(), allowed))
 }
 
-/// The certificate of a text.
+/// Reads the certificate from its text.
 fn read_certificate(alloc: Global, bytes: &[u8]) -> Result<Certificate, Refusal>
     ensures { Gives (λ said read. said ≡ read) result
         (or_because (λ why. unread (no_certificate why)) (certificate_of bytes.now)) }
@@ -88,7 +95,7 @@ fn read_certificate(alloc: Global, bytes: &[u8]) -> Result<Certificate, Refusal>
     }
 }
 
-/// The first of the keysyms that is not among the allowed ones.
+/// Returns the first of the keysyms that is not among the allowed ones.
 fn first_not_allowed(keysyms: &[Keysym], allowed: &[Keysym]) -> Option<Keysym>
     ensures { result ≡ first_not_among allowed.now keysyms.now }
 {

@@ -14,10 +14,12 @@ use compose_walk::{Counterexample, Differences, Walk, differences, explain, expl
 use keysym_core::{Keysym, Names};
 use std::alloc::{AllocError, Global};
 
-/// Tells the shortest keys on which the tables differ, the first of these in the order of sequences, and what each commits; or that
-/// the new table follows. The key names are those of the fresh keysyms, which are sorted. The parts are read in the order names, key names, old
-/// table, new table, and then the fresh keysyms are looked at; the first that is refused decides. At the cost of reading the tables
-/// and of `walk`.
+/// Answers with the shortest keys on which the tables differ, the first of several in the order of
+/// sequences, and with what each table commits; or that the new table follows. The key names are
+/// those of the fresh keysyms, which are sorted. It costs what reading the tables and `walk` do.
+///
+/// The parts are read in the order names, key names, old table, new table, and then the fresh
+/// keysyms are checked. Errors: the first of these that is refused; `NoMemory` if memory runs out.
 pub fn explain_migration<T: ComposeTable>(
     alloc: Global,
     input: &MigrationInput<'_, '_>,
@@ -29,7 +31,7 @@ pub fn explain_migration<T: ComposeTable>(
     explain_tables(alloc, &migration, &fresh)
 }
 
-/// Tells how these tables differ.
+/// Answers with the difference of these tables.
 fn explain_tables<T: ComposeTable>(
     alloc: Global,
     migration: &Migration<T>,
@@ -45,8 +47,11 @@ fn explain_tables<T: ComposeTable>(
     }
 }
 
-/// Tells all differences of the tables, the shortest first, and counts them; or that the new table follows. The first is the one that
-/// `explain_migration` tells. The parts are read, and refused, as there. At the cost of reading the tables and of `differences`.
+/// Answers with all differences of the tables, the shortest first, and with their number; or that
+/// the new table follows. The first is the one of `explain_migration`. It costs what reading the
+/// tables and `differences` do.
+///
+/// Errors: those of `explain_migration`.
 pub fn explain_all_migration<T: ComposeTable>(
     alloc: Global,
     input: &MigrationInput<'_, '_>,
@@ -58,7 +63,7 @@ pub fn explain_all_migration<T: ComposeTable>(
     explain_all_tables(alloc, &migration, &fresh)
 }
 
-/// Tells all differences of these tables.
+/// Answers with all differences of these tables.
 fn explain_all_tables<T: ComposeTable>(
     alloc: Global,
     migration: &Migration<T>,
@@ -75,7 +80,7 @@ fn explain_all_tables<T: ComposeTable>(
     Ok(Answer::No(tell_all(alloc, names, &found)?))
 }
 
-/// The four lines of a counterexample.
+/// Returns the four lines of a counterexample. `Err(AllocError)` if memory runs out.
 pub fn tell(
     alloc: Global,
     names: &Names,
@@ -89,7 +94,7 @@ pub fn tell(
     }
 }
 
-/// The lines of all differences.
+/// Returns the lines of all differences.
 fn tell_all(alloc: Global, names: &Names, differences: &Differences) -> Result<String, AllocError>
     ensures { IfOk result (λ text. string_bytes text ≡ all_explained names.now differences.now) }
 {

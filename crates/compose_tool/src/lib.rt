@@ -1,11 +1,5 @@
-//! What the commands of `composecheck` do over values: for each command the answer on the bytes that it is given.
-//!
-//! A command is a function from its input to `Result<Answer, Refusal>` (`compose_answer`).
-//!
-//! ```text
-//! let answered = type_keys::<PackedTable>(alloc, &header, &["a", "b"], &table);
-//! Ended::of(&answered).status()    // 0
-//! ```
+//! The commands of `composecheck` as functions over values: each returns its answer on the bytes
+//! that it is given.
 #![tactic(auto)]
 
 mod checking;

@@ -1,4 +1,4 @@
-//! `make`: a certificate, or why there is none.
+//! `make`: makes a certificate, or says why there is none.
 ghost use Rattle.std.specs.Prelude.{◌≡◌, ◌++◌, string_bytes, codes, true, IfOk};
 ghost use Rattle.std.specs.Fmt.{digits};
 ghost use Rattle.keysym_core.specs.Printed.{at_least_four};
@@ -18,10 +18,14 @@ use compose_tree::ComposeTable;
 use keysym_core::{Keysym, ShownChar};
 use std::alloc::{AllocError, Global};
 
-/// Makes the text of a certificate that the new table follows the old one and types what people need; or tells the shortest keys on
-/// which they differ, or the first character that can't be typed. The key names are those of the fresh keysyms, which are sorted. The parts are
-/// read in the order names, key names, old table, new table, repertoire, and then the fresh keysyms are looked at; the first that is
-/// refused decides. At the cost of reading them and of `make`.
+/// Makes the text of a certificate that the new table follows the old one and types what people
+/// need; or answers with the shortest keys on which they differ, or with the first character that
+/// can't be typed. The key names are those of the fresh keysyms, which are sorted. It costs what
+/// reading the parts and `make` do.
+///
+/// The parts are read in the order names, key names, old table, new table, repertoire, and then the
+/// fresh keysyms are checked. Errors: the first of these that is refused; `NoMemory` if memory runs
+/// out.
 pub fn make_migration<T: ComposeTable>(
     alloc: Global,
     input: &MigrationInput<'_, '_>,
@@ -46,7 +50,7 @@ fn make_from<T: ComposeTable>(
     tell_made(alloc, migration, &repertoire, &fresh)
 }
 
-/// Tells what is made of these tables.
+/// Answers with what is made from these tables.
 fn tell_made<T: ComposeTable>(
     alloc: Global,
     migration: &Migration<T>,
@@ -72,14 +76,14 @@ fn tell_made<T: ComposeTable>(
     }
 }
 
-/// The text of a certificate.
+/// Returns the text of a certificate. `Err(AllocError)` if memory runs out.
 pub fn spell(alloc: Global, certificate: &Certificate) -> Result<String, AllocError>
     ensures { IfOk result (λ text. Spells (string_bytes text) certificate.now) }
 {
     certificate.write_text(alloc).map_err(|_| AllocError)
 }
 
-/// The line of a character that no list of keys types.
+/// Returns the line of a character that no list of keys types.
 fn unreachable_line(alloc: Global, character: char) -> Result<String, AllocError>
     ensures { IfOk result (λ text. string_bytes text ≡ one_line (codes "unreachable U+" ++ at_least_four (digits 16 true character))) }
 {

@@ -1,4 +1,4 @@
-//! `make --all`: a certificate, or all characters that can't be typed.
+//! `make --all`: makes a certificate, or lists all characters that can't be typed.
 ghost use Rattle.std.specs.Prelude.{◌≡◌, ◌++◌, string_bytes, IfOk};
 ghost use Rattle.compose_migration.specs.MigrationGives.{given_of, parts};
 ghost use Rattle.compose_make.specs.Least.{AreUntypable};
@@ -19,9 +19,12 @@ use keysym_core::{Keysym, Names, ShownChar};
 use std::alloc::{AllocError, Global};
 use std::fmt::Write;
 
-/// Makes a certificate as `make_migration`, but tells each character that can't be typed, in order, with the words `in both tables`
-/// where the old one can't type it either, and a last line that counts them. The parts are read, and refused, as there. At the cost
-/// of `make_migration`, of `untypable` for both tables, and O(m n) in the characters that these can't type.
+/// Makes a certificate as `make_migration` does, but answers with all characters that can't be
+/// typed, in order: a line for each, which has the words `in both tables` if the old one can't type
+/// it either, and a last line that counts them. It costs what `make_migration` does, `untypable`
+/// for both tables, and O(m n) for the numbers m and n of characters that these can't type.
+///
+/// Errors: those of `make_migration`.
 pub fn make_all_migration<T: ComposeTable>(
     alloc: Global,
     input: &MigrationInput<'_, '_>,
@@ -33,7 +36,7 @@ pub fn make_all_migration<T: ComposeTable>(
     make_all_from(alloc, &migration, repertoire)
 }
 
-/// Makes a certificate for these tables, or tells all characters that can't be typed.
+/// Makes a certificate for these tables, or answers with all characters that can't be typed.
 fn make_all_from<T: ComposeTable>(
     alloc: Global,
     migration: &Migration<T>,
@@ -46,7 +49,7 @@ fn make_all_from<T: ComposeTable>(
     tell_all_made(alloc, migration, &repertoire, &fresh)
 }
 
-/// Tells what is made of these tables, and all characters that can't be typed.
+/// Answers with what is made from these tables, or with all characters that can't be typed.
 fn tell_all_made<T: ComposeTable>(
     alloc: Global,
     migration: &Migration<T>,
@@ -72,7 +75,7 @@ fn tell_all_made<T: ComposeTable>(
     }
 }
 
-/// The lines of all characters that the new table can't type.
+/// Returns the lines of all characters that the new table can't type.
 fn tell_untypable<T: ComposeTable>(
     alloc: Global,
     migration: &Migration<T>,
@@ -87,7 +90,7 @@ fn tell_untypable<T: ComposeTable>(
     untypable_lines(alloc, &before, &after)
 }
 
-/// The characters that a table can't type.
+/// Returns the characters that a table can't type.
 fn untypable_by<T: ComposeTable>(
     alloc: Global,
     table: &T,
@@ -104,7 +107,8 @@ fn untypable_by<T: ComposeTable>(
     }
 }
 
-/// A line for each of the new table's characters, and a line that counts them. O(m n) in the characters of both tables.
+/// Returns a line for each of the new table's characters, and a line that counts them. O(m n) for m
+/// and n characters of the tables.
 fn untypable_lines(alloc: Global, old: &[char], new: &[char]) -> Result<String, AllocError>
     ensures { IfOk result (λ text. string_bytes text ≡ answers.untypable_lines old.now new.now) }
 {
@@ -136,7 +140,7 @@ fn push_untypable(text: &mut String, old: &[char], character: char) -> Result<()
     Ok(())
 }
 
-/// The words for a character that the old table can't type either.
+/// Returns the words for a character that the old table can't type either.
 fn tables_words(old: &[char], character: char) -> &'static str
     ensures { result.now ≡ tables_words old.now character }
 {
@@ -162,7 +166,7 @@ fn push_count(text: &mut String, old: &[char], new: &[char]) -> Result<(), Alloc
     Ok(())
 }
 
-/// How many of the new table's characters are none of the old table's.
+/// Returns the number of the new table's characters that are not among the old table's.
 fn count_alone(old: &[char], new: &[char]) -> usize
     ensures { result ≡ count_alone old.now new.now }
 {
@@ -171,7 +175,7 @@ fn count_alone(old: &[char], new: &[char]) -> usize
         .count()
 }
 
-/// How many of the new table's characters are the old table's too.
+/// Returns the number of the new table's characters that are among the old table's too.
 fn count_of_both(old: &[char], new: &[char]) -> usize
     ensures { result ≡ count_of_both old.now new.now }
 {

@@ -1,4 +1,4 @@
-//! The parts of what a command is given, read in their order.
+//! The parts of a command's input, read in their order.
 ghost use Rattle.std.specs.Prelude.{◌≡◌, map, IfOk};
 ghost use Rattle.std.specs.Ordering.{nat_cmp};
 ghost use Rattle.compose_model.specs.Nodes.{rising};
@@ -17,7 +17,10 @@ use compose_tree::{ComposeTable, TableFault, read_first_table};
 use keysym_core::{Keysym, Names};
 use std::alloc::{AllocError, Global};
 
-/// The names of a header, and the keysyms of key names.
+/// Reads the names of a header, and the keysyms of key names.
+///
+/// Errors: `Names` if the header is refused, `Key` for the first key name that has no keysym,
+/// `NoMemory` if memory runs out.
 pub fn read_named(alloc: Global, header: &[u8], key_names: &[&str]) -> Result<Named, Refusal>
     ensures { Gives (λ said read. said ≡ named_parts read) result
         (given_key_names header.now (map (λ word. word.now) key_names.now)) }
@@ -28,7 +31,9 @@ pub fn read_named(alloc: Global, header: &[u8], key_names: &[&str]) -> Result<Na
     }
 }
 
-/// The one table that is given.
+/// Reads the only table.
+///
+/// Errors: `Table` if the table is refused, `NoMemory` if memory runs out.
 pub fn read_only_table<T: ComposeTable>(
     alloc: Global,
     names: &Names,
@@ -45,7 +50,10 @@ pub fn read_only_table<T: ComposeTable>(
     }
 }
 
-/// The names, the keysyms of the key names, and both tables of a migration.
+/// Reads the names, the keysyms of the key names, and both tables of a migration.
+///
+/// Errors: `Names`, `Key` or `Side` for the first of these that is refused, in this order;
+/// `NoMemory` if memory runs out.
 pub fn read_migration<T: ComposeTable>(
     alloc: Global,
     input: &MigrationInput<'_, '_>,
@@ -59,7 +67,9 @@ pub fn read_migration<T: ComposeTable>(
     }
 }
 
-/// The characters that people need, and the keys that they have.
+/// Reads the characters that people need, and the keys that they have.
+///
+/// Errors: `Repertoire` if the bytes are not a repertoire, `NoMemory` if memory runs out.
 pub fn read_repertoire(alloc: Global, bytes: &[u8]) -> Result<Repertoire, Refusal>
     ensures { Gives (λ said repertoire. said ≡ repertoire) result
         (or_because (λ why. unread (no_repertoire why)) (repertoire_of bytes.now)) }
@@ -71,7 +81,8 @@ pub fn read_repertoire(alloc: Global, bytes: &[u8]) -> Result<Repertoire, Refusa
     }
 }
 
-/// The keysyms in rising order, each once. O(n log n).
+/// Returns the keysyms in rising order, each once. `Err(AllocError)` if memory runs out. O(n log
+/// n).
 pub fn in_rising_order(alloc: Global, keys: &[Keysym]) -> Result<Vec<Keysym>, AllocError>
     ensures { IfOk result (λ fresh. fresh.items ≡ rising nat_cmp keys.now) }
 {

@@ -23,13 +23,13 @@ use keysym_core::{Keysym, Names};
 use std::alloc::{AllocError, Global};
 use thiserror::Error;
 
-/// Why no lines are typed.
+/// Why keys were not typed.
 #[derive(Debug, PartialEq, Eq, Drop, Error)]
 pub enum TypeFault {
-    /// The sources give no table.
+    /// The table could not be read from the sources.
     #[error("1 Table: {0}")]
     Table(TableFault),
-    /// A growth was refused.
+    /// Memory ran out.
     #[error("2 NoMemory")]
     NoMemory,
 }
@@ -44,9 +44,12 @@ impl From<AllocError> for TypeFault {
     }
 }
 
-/// What happens at each key, typed from rest with the table that is read from the root by the rule: a line for each key, of
-/// the word for it (`nothing`, `composing`, `composed`, `cancelled` or `ignored`), a blank and the committed text in quotes.
-/// The first fault of the table, if it has one. O(bytes of the sources + keys × log edges of a node).
+/// Types the keys from rest with the table that is read from the root by the rule. There is a line
+/// for each key, which has the word for what happens (`nothing`, `composing`, `composed`,
+/// `cancelled` or `ignored`), a blank and the committed text in quotes. O(bytes of the sources +
+/// keys × log edges of a node).
+///
+/// Errors: `Table` with the first fault of the table, if it has one; `NoMemory` if memory runs out.
 pub fn type_lines<T: ComposeTable>(
     alloc: Global,
     names: &Names,
@@ -72,8 +75,10 @@ pub fn type_lines<T: ComposeTable>(
     }
 }
 
-/// Types the keys with a table, from rest: a line for each key, as `type_lines` gives it. The parts are read in the order names, key names,
-/// table, and the first that is refused decides.
+/// Types the keys with a table, from rest: a line for each key, as in `type_lines`.
+///
+/// The parts are read in the order names, key names, table. Errors: the first of these that is
+/// refused; `NoMemory` if memory runs out.
 pub fn type_keys<T: ComposeTable>(
     alloc: Global,
     header: &[u8],
@@ -90,8 +95,11 @@ pub fn type_keys<T: ComposeTable>(
     Ok(Answer::Yes(lines))
 }
 
-/// Types lists of keys with a table, each from rest: a line for each key, as `type_lines` gives it, and an empty line after each list. `counts` has
-/// how many of the keys each list has, in order; keys after them are typed by none. The parts are read as by `type_keys`.
+/// Types lists of keys with a table, each from rest: a line for each key, as in `type_lines`, and
+/// an empty line after each list. `counts` has the number of keys of each list, in order; keys
+/// after the last list are not typed.
+///
+/// Errors: those of `type_keys`.
 pub fn type_lists<T: ComposeTable>(
     alloc: Global,
     header: &[u8],
@@ -109,7 +117,7 @@ pub fn type_lists<T: ComposeTable>(
     Ok(Answer::Yes(lines))
 }
 
-/// The lines of each list, and an empty line after them.
+/// Returns the lines of each list, and an empty line after each.
 fn lines_of_lists<T: ComposeTable>(
     alloc: Global,
     names: &Names,
@@ -131,7 +139,7 @@ fn lines_of_lists<T: ComposeTable>(
     Ok(lines)
 }
 
-/// The first of these keys, as many as asked for if there are so many, and those after them.
+/// Splits the keys after this number of them, or after all if there are fewer.
 fn first_keys(keys: &[Keysym], count: usize) -> (&[Keysym], &[Keysym])
     ensures first { result.0.now ≡ take count keys.now }
     ensures others { result.1.now ≡ drop count keys.now }
@@ -140,7 +148,7 @@ fn first_keys(keys: &[Keysym], count: usize) -> (&[Keysym], &[Keysym])
     (&keys[..own], &keys[own..])
 }
 
-/// Puts the lines of a list, and an empty line, behind the others.
+/// Appends the lines of a list, and an empty line.
 fn push_list<T: ComposeTable>(
     alloc: Global,
     lines: &mut String,
@@ -158,7 +166,8 @@ fn push_list<T: ComposeTable>(
     Ok(())
 }
 
-/// A line for each key: the word for what happens, a blank and the committed text in quotes. O(keys × log edges).
+/// Returns a line for each key: the word for what happens, a blank and the committed text in
+/// quotes. O(keys × log edges).
 fn lines_of_keys<T: ComposeTable>(
     alloc: Global,
     names: &Names,
@@ -177,7 +186,7 @@ fn lines_of_keys<T: ComposeTable>(
     Ok(lines)
 }
 
-/// Puts the line of an answer behind the others.
+/// Appends the line of an answer.
 fn push_line(alloc: Global, lines: &mut String, fed: &Fed<'_>) -> Result<(), AllocError>
     ensures { OnOk result (string_bytes lines.new ≡ string_bytes lines.old ++ fed_line fed.now) }
 {
@@ -191,7 +200,7 @@ fn push_line(alloc: Global, lines: &mut String, fed: &Fed<'_>) -> Result<(), All
     Ok(())
 }
 
-/// Quoting can fail for memory alone.
+/// Returns the error of memory: quoting a text can fail for no other reason.
 fn no_memory(_fault: LexFault) -> AllocError {
     AllocError
 }

@@ -15,7 +15,7 @@ use Rattle.compose_tree.proofs.OneMore.{parent_is_node}
 use Rattle.compose_tree.proofs.MoreRows.{map_of_map, rows_more, more_nodes, path_more, last_sequence_more}
 use Rattle.compose_tree.proofs.NextIn.{Next, next_of_settled, settled_prefix, nodes_grow, head_before, tail_rises}
 
--- rising sequences are the leaves as they stand
+-- sequences in increasing order are the leaves
 pub leaves_are : (table : List Definition) → sequences_rise table ≡ true → leaves table ≡ map (λ d. d.sequence) table
 leaves_are [] h = refl
 leaves_are (d ∷ []) h = refl
@@ -24,7 +24,7 @@ leaves_are (d ∷ e ∷ table) h =
     ap (put (slice_cmp nat_cmp) d.sequence) (leaves_are (e ∷ table) (tail_rises d e table h))
     ∙ ap (λ o. put_by o d.sequence e.sequence rest (put (slice_cmp nat_cmp) d.sequence rest)) (head_before d e table h)
 
--- one definition more
+-- one more definition
 pub take_more : (all : List Definition) (i : ℕ) → i < length all → take (i + 1) all ≡ take i all ++ get_or all i (record { sequence = []; text = [] }) ∷ []
 take_more all i h = rw add-one (take-suc all i (record { sequence = []; text = [] }) h)
 
@@ -53,7 +53,8 @@ way_length : (f : List ℕ → ℕ) (p : List ℕ) (k : ℕ) → length (map f (
 way_length f [] k = refl
 way_length f (j ∷ p) k = ap (λ xs. suc (length xs)) (map_of_map f (λ q. j ∷ q) (proper_prefixes (p ++ k ∷ []))) ∙ ap suc (way_length (λ q. f (j ∷ q)) p k)
 
--- what a sequence adds to the rows and the way before it, of which c keysyms lead along that way; i is the number of its leaf
+-- what a sequence adds to the rows before it and to the path, along which its first c keysyms lead; i is the number of
+-- its leaf
 pub record Adds (rows : List NodeRow) (path s : List ℕ) (i c : ℕ) (longer : List Definition) : Type 0 where
   pub within : c < length s
   pub way : c < length path
@@ -114,7 +115,7 @@ module _ (table : List Definition) (d : Definition) (i : ℕ) (n : Next table d)
         ∙ ap (λ x. take (length n.prefix + 1) (path_of table) ++ counted (length (rows_of table)) x) rest_is;
   }
 
--- so many leaves as definitions
+-- there are as many leaves as definitions
 pub leaf_count : (all : List Definition) (i : ℕ) → IsSettled all → i ≤ length all → length (leaves (take i all)) ≡ i
 leaf_count all i s h =
     let t = settled_take all i s in
@@ -131,7 +132,7 @@ adds_at all i s h =
     subst (λ (longer : List Definition). Adds (rows_of table) (path_of table) d.sequence i (shared_with_last table d.sequence) longer) (sym more)
     (subst (λ (c : ℕ). Adds (rows_of table) (path_of table) d.sequence i c (table ++ d ∷ [])) (sym n.count) (next_adds table d i n (leaf_count all i s (omega arith))))
 
--- the same, of what the code has at that index
+-- the same for the values in the code at that index
 pub adds_here : (all : List Definition) (i : ℕ) (rows : List NodeRow) (path s : List ℕ) (c : ℕ) → IsSettled all → i < length all → rows ≡ rows_of (take i all) → path ≡ path_of (take i all)
     → s ≡ sequence_at all i → c ≡ shared_with_last (take i all) (sequence_at all i) → Adds rows path s i c (take (i + 1) all)
 adds_here all i rows path s c settled h rows_are path_is sequence_is shared_is =
@@ -142,7 +143,7 @@ adds_here all i rows path s c settled h rows_are path_is sequence_is shared_is =
     (subst (λ (x : List ℕ). Adds (rows_of (take i all)) (path_of (take i all)) x i c longer) (sym sequence_is)
     (subst (λ (x : ℕ). Adds (rows_of (take i all)) (path_of (take i all)) (sequence_at all i) i x longer) (sym shared_is) (adds_at all i settled h))))
 
--- the nodes of a prefix are no more than all
+-- a prefix has no more nodes than the whole
 pub prefix_nodes : (all : List Definition) (i : ℕ) → IsSettled all → length (nodes (take i all)) ≤ length (nodes all)
 prefix_nodes all i s =
     let e = take-append-drop i all in
@@ -160,12 +161,12 @@ pub shared_nothing : (s : List ℕ) → shared s [] ≡ 0
 shared_nothing [] = refl
 shared_nothing (j ∷ s) = refl
 
--- where keysyms are left, an edge leads to the next node
+-- if keysyms are left, an edge leads to the next node
 pub next_is_node : (node leaf : ℕ) (rest : List ℕ) → 0 < length rest → Node (record { 0 = node }) ≡ next_target node leaf rest
 next_is_node node leaf [] h = absurd (omega arith)
 next_is_node node leaf (k ∷ rest) h = refl
 
--- the rows and the way as they are once the edge is put and the nodes are opened
+-- the rows and the path after the edge is added and the nodes are opened
 module _ (rows : List NodeRow) (path s : List ℕ) (i c : ℕ) (longer : List Definition) (a : Adds rows path s i c longer) where
   edge_put : (key node m : ℕ) (target : Target) (rows' : List NodeRow) → key ≡ get_or s c key → node ≡ get_or path c node → m ≡ length rows → target ≡ next_target m i (drop (c + 1) s)
       → rows' ≡ with_edge rows node (record { keysym = key; target = target })
@@ -180,7 +181,7 @@ module _ (rows : List NodeRow) (path s : List ℕ) (i c : ℕ) (longer : List De
   edge_put_count : (rows' : List NodeRow) (edge : Edge) → rows' ≡ with_edge rows (get_or path c 0) edge → length rows' ≡ length rows
   edge_put_count rows' edge e = ap length e ∙ length-set rows (get_or path c 0) (record { depth = (row_at rows (get_or path c 0)).depth; edges = (row_at rows (get_or path c 0)).edges ++ edge ∷ [] })
 
-  -- with its edge put at the parent and its new nodes opened, the rows are those of the longer table
+  -- with its edge added to the parent and its new nodes opened, the rows are those of the longer table
   pub rows_after : (key node m : ℕ) (target : Target) (rows' later : List NodeRow) → key ≡ get_or s c key → node ≡ get_or path c node → m ≡ length rows → target ≡ next_target m i (drop (c + 1) s)
       → rows' ≡ with_edge rows node (record { keysym = key; target = target })
       → later ≡ rows' ++ new_rows (length rows') i (c + 1) (drop (c + 1) s) → later ≡ rows_of longer
@@ -190,13 +191,13 @@ module _ (rows : List NodeRow) (path s : List ℕ) (i c : ℕ) (longer : List De
       opened ∙ ap (λ x. x ++ new_rows (length rows') i (c + 1) (drop (c + 1) s)) put'
       ∙ ap (λ n. with_edge rows (get_or path c 0) edge ++ new_rows n i (c + 1) (drop (c + 1) s)) (edge_put_count rows' edge put') ∙ sym a.more_rows
 
-  -- cut at the parent and led on through the new nodes, the path is that of the longer table
+  -- cut at the parent and continued through the new nodes, the path is that of the longer table
   pub path_after : (node : ℕ) (edge : Edge) (rows' : List NodeRow) (path' onward : List ℕ) → rows' ≡ with_edge rows node edge → path' ≡ take (c + 1) path
       → onward ≡ path' ++ counted (length rows') (drop (c + 1) s) → onward ≡ path_of longer
   path_after node edge rows' path' onward put_is cut opened =
       let n : length rows' ≡ length rows = ap length put_is ∙ length-set rows node (record { depth = (row_at rows node).depth; edges = (row_at rows node).edges ++ edge ∷ [] }) in
       opened ∙ ap (λ x. x ++ counted (length rows') (drop (c + 1) s)) cut ∙ ap (λ x. take (c + 1) path ++ counted x (drop (c + 1) s)) n ∙ sym a.more_path
 
-  -- the longer table has one row more for each keysym of the sequence behind the new edge
+  -- the longer table has one more row for each keysym of the sequence after the new edge
   pub count_after : (later : List NodeRow) → later ≡ rows_of longer → length later ≡ length rows + (length s - (c + 1))
   count_after later e = ap length e ∙ length-map (nodes longer) (row_of longer) ∙ a.nodes_count

@@ -1,4 +1,4 @@
--- How many edges there are in all, and how great the numbers are of what they lead to.
+-- The number of all edges, and bounds on the numbers of their targets.
 use Rattle.std.proofs.Common.{◌≡◌, ℕ, zero, suc, ◌+◌, ◌*◌, ◌<◌, ◌≤◌, List, [], ◌∷◌, ◌++◌, Bool, true, false, not, cond, length, map, set, get_or, take, drop, All, refl, sym, ◌∙◌, ap, subst, inl, inr, arith, zero-add, add-zero, add-one, length-append, length-drop}
 use Rattle.std.specs.Prelude.{nat_eq, nat_le}
 use Rattle.std.specs.List.{filter, position_or_len}
@@ -20,7 +20,7 @@ use Rattle.compose_tree.proofs.Adding.{Adds, adds_at}
 
 -- ---- the edges from a node on
 
--- how many edges are at nodes from this one on
+-- the number of edges at nodes from this one on
 abbrev pub edges_from : ℕ → List NodeEdge → ℕ
 edges_from i es = length (filter (λ (e : NodeEdge). nat_le i e.node) es)
 
@@ -35,7 +35,7 @@ none_from : (i : ℕ) (e : NodeEdge) (es : List NodeEdge) → e.node < i → edg
 unfolding counted_if
 none_from i e es h = ap (counted_if i es e) (lt-leb i e.node h)
 
--- those of a node, and those of the nodes behind it
+-- the edges of a node, and those of the nodes after it
 pub of_node_and_behind : (i : ℕ) (es : List NodeEdge) → length (edges_at i es) + edges_from (i + 1) es ≡ edges_from i es
 of_node_and_behind i [] = omega arith
 of_node_and_behind i (e ∷ es) =
@@ -110,7 +110,7 @@ total_new : (node leaf depth : ℕ) (rest : List ℕ) → edge_total (new_rows n
 total_new node leaf depth [] = refl
 total_new node leaf depth (k ∷ rest) = let behind = total_new (1 + node) leaf (1 + depth) rest in omega (arith, behind)
 
--- a sequence adds an edge for each of its keysyms at most
+-- a sequence adds at most one edge for each of its keysyms
 total_added : (rows : List NodeRow) (path s : List ℕ) (i c : ℕ) (longer : List Definition) → Adds rows path s i c longer → edge_total (rows_of longer) ≤ edge_total rows + length s
 total_added rows path s i c longer a =
     let edge : Edge = record { keysym = get_or s c 0; target = next_target (length rows) i (drop (c + 1) s) } in
@@ -132,7 +132,7 @@ total_prefix all (suc i) settled h =
     let same = ap (λ n. edge_total (rows_of (take n all))) (add-one i) in
     omega (arith, before, added, few, same)
 
--- the edges of a settled table are at most 32 for each definition
+-- a settled table has at most 32 edges for each definition
 pub edges_few_in_all : (table : List Definition) (ds : List ℕ) (es : List NodeEdge) → IsSettled table → AreAtNodes (length ds) es → gathered 0 ds es ≡ rows_of table → length es ≤ 32 * length table
 edges_few_in_all table ds es settled at_nodes is =
     let total = edges_total ds es at_nodes in let same = ap edge_total is in
@@ -151,7 +151,7 @@ where_few table q end n l = go (is_node table q)
     go true = let few = offset_few (same q) (nodes table) in omega arith
     go false = let few = offset_few (same q) (leaves table) in omega arith
 
--- what holds of all edges of a node holds of each one that is there
+-- a property of all edges of a node holds for each one of them
 known_at : (P : Edge → Type 0) (n : ℕ) (es : List NodeEdge) → All P (edges_at n es) → (k : ℕ) (d : NodeEdge) → k < length es → (get_or es k d).node ≡ n → P (get_or es k d).edge
 known_at P n [] all k d h at = absurd (omega arith)
 known_at P n (e ∷ es) all zero d h at = All-head P e.edge (edges_at n es) (subst (All P) (own_first n e es at) all)

@@ -1,4 +1,4 @@
--- Rows as one list of edges with their nodes: what one row or one edge more makes of them.
+-- Rows as one list of edges with their nodes: the effect of one more row or edge.
 use Rattle.std.proofs.Common.{◌≡◌, ℕ, zero, suc, ◌+◌, ◌<◌, ◌≤◌, List, [], ◌∷◌, ◌++◌, Bool, cond, length, map, set, get_or, take, drop, replicate, refl, sym, ◌∙◌, ap, arith, zero-add, add-one, length-append, drop-cons}
 use Rattle.std.specs.Prelude.{nat_eq}
 use Rattle.std.specs.List.{filter}
@@ -12,7 +12,7 @@ use Rattle.compose_tree.specs.Rows.{NodeRow, row_at, with_edge, counts_of, edges
 
 -- ---- the edges of one node
 
--- the edges of a node in two lists in a row are those in the first, and then those in the second
+-- the edges of a node in two lists in a row are those in the first, followed by those in the second
 pub edges_join : (i : ℕ) (es fs : List NodeEdge) → edges_at i (es ++ fs) ≡ edges_at i es ++ edges_at i fs
 edges_join i es fs =
     ap (map (λ (e : NodeEdge). e.edge)) (filter-append (λ (e : NodeEdge). nat_eq e.node i) es fs)
@@ -26,29 +26,29 @@ pub own_first : (i : ℕ) (e : NodeEdge) (es : List NodeEdge) → e.node ≡ i �
 unfolding first_if
 own_first i e es own = ap (first_if i e es) (eq-eqb e.node i own)
 
--- an edge of another node before others leaves the edges of a node
+-- an edge of another node before others leaves the edges of a node unchanged
 pub other_first : (i : ℕ) (e : NodeEdge) (es : List NodeEdge) → (e.node ≡ i → ⊥) → edges_at i (e ∷ es) ≡ edges_at i es
 unfolding first_if
 other_first i e es other = ap (first_if i e es) (ne_eqb e.node i other)
 
--- an edge of a node behind others is the last one of that node
+-- an edge of a node after others is the last one of that node
 pub own_last : (i : ℕ) (es : List NodeEdge) (e : NodeEdge) → e.node ≡ i → edges_at i (es ++ e ∷ []) ≡ edges_at i es ++ e.edge ∷ []
 own_last i es e own = edges_join i es (e ∷ []) ∙ ap (λ x. edges_at i es ++ x) (own_first i e [] own)
 
--- an edge of another node behind others leaves the edges of a node
+-- an edge of another node after others leaves the edges of a node unchanged
 pub other_last : (i : ℕ) (es : List NodeEdge) (e : NodeEdge) → (e.node ≡ i → ⊥) → edges_at i (es ++ e ∷ []) ≡ edges_at i es
 other_last i es e other = edges_join i es (e ∷ []) ∙ ap (λ x. edges_at i es ++ x) (other_first i e [] other) ∙ append-nil (edges_at i es)
 
--- a node behind those of all edges has none
+-- a node after those of all edges has none
 no_edges : (i : ℕ) (es : List NodeEdge) → AreAtNodes i es → edges_at i es ≡ []
 no_edges i [] below = refl
 no_edges i (e ∷ es) below =
     let P = λ (x : NodeEdge). x.node < i in
     other_first i e es (λ same. omega (arith, same, All-head P e es below)) ∙ no_edges i es (All-tail P e es below)
 
--- ---- one edge more
+-- ---- one more edge
 
--- an edge at none of these nodes changes no row of theirs
+-- an edge at none of these nodes changes none of their rows
 gathered_elsewhere : (i : ℕ) (ds : List ℕ) (es : List NodeEdge) (e : NodeEdge) → ((j : ℕ) → i ≤ j → j < i + length ds → e.node ≡ j → ⊥) → gathered i ds (es ++ e ∷ []) ≡ gathered i ds es
 gathered_elsewhere i [] es e apart = refl
 gathered_elsewhere i (d ∷ ds) es e apart =
@@ -68,16 +68,16 @@ gathered_edge i (suc k) (d ∷ ds) es e at h =
     let later = gathered_edge (1 + i) k ds es e (omega arith) (omega arith) in
     λ t. record { depth = d; edges = here t } ∷ later t
 
--- an edge more stands at its node
+-- one more edge is at its node
 pub edge_gathered : (ds : List ℕ) (es : List NodeEdge) (e : NodeEdge) → e.node < length ds → gathered 0 ds (es ++ e ∷ []) ≡ with_edge (gathered 0 ds es) e.node e.edge
 edge_gathered ds es e h = gathered_edge 0 e.node ds es e (omega arith) h
 
--- as many rows are gathered as there are depths
+-- there are as many rows as depths
 pub rows_count : (i : ℕ) (ds : List ℕ) (es : List NodeEdge) → length (gathered i ds es) ≡ length ds
 rows_count i [] es = refl
 rows_count i (d ∷ ds) es = ap suc (rows_count (1 + i) ds es)
 
--- ---- one row more
+-- ---- one more row
 
 gathered_row : (i : ℕ) (ds : List ℕ) (d : ℕ) (es : List NodeEdge) → gathered i (ds ++ d ∷ []) es ≡ gathered i ds es ++ record { depth = d; edges = edges_at (i + length ds) es } ∷ []
 gathered_row i [] d es = let e : i ≡ i + 0 = omega arith in λ t. record { depth = d; edges = edges_at (e t) es } ∷ []
@@ -104,7 +104,7 @@ row_opened ds ds' es es' depth node edge below last longer more =
 pub one_more_edge : (es : List NodeEdge) (k : ℕ) (e : NodeEdge) → k < length es → e ≡ get_or es k e → take (k + 1) es ≡ take k es ++ e ∷ []
 one_more_edge es k e h is = rw add-one (take-suc es k e h ∙ ap (λ x. take k es ++ x ∷ []) (sym is))
 
--- the edge at an index and those behind it
+-- the edge at an index and those after it
 pub edges_left : (es : List NodeEdge) (k : ℕ) (e : NodeEdge) → k < length es → e ≡ get_or es k e → drop k es ≡ e ∷ drop (k + 1) es
 edges_left es k e h is = rw add-one (drop-cons es k e h ∙ ap (λ x. x ∷ drop (suc k) es) (sym is))
 
@@ -130,7 +130,7 @@ count_at i k d [] es h = absurd (omega arith)
 count_at i zero d (c ∷ ds) es h = let e : i ≡ i + 0 = omega arith in ap (λ n. length (edges_at n es)) e
 count_at i (suc k) d (c ∷ ds) es h = let e : (1 + i) + k ≡ i + suc k = omega arith in count_at (1 + i) k d ds es (omega arith) ∙ ap (λ n. length (edges_at n es)) e
 
--- one edge more is counted at its node
+-- one more edge is counted at its node
 pub one_counted : (rows : List NodeRow) (n c : ℕ) (edge : Edge) → n < length rows → c ≡ get_or (counts_of rows) n c → counts_of (with_edge rows n edge) ≡ set (counts_of rows) n (c + 1)
 one_counted rows n c edge h is =
     let none : NodeRow = record { depth = 0; edges = [] } in

@@ -1,4 +1,4 @@
--- What the rows of a settled table say of its nodes, edges and leaves.
+-- What the rows of a settled table determine about its nodes, edges and leaves.
 use Rattle.std.proofs.Common.{◌≡◌, ℕ, zero, suc, ◌<◌, ◌≤◌, List, [], ◌∷◌, ◌++◌, Bool, true, false, cond, not, ◌&&◌, ◌||◌, ◌⊎◌, length, map, get_or, refl, sym, ◌∙◌, ap, arith, inl, inr, eqb-true, eq-eqb, nat_cmp, leb-true}
 use Rattle.std.specs.Prelude.{◌==◌, nat_eq, Option, Some, None, is_some, option_map, slice_get}
 use Rattle.std.specs.Option.{option_or}
@@ -64,12 +64,12 @@ lead_by true b n l = refl
 lead_by false true n l = refl
 lead_by false false n l = refl
 
--- an edge leads to the node or leaf behind it
+-- an edge leads to the node or leaf after it
 pub target_is : (table : List Definition) (p : List ℕ) (k : ℕ) → target_of table p k ≡ cond (has_edge table p k) (Some (where_to table (p ++ k ∷ []))) None
 target_is table p k =
     lead_by (is_node table (p ++ k ∷ [])) (is_sequence table (p ++ k ∷ [])) (Node (record { 0 = number_of table (p ++ k ∷ []) })) (Leaf (record { 0 = leaf_number table (p ++ k ∷ []) }))
 
--- the target of an edge is the node or the leaf behind it
+-- the target of an edge is the node or the leaf after it
 pub target_at_edge : (table : List Definition) (p : List ℕ) (k : ℕ) → has_edge table p k ≡ true → target_of table p k ≡ Some (where_to table (p ++ k ∷ []))
 target_at_edge table p k h = target_is table p k ∙ ap (λ b. cond {A = Option Target} b (Some (where_to table (p ++ k ∷ []))) None) h
 
@@ -89,7 +89,7 @@ index_in k (j ∷ ks) h = elim (or_cases (k == j) (list_any (λ i. k == i) ks) h
   | inr e ↦ (let q = index_in k ks e in (suc q.0, (let l = q.1 in omega arith), q.2))
 ]
 
--- where none of a node's keysyms is this one, it leads nowhere
+-- if none of a node's keysyms is this one, it leads nowhere
 pub leads_nowhere : (table : List Definition) (p : List ℕ) (k : ℕ) (keys : List ℕ) → keys ≡ edges table p → ((m : ℕ) → m < length keys → get_or keys m 0 ≡ k → ⊥) → None ≡ target_of table p k
 leads_nowhere table p k keys are none = sym (target_is table p k ∙ ap (λ b. cond {A = Option Target} b (Some (where_to table (p ++ k ∷ []))) None) (no_edge (cases_Bool (has_edge table p k))))
   where
@@ -101,7 +101,7 @@ leads_nowhere table p k keys are none = sym (target_is table p k ∙ ap (λ b. c
         absurd (none q.0 (omega arith) (ap (λ ks. get_or ks q.0 0) are ∙ q.2))
     no_edge (inr f) = f
 
--- what is read among a node's keysyms stands there
+-- a keysym that is read among those of a node is there
 pub key_read : (ks keys : List ℕ) (k i : ℕ) → keys ≡ ks → i < length keys → get_or keys i 0 ≡ k → (i < length ks) × (slice_get ks i ≡ Some k)
 key_read ks keys k i are h is =
     let n : length keys ≡ length ks = ap length are in
@@ -122,7 +122,7 @@ keysym_at es i e h at = get_or-map (λ (e : Edge). e.keysym) es i e 0 h ∙ ap (
 keysyms_counted : (es : List Edge) → length (keysyms_of es) ≡ length es
 keysyms_counted es = length-map es (λ (e : Edge). e.keysym)
 
--- where no edge of a node has this keysym, it leads nowhere
+-- if no edge of a node has this keysym, it leads nowhere
 pub scan_none : (table : List Definition) (p : List ℕ) (k : ℕ) (es : List Edge) → es ≡ map (edge_of table p) (edges table p) → ((m : ℕ) → m < length es → get_or (keysyms_of es) m 0 ≡ k → ⊥)
     → None ≡ target_of table p k
 scan_none table p k es e none =
@@ -220,7 +220,7 @@ pub leaf_text_is : (table : List Definition) (i : ℕ) (d : Definition) → IsSe
 leaf_text_is table i d s h =
     ap (λ ls. text_at table (get_or ls i [])) (leaves_are table s.rise) ∙ ap (text_at table) (get_or-map (λ (e : Definition). e.sequence) table i d [] h) ∙ text_at_index table i d s.rise h
 
--- what is read at a definition's index is its text
+-- the text at a definition's index is its text
 pub text_read : (table : List Definition) (i : ℕ) (t : List ℕ) (d : Definition) → i < length table → option_map (λ (e : Definition). e.text) (slice_get table i) ≡ Some t → t ≡ (get_or table i d).text
 text_read table i t d h e = let f : Some (get_or table i d).text ≡ Some t = ap (option_map (λ (e : Definition). e.text)) (sym (slice_get-get_or table i d h)) ∙ e in cc
 

@@ -1,4 +1,4 @@
--- What one sequence more adds to the rows of a table, and to the way to its last sequence.
+-- What one more sequence adds to the rows of a table, and to the path to its last sequence.
 use Rattle.std.proofs.Common.{◌≡◌, ℕ, suc, ◌+◌, List, [], ◌∷◌, ◌++◌, Bool, true, false, cond, not, ◌||◌, length, map, set, take, refl, sym, ◌∙◌, ap, arith, inl, inr, Less, nat_cmp, one-add, append_assoc, length-append, add-zero}
 use Rattle.std.specs.List.{list_any, position_or_len, AllByRecursion}
 use Rattle.std.specs.List.Sorted.{IsStrictlySortedBy}
@@ -54,7 +54,7 @@ last_sequence_more [] d = refl
 last_sequence_more (c ∷ []) d = refl
 last_sequence_more (c ∷ e ∷ table) d = last_sequence_more (e ∷ table) d
 
--- along a sorted list, maps that agree but at p differ at one index
+-- along a sorted list, maps that agree except at p differ at one index
 changed_at : {Y : Type 0} (f g : List ℕ → Y) (p : List ℕ) (xs : List (List ℕ)) → IsStrictlySortedBy (slice_cmp nat_cmp) xs → ((x : List ℕ) → list_any (same x) xs ≡ true → same x p ≡ false → g x ≡ f x)
     → list_any (same p) xs ≡ true → map g xs ≡ set (map f xs) (position_or_len (same p) xs) (g p)
 unfolding IsStrictlySortedBy
@@ -85,7 +85,7 @@ changed_at {Y = Y} f g p (x ∷ xs) s h found = go (same p x) refl found (change
         ]
 
 module _ (table : List Definition) (d : Definition) (p : List ℕ) (k : ℕ) (rest : List ℕ) (n : IsNext table d p k rest) where
-  -- the edges of the table lead where they led
+  -- the edges of the table keep their targets
   leads_stay : (x : List ℕ) → map (edge_of (table ++ d ∷ []) x) (edges table x) ≡ map (edge_of table x) (edges table x)
   leads_stay x = map_on (edge_of (table ++ d ∷ []) x) (edge_of table x) (edges table x)
       (all_found_keys (λ j. edge_of (table ++ d ∷ []) x j ≡ edge_of table x j) (edges table x) (λ j h. with_target j (lead_stays table d p k rest n x j (listed_edge table x j h))))
@@ -100,7 +100,7 @@ module _ (table : List Definition) (d : Definition) (p : List ℕ) (k : ℕ) (re
   row_stays x h other = with_edges (length x) (map (edge_of (table ++ d ∷ []) x) (edges (table ++ d ∷ []) x)) (map (edge_of table x) (edges table x))
       (ap (map (edge_of (table ++ d ∷ []) x)) (edges_elsewhere table d p k rest n x h other) ∙ leads_stay x)
 
-  -- where the new edge of p leads
+  -- the target of the new edge of p
   first_lead : where_to (table ++ d ∷ []) (p ++ k ∷ []) ≡ next_target (length (nodes table)) (length (leaves table)) rest
   first_lead =
       ap (where_to (table ++ d ∷ [])) (sym (append-nil (p ++ k ∷ []))) ∙ new_lead table d p k rest n [] rest refl
@@ -115,7 +115,7 @@ module _ (table : List Definition) (d : Definition) (p : List ℕ) (k : ℕ) (re
       ∙ ap (λ es. es ++ edge_of (table ++ d ∷ []) p k ∷ []) (leads_stay p)
       ∙ ap (λ t. map (edge_of table p) (edges table p) ++ record { keysym = k; target = t } ∷ []) first_lead)
 
-  -- the row of a new node, y behind p and k
+  -- the row of a new node, y after p and k
   new_row : (y : List ℕ) (j : ℕ) (r : List ℕ) (i m : ℕ) → rest ≡ y ++ j ∷ r → i ≡ length (nodes table) + length y → m ≡ length (p ++ k ∷ []) + length y
       → row_of (table ++ d ∷ []) ((p ++ k ∷ []) ++ y) ≡ record { depth = m; edges = record { keysym = j; target = next_target (1 + i) (length (leaves table)) r } ∷ [] }
   new_row y j r i m e at deep =
@@ -149,7 +149,7 @@ module _ (table : List Definition) (d : Definition) (p : List ℕ) (k : ℕ) (re
   parent_row_at = get_or-map (row_of table) (nodes table) (number_of table p) [] (record { depth = 0; edges = [] }) (number_below table p (parent_is_node table d p k rest n))
       ∙ ap (row_of table) (node_at_number table p (parent_is_node table d p k rest n))
 
-  -- one more edge at p, and the new nodes behind the others
+  -- one more edge at p, and the new nodes after the others
   pub rows_more : rows_of (table ++ d ∷ [])
       ≡ with_edge (rows_of table) (number_of table p) (record { keysym = k; target = next_target (length (nodes table)) (length (leaves table)) rest })
       ++ new_rows (length (nodes table)) (length (leaves table)) (length (p ++ k ∷ [])) rest
@@ -164,13 +164,13 @@ module _ (table : List Definition) (d : Definition) (p : List ℕ) (k : ℕ) (re
       (map_of_map row' (λ y. (p ++ k ∷ []) ++ y) (proper_prefixes rest)
       ∙ rows_from [] rest (length (nodes table)) (length (p ++ k ∷ [])) refl (sym (add-zero (length (nodes table)))) (sym (add-zero (length (p ++ k ∷ [])))))
 
-  -- the next sequence adds one node for each of its keysyms behind the new edge
+  -- the next sequence adds one node for each of its keysyms after the new edge
   pub more_nodes : length (nodes (table ++ d ∷ [])) ≡ length (nodes table) + length rest
   more_nodes =
       ap length (nodes_more table d p k rest n) ∙ length-append (nodes table) (new_nodes table d p k rest n)
       ∙ ap (λ i. length (nodes table) + i) (length-map (proper_prefixes rest) (λ y. (p ++ k ∷ []) ++ y) ∙ prefix_count rest)
 
-  -- ---- the way
+  -- ---- the path
 
   numbers_from : (y r : List ℕ) (i : ℕ) → rest ≡ y ++ r → i ≡ length (nodes table) + length y
       → map (λ z. number_of (table ++ d ∷ []) ((p ++ k ∷ []) ++ (y ++ z))) (proper_prefixes r) ≡ counted i r
@@ -185,7 +185,7 @@ module _ (table : List Definition) (d : Definition) (p : List ℕ) (k : ℕ) (re
       ∙ numbers_from (y ++ j ∷ []) r (1 + i) (e ∙ sym (append_assoc y (j ∷ []) r)) (omega arith) in
       ap (λ x. x ∷ map (λ z. number_of (table ++ d ∷ []) (q ++ (y ++ z))) (map (λ z. j ∷ z) (proper_prefixes r))) head ∙ ap (λ xs. i ∷ xs) tail
 
-  -- the way to the new sequence is the old way as far as p, and the new nodes
+  -- the path to the new sequence is the old path up to p, and the new nodes
   pub path_more : take (suc (length p)) (path_of table) ≡ map (number_of table) (proper_prefixes (p ++ k ∷ []))
       → path_of (table ++ d ∷ []) ≡ take (suc (length p)) (path_of table) ++ counted (length (nodes table)) rest
   path_more way =

@@ -1,4 +1,4 @@
--- In a settled table each sequence is next behind those before it.
+-- In a settled table each sequence is the next one after those before it.
 use Rattle.std.proofs.Common.{◌≡◌, ℕ, suc, ◌+◌, ◌<◌, ◌≤◌, List, [], ◌∷◌, ◌++◌, Bool, true, false, cond, not, ◌&&◌, ◌⊎◌, length, map, take, refl, sym, ◌∙◌, ap, subst, arith, inl, inr, eqb-true, eq-eqb, Ordering, Less, Equal, Greater, nat_cmp, append_assoc}
 use Rattle.std.specs.Prelude.{◌==◌}
 use Rattle.std.specs.List.{list_all}
@@ -20,7 +20,7 @@ use Rattle.compose_tree.proofs.Prefixes.{Before, behind_prefix, prefix_of_more, 
 use Rattle.compose_tree.proofs.OneMore.{IsNext, extended_more, sequence_more}
 use Rattle.compose_tree.proofs.MoreRows.{map_of_map, more_nodes}
 
--- ---- two lists that part
+-- ---- two lists that diverge
 
 apart : (j k : ℕ) → j < k → (j == k) ≡ false
 apart j k h = elim (cases_Bool (j == k)) [
@@ -28,7 +28,7 @@ apart j k h = elim (cases_Bool (j == k)) [
   | inr e ↦ e
 ]
 
--- two lists, neither of which is a prefix of the other: what they share, and where they part
+-- two lists, neither of which is a prefix of the other: their common prefix, and where they diverge
 pub record Parts (a b : List ℕ) : Type 0 where
   pub prefix : List ℕ
   pub first : ℕ
@@ -40,7 +40,7 @@ pub record Parts (a b : List ℕ) : Type 0 where
   pub less : nat_cmp first second ≡ Less
   pub count : shared a b ≡ length prefix
 
--- a list and a later one that it is no prefix of part somewhere
+-- a list and a later one of which it is no prefix diverge somewhere
 pub parts : (a b : List ℕ) → Before a b → is_proper_prefix a b ≡ false → Parts a b
 parts [] [] h f = cc
 parts [] (k ∷ b) h f = cc
@@ -80,7 +80,7 @@ parts (j ∷ a) (k ∷ b) h f = go (nat_cmp j k) refl h (λ l g. parts a b l g)
         one_more m e = omega arith
     go Greater e l later = cc
 
--- ---- what rises
+-- ---- increasing sequences
 
 before_from : (o : Ordering) → is_lt o ≡ true → o ≡ Less
 before_from Less h = refl
@@ -91,14 +91,14 @@ before_from Greater h = cc
 pub head_before : (c e : Definition) (table : List Definition) → sequences_rise (c ∷ e ∷ table) ≡ true → Before c.sequence e.sequence
 head_before c e table h = before_from (slice_cmp nat_cmp c.sequence e.sequence) (and_parts (is_lt (slice_cmp nat_cmp c.sequence e.sequence)) (sequences_rise (e ∷ table)) h).0
 
--- the sequences of a table that rise still do without the first one
+-- the sequences without the first one are still increasing
 pub tail_rises : (c e : Definition) (table : List Definition) → sequences_rise (c ∷ e ∷ table) ≡ true → sequences_rise (e ∷ table) ≡ true
 tail_rises c e table h = (and_parts (is_lt (slice_cmp nat_cmp c.sequence e.sequence)) (sequences_rise (e ∷ table)) h).1
 
 own_sequence : (d : Definition) (table : List Definition) → is_sequence (d ∷ table) d.sequence ≡ true
 own_sequence d table = or_left (same d.sequence d.sequence) (is_sequence table d.sequence) (same_from d.sequence d.sequence refl)
 
--- each sequence comes before the one behind all
+-- each sequence comes before the one after all
 rise_before : (table : List Definition) (d : Definition) (t : List ℕ) → sequences_rise (table ++ d ∷ []) ≡ true → is_sequence table t ≡ true → Before t d.sequence
 rise_before [] d t r h = cc
 rise_before (c ∷ []) d t r h = elim (or_cases (same t c.sequence) false h) [
@@ -112,7 +112,7 @@ rise_before (c ∷ e ∷ table) d t r h = elim (or_cases (same t c.sequence) (is
   | inr f ↦ rise_before (e ∷ table) d t (tail_rises c e (table ++ d ∷ []) r) f
 ]
 
--- the last sequence is one, and the others come before it
+-- the last sequence is in the table, and the others come before it
 last_in : (c : Definition) (table : List Definition) → is_sequence (c ∷ table) (last_sequence (c ∷ table)) ≡ true
 last_in c [] = own_sequence c []
 last_in c (e ∷ table) = or_right (same (last_sequence (e ∷ table)) c.sequence) (is_sequence (e ∷ table) (last_sequence (e ∷ table))) (last_in e table)
@@ -160,14 +160,14 @@ settled_prefix xs ys s = record {
 
 -- ---- the next sequence
 
--- the way to the last sequence, as far as p
+-- the path to the last sequence, up to p
 way_to : (f : List ℕ → ℕ) (p : List ℕ) (j : ℕ) (r : List ℕ) (k : ℕ) → take (suc (length p)) (map f (proper_prefixes (p ++ j ∷ r))) ≡ map f (proper_prefixes (p ++ k ∷ []))
 way_to f [] j r k = refl
 way_to f (i ∷ p) j r k =
     ap (λ xs. f [] ∷ take (suc (length p)) xs) (map_of_map f (λ q. i ∷ q) (proper_prefixes (p ++ j ∷ r))) ∙ ap (λ xs. f [] ∷ xs) (way_to (λ q. f (i ∷ q)) p j r k)
     ∙ ap (λ xs. f [] ∷ xs) (sym (map_of_map f (λ q. i ∷ q) (proper_prefixes (p ++ k ∷ []))))
 
--- how the definition goes on behind the table, and the way there
+-- how the definition continues the table, and the path there
 pub record Next (table : List Definition) (d : Definition) : Type 0 where
   pub prefix : List ℕ
   pub key : ℕ
@@ -233,7 +233,7 @@ module _ (c : Definition) (rows : List Definition) (d : Definition) (rise : sequ
   later_next : Next (c ∷ rows) d
   later_next = next_by (parts (last_sequence (c ∷ rows)) d.sequence last_before_next last_does_not_begin)
 
--- behind each prefix of a settled table the next definition goes on
+-- after each prefix of a settled table the next definition continues it
 pub next_of_settled : (table : List Definition) (d : Definition) → IsSettled (table ++ d ∷ []) → Next table d
 next_of_settled [] d s = go d.sequence refl (sequence_some d (and_parts (is_definition d) true s.definitions).0)
   where

@@ -1,4 +1,4 @@
--- What one sequence more adds to the nodes, leaves and edges of a table whose sequences all come before it.
+-- What one more sequence adds to the nodes, leaves and edges of a table whose sequences all come before it.
 use Rattle.std.proofs.Common.{◌≡◌, ℕ, ◌+◌, List, [], ◌∷◌, ◌++◌, Bool, true, false, cond, not, ◌&&◌, ◌||◌, ◌⊎◌, length, map, refl, sym, ◌∙◌, ap, arith, inl, inr, eqb-true, eq-eqb, Less, nat_cmp, one-add, append_assoc, add-zero}
 use Rattle.std.specs.Prelude.{◌==◌}
 use Rattle.std.specs.List.{list_any, flat_map, position_or_len, AllByRecursion}
@@ -24,7 +24,8 @@ use Rattle.compose_tree.specs.declared.table.Target.TheVariants.{Node, Leaf}
 use Rattle.compose_tree.specs.Targets.{leaf_number}
 use Rattle.compose_tree.specs.Rows.{where_to, next_target}
 
--- the definition d goes on with these keysyms behind p and k, where every sequence of the table comes before p and k, and what properly begins these is a node
+-- the definition d continues with these keysyms after p and k; every sequence of the table comes before p and k, and
+-- each proper prefix of these is a node
 pub record IsNext (table : List Definition) (d : Definition) (p : List ℕ) (k : ℕ) (rest : List ℕ) : Type 0 where
   pub sequence : d.sequence ≡ (p ++ k ∷ []) ++ rest
   pub below : (t : List ℕ) → is_sequence table t ≡ true → Before t (p ++ k ∷ [])
@@ -33,12 +34,12 @@ pub record IsNext (table : List Definition) (d : Definition) (p : List ℕ) (k :
 
 -- ---- the tests of the longer table
 
--- with one more definition, a list is extended where it was, or where it is a proper prefix of the new sequence
+-- with one more definition, a list is extended if it was before, or if it is a proper prefix of the new sequence
 pub extended_more : (table : List Definition) (d : Definition) (x : List ℕ) → is_extended (table ++ d ∷ []) x ≡ is_extended table x || is_proper_prefix x d.sequence
 extended_more table d x =
     list_any-append (λ (e : Definition). is_proper_prefix x e.sequence) table (d ∷ []) ∙ ap (λ b. is_extended table x || b) (or_false (is_proper_prefix x d.sequence))
 
--- with one more definition, a list is a sequence where it was, or where it is the new one
+-- with one more definition, a list is a sequence if it was before, or if it is the new one
 pub sequence_more : (table : List Definition) (d : Definition) (x : List ℕ) → is_sequence (table ++ d ∷ []) x ≡ is_sequence table x || same x d.sequence
 sequence_more table d x = list_any-append (λ (e : Definition). same x e.sequence) table (d ∷ []) ∙ ap (λ b. is_sequence table x || b) (or_false (same x d.sequence))
 
@@ -59,19 +60,19 @@ edge_more table d x j =
 
 -- ---- edges as lists
 
--- an edge is listed exactly where there is one
+-- an edge is listed exactly if there is one
 pub edge_is_listed : (table : List Definition) (x : List ℕ) (j : ℕ) → list_any (λ i. j == i) (edges table x) ≡ has_edge table x j
 edge_is_listed table x j = both_ways (list_any (λ i. j == i) (edges table x)) (has_edge table x j) (listed_edge table x j) (edge_listed table x j)
 
--- the edges of a node strictly rise
+-- the edges of a node are strictly increasing
 pub edges_sorted : (table : List Definition) (x : List ℕ) → IsStrictlySortedBy nat_cmp (edges table x)
 edges_sorted table x = IsStrictlySortedBy-filter nat_cmp (has_edge table x) (keysyms table) (rising_sorted nat_cmp_total (flat_map (λ (e : Definition). e.sequence) table))
 
--- a rising list of the keysyms that have edges is the list of edges
+-- an increasing list of the keysyms that have edges is the list of edges
 pub edges_are : (table : List Definition) (x ks : List ℕ) → IsStrictlySortedBy nat_cmp ks → ((j : ℕ) → has_edge table x j ≡ list_any (λ i. j == i) ks) → edges table x ≡ ks
 edges_are table x ks s f = one_rising_keys (edges table x) ks (edges_sorted table x) s (λ j. edge_is_listed table x j ∙ f j)
 
--- behind p with one keysym there is no empty list
+-- p followed by a keysym is not empty
 pub not_root : (x : List ℕ) (j : ℕ) → same (x ++ j ∷ []) [] ≡ false
 not_root [] j = refl
 not_root (i ∷ x) j = refl
@@ -88,7 +89,7 @@ index_in_prefix q (x ∷ xs) ys h = go (q x) h (index_in_prefix q xs ys)
     go true h f = refl
     go false h f = ap (λ n. 1 + n) (f h)
 
--- the first index at which a test holds in the second list alone comes after the first list
+-- an index at which a test holds only in the second list comes after the first list
 pub index_behind : {X : Type 0} (q : X → Bool) (xs ys : List X) → list_any q xs ≡ false → position_or_len q (xs ++ ys) ≡ length xs + position_or_len q ys
 index_behind q [] ys h = omega arith
 index_behind q (x ∷ xs) ys h = go (q x) h (index_behind q xs ys)
@@ -102,7 +103,7 @@ same_behind : (q x y : List ℕ) → same (q ++ x) (q ++ y) ≡ same x y
 same_behind [] x y = refl
 same_behind (k ∷ q) x y = rw (eq-eqb k k refl) (same_behind q x y)
 
--- behind a common prefix indexes stay
+-- a common prefix doesn't change indexes
 pub index_behind_prefix : (q y : List ℕ) (zs : List (List ℕ)) → position_or_len (same (q ++ y)) (map (λ z. q ++ z) zs) ≡ position_or_len (same y) zs
 index_behind_prefix q y [] = refl
 index_behind_prefix q y (z ∷ zs) =
@@ -140,19 +141,19 @@ never_root (j ∷ p) k rest = refl
 pub is_leaf : (table : List Definition) (v : List ℕ) → list_any (same v) (leaves table) ≡ is_sequence table v
 is_leaf table v = list_any-rising (slice_cmp nat_cmp) exact_bytes (same v) (map (λ (d : Definition). d.sequence) table) ∙ list_any-map (same v) (λ (d : Definition). d.sequence) table
 
--- the leaves of a table strictly rise
+-- the leaves of a table are strictly increasing
 pub leaves_sorted : (table : List Definition) → IsStrictlySortedBy (slice_cmp nat_cmp) (leaves table)
 leaves_sorted table = rising_sorted nat_list_cmp_total (map (λ (d : Definition). d.sequence) table)
 
--- what is a node is the target with its number
+-- a node is the target with its number
 pub at_node : (table : List Definition) (z : List ℕ) → is_node table z ≡ true → where_to table z ≡ Node (record { 0 = number_of table z })
 at_node table z h = ap (λ b. cond {A = Target} b (Node (record { 0 = number_of table z })) (Leaf (record { 0 = leaf_number table z }))) h
 
--- what is no node is the target with the number of its leaf
+-- a list that is no node is the target with the number of its leaf
 pub at_leaf : (table : List Definition) (z : List ℕ) → is_node table z ≡ false → where_to table z ≡ Leaf (record { 0 = leaf_number table z })
 at_leaf table z h = ap (λ b. cond {A = Target} b (Node (record { 0 = number_of table z })) (Leaf (record { 0 = leaf_number table z }))) h
 
--- ---- one sequence more
+-- ---- one more sequence
 
 module _ (table : List Definition) (d : Definition) (p : List ℕ) (k : ℕ) (rest : List ℕ) (n : IsNext table d p k rest) where
   -- a node comes before the new sequence's first new index
@@ -182,7 +183,7 @@ module _ (table : List Definition) (d : Definition) (p : List ℕ) (k : ℕ) (re
       ∙ ap (λ b. is_node table x || b) (sym (list_any-map (same x) (λ y. q ++ y) (proper_prefixes rest)))
       ∙ sym (list_any-append (same x) (nodes table) new_nodes)
 
-  -- the next sequence puts its new nodes behind the others
+  -- the next sequence puts its new nodes after the others
   pub nodes_more : nodes (table ++ d ∷ []) ≡ nodes table ++ new_nodes
   nodes_more =
       one_rising (nodes (table ++ d ∷ [])) (nodes table ++ new_nodes) (nodes_sorted (table ++ d ∷ []))
@@ -190,14 +191,14 @@ module _ (table : List Definition) (d : Definition) (p : List ℕ) (k : ℕ) (re
       (all_found (λ x. AllByRecursion (λ y. slice_cmp nat_cmp x y ≡ Less) new_nodes) (nodes table) (λ x h. all_before_longer x (p ++ k ∷ []) (proper_prefixes rest) (node_before x h))))
       node_more
 
-  -- what follows the new index is no node and no sequence of the table
+  -- a list that continues the new edge is no node and no sequence of the table
   pub no_node : (y : List ℕ) → is_node table ((p ++ k ∷ []) ++ y) ≡ false
   no_node y = elim (cases_Bool (is_node table ((p ++ k ∷ []) ++ y))) [
     | inl e ↦ absurd (not_before_prefix (p ++ k ∷ []) y (node_before ((p ++ k ∷ []) ++ y) e))
     | inr e ↦ e
   ]
 
-  -- no sequence of the table begins with the new edge behind its parent
+  -- no sequence of the table begins with the new edge after its parent
   pub no_sequence : (y : List ℕ) → is_sequence table ((p ++ k ∷ []) ++ y) ≡ false
   no_sequence y = elim (cases_Bool (is_sequence table ((p ++ k ∷ []) ++ y))) [
     | inl e ↦ absurd (not_before_prefix (p ++ k ∷ []) y (n.below ((p ++ k ∷ []) ++ y) e))
@@ -210,18 +211,18 @@ module _ (table : List Definition) (d : Definition) (p : List ℕ) (k : ℕ) (re
   pub node_stays : (x : List ℕ) → is_node table x ≡ true → is_node (table ++ d ∷ []) x ≡ true
   node_stays x h = node_more x ∙ list_any-append (same x) (nodes table) new_nodes ∙ or_left (is_node table x) (list_any (same x) new_nodes) h
 
-  -- a node keeps its number where the next sequence comes after the others
+  -- a node keeps its number if the next sequence comes after the others
   pub number_stays : (x : List ℕ) → is_node table x ≡ true → number_of (table ++ d ∷ []) x ≡ number_of table x
   number_stays x h = ap (position_or_len (same x)) nodes_more ∙ index_in_prefix (same x) (nodes table) new_nodes h
 
-  -- a new node is numbered behind the others
+  -- a new node is numbered after the others
   pub new_number : (y : List ℕ) (j : ℕ) (r : List ℕ) → rest ≡ y ++ j ∷ r → number_of (table ++ d ∷ []) ((p ++ k ∷ []) ++ y) ≡ length (nodes table) + length y
   new_number y j r e =
       let q = p ++ k ∷ [] in
       ap (position_or_len (same (q ++ y))) nodes_more ∙ index_behind (same (q ++ y)) (nodes table) new_nodes (no_node y)
       ∙ ap (λ i. length (nodes table) + i) (index_behind_prefix q y (proper_prefixes rest) ∙ ap (λ z. position_or_len (same y) (proper_prefixes z)) e ∙ index_of_prefix y j r)
 
-  -- what the next sequence goes on behind is a node
+  -- each prefix from which the next sequence continues is a node
   pub new_node : (y : List ℕ) (j : ℕ) (r : List ℕ) → rest ≡ y ++ j ∷ r → is_node (table ++ d ∷ []) ((p ++ k ∷ []) ++ y) ≡ true
   new_node y j r e =
       let q = p ++ k ∷ [] in
@@ -242,7 +243,7 @@ module _ (table : List Definition) (d : Definition) (p : List ℕ) (k : ℕ) (re
     | inr e ↦ n.below (p ++ j ∷ []) e
   ])
 
-  -- what goes on behind a node of the table along the new sequence is there already, or is p and k
+  -- a list that continues a node of the table along the new sequence is there already, or is p and k
   edge_along : (x : List ℕ) (j : ℕ) → is_node table x ≡ true → begins (x ++ j ∷ []) d.sequence ≡ true → has_edge table x j || (same x p && j == k) ≡ true
   edge_along x j h e =
       let q = p ++ k ∷ [] in
@@ -275,11 +276,11 @@ module _ (table : List Definition) (d : Definition) (p : List ℕ) (k : ℕ) (re
         | inr f ↦ or_right (has_edge table x j) (begins (x ++ j ∷ []) d.sequence) (new_edge_begins x j f)
       ])
 
-  -- where the next sequence leaves the others, there is a node
+  -- there is a node at which the next sequence leaves the others
   pub parent_is_node : is_node table p ≡ true
   parent_is_node = n.opened p (prefix_of_longer p [] k)
 
-  -- the next sequence puts one edge behind the others at the node where it leaves them
+  -- the next sequence puts one edge after the others at the node where it leaves them
   pub edges_at_parent : edges (table ++ d ∷ []) p ≡ edges table p ++ k ∷ []
   edges_at_parent =
       edges_are (table ++ d ∷ []) p (edges table p ++ k ∷ [])
@@ -289,7 +290,7 @@ module _ (table : List Definition) (d : Definition) (p : List ℕ) (k : ℕ) (re
       ∙ ap (λ b. b || j == k) (sym (edge_is_listed table p j)) ∙ ap (λ b. list_any (λ i. j == i) (edges table p) || b) (sym (or_false (j == k)))
       ∙ sym (list_any-append (λ i. j == i) (edges table p) (k ∷ [])))
 
-  -- the next sequence leaves the edges of every other node
+  -- the next sequence leaves the edges of every other node unchanged
   pub edges_elsewhere : (x : List ℕ) → is_node table x ≡ true → same x p ≡ false → edges (table ++ d ∷ []) x ≡ edges table x
   edges_elsewhere x h other =
       edges_are (table ++ d ∷ []) x (edges table x) (edges_sorted table x)
@@ -321,12 +322,12 @@ module _ (table : List Definition) (d : Definition) (p : List ℕ) (k : ℕ) (re
       (λ x. is_leaf (table ++ d ∷ []) x ∙ sequence_more table d x ∙ ap (λ b. b || same x d.sequence) (sym (is_leaf table x))
       ∙ ap (λ b. list_any (same x) (leaves table) || b) (sym (or_false (same x d.sequence))) ∙ sym (list_any-append (same x) (leaves table) (d.sequence ∷ [])))
 
-  -- ---- where edges lead
+  -- ---- the targets of edges
 
   new_sequence : is_sequence (table ++ d ∷ []) d.sequence ≡ true
   new_sequence = sequence_more table d d.sequence ∙ or_right (is_sequence table d.sequence) (same d.sequence d.sequence) (same_from d.sequence d.sequence refl)
 
-  -- an edge of the table leads where it led
+  -- an edge of the table keeps its target
   pub lead_stays : (x : List ℕ) (j : ℕ) → has_edge table x j ≡ true → where_to (table ++ d ∷ []) (x ++ j ∷ []) ≡ where_to table (x ++ j ∷ [])
   lead_stays x j h = go (cases_Bool (is_node table (x ++ j ∷ [])))
     where

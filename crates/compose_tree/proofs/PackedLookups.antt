@@ -1,4 +1,4 @@
--- How the packed arrays are made, step by step, and what is found in them.
+-- How the packed arrays are built, step by step, and the results of searches in them.
 use Rattle.std.proofs.Common.{◌≡◌, ℕ, zero, suc, ◌+◌, ◌-◌, ◌<◌, ◌≤◌, List, [], ◌∷◌, ◌++◌, true, ◌⊎◌, length, map, get_or, slice_index, take, drop, refl, sym, ◌∙◌, ap, subst, arith, inl, inr, eq-eqb, add-one, add-zero, zero-add, append_assoc, length-append, drop-cons}
 use Rattle.std.specs.Prelude.{◌==◌, Some, None, option_map, slice_get}
 use Rattle.std.specs.List.{list_all}
@@ -34,7 +34,7 @@ texts_on all i t h e =
     let d : Definition = record { sequence = []; text = [] } in
     rw add-one (ap texts_of (drop-cons all i d h) ∙ ap (λ x. x ∷ texts_of (drop (suc i) all)) (sym (text_read all i t d h e)))
 
--- with the offset of one more text pushed, those of the texts left come after it
+-- with the offset of one more text pushed, those of the remaining texts come after it
 pub offsets_step : (all : List Definition) (i offset next : ℕ) (whole offsets more t : List ℕ) → whole ≡ offsets ++ packed_offsets offset (texts_of (drop i all))
     → texts_of (drop i all) ≡ t ∷ texts_of (drop (i + 1) all)
     → more ≡ offsets ++ offset ∷ [] → next ≡ offset + length t → whole ≡ more ++ packed_offsets next (texts_of (drop (i + 1) all))
@@ -43,19 +43,19 @@ offsets_step all i offset next whole offsets more t e f g h =
     e ∙ ap (λ ts. offsets ++ packed_offsets offset ts) f ∙ sym (append_assoc offsets (offset ∷ []) (packed_offsets (offset + length t) rest))
     ∙ ap (λ x. x ++ packed_offsets (offset + length t) rest) (sym g) ∙ ap (λ n. more ++ packed_offsets n rest) (sym h)
 
--- with one more text pushed to the pool, the texts left come after it
+-- with one more text pushed to the pool, the remaining texts come after it
 pub pool_step : (all : List Definition) (i : ℕ) (whole bytes more t : List ℕ) → whole ≡ bytes ++ pool (texts_of (drop i all)) → texts_of (drop i all) ≡ t ∷ texts_of (drop (i + 1) all)
     → more ≡ bytes ++ t → whole ≡ more ++ pool (texts_of (drop (i + 1) all))
 pool_step all i whole bytes more t e f g =
     let rest = texts_of (drop (i + 1) all) in
     e ∙ ap (λ ts. bytes ++ pool ts) f ∙ sym (append_assoc bytes t (pool rest)) ∙ ap (λ x. x ++ pool rest) (sym g)
 
--- a text of UTF-8 before others that are UTF-8 leaves them all so
+-- a text in UTF-8 before others in UTF-8
 pub utf8_step : (all : List Definition) (i : ℕ) (t : List ℕ) → texts_of (drop i all) ≡ t ∷ texts_of (drop (i + 1) all) → IsUtf8 t → list_all is_utf8 (texts_of (drop (i + 1) all)) ≡ true
     → list_all is_utf8 (texts_of (drop i all)) ≡ true
 utf8_step all i t f u h = ap (list_all is_utf8) f ∙ and_from (is_utf8 t) (list_all is_utf8 (texts_of (drop (i + 1) all))) (is_utf8-from_IsUtf8 t u) h
 
--- ---- the search among rising keysyms
+-- ---- the search among increasing keysyms
 
 -- a list of packed edges and that of their keysyms agree at each index
 pub key_there : (edges : List PackedEdge) (m : ℕ) (e : PackedEdge) → m < length edges → e ≡ get_or edges m e → slice_index (keys_of edges) m ≡ e.keysym
@@ -64,7 +64,7 @@ key_there edges m e h at = get_or-map (λ (e : PackedEdge). e.keysym) edges m e 
 keys_length : (edges : List PackedEdge) → length (keys_of edges) ≡ length edges
 keys_length edges = length-map edges (λ (e : PackedEdge). e.keysym)
 
--- where the keysym at m is no greater, each below m is less
+-- if the keysym at m is not greater, each below m is less
 pub less_below : (edges : List PackedEdge) (key m : ℕ) → IsStrictlyIncreasing (keys_of edges) → m < length edges → slice_index (keys_of edges) m ≤ key → (k : ℕ) → k < m
     → slice_index (keys_of edges) k < key
 less_below edges key m rise h less k lower =
@@ -72,7 +72,7 @@ less_below edges key m rise h less k lower =
     let l : slice_index (keys_of edges) k < slice_index (keys_of edges) m = below_from_sorted (keys_of edges) k m 0 (sorted_from_strictly_increasing (keys_of edges) rise) lower (omega arith) in
     omega arith
 
--- where the keysym at m is greater, each from m on is greater
+-- if the keysym at m is greater, each from m on is greater
 pub greater_from : (edges : List PackedEdge) (key m : ℕ) → IsStrictlyIncreasing (keys_of edges) → key < slice_index (keys_of edges) m → (k : ℕ) → m ≤ k → k < length edges
     → key < slice_index (keys_of edges) k
 greater_from edges key m rise greater k le h = go (eq-or-lt_of_le le)
@@ -83,7 +83,7 @@ greater_from edges key m rise greater k le h = go (eq-or-lt_of_le le)
         (let n = keys_length edges in let l : slice_index (keys_of edges) m < slice_index (keys_of edges) k = below_from_sorted
         (keys_of edges) m k 0 (sorted_from_strictly_increasing (keys_of edges) rise) lower (omega arith) in omega arith)
 
--- where the keysym can be at one index alone and is not there, it is nowhere
+-- if the keysym can be at only one index and is not there, it is nowhere
 pub nowhere_else : (edges : List PackedEdge) (key first count : ℕ) → count ≤ 1 → ((k : ℕ) → k < first → slice_index (keys_of edges) k < key)
     → ((k : ℕ) → first + count ≤ k → k < length edges → key < slice_index (keys_of edges) k)
     → (count ≡ 1 → slice_index (keys_of edges) first ≡ key → ⊥) → (k : ℕ) → k < length edges → slice_index (keys_of edges) k ≡ key → ⊥
@@ -95,7 +95,7 @@ nowhere_else edges key first count few below above not_there k h same = elim (ca
   ]
 ]
 
--- ---- the arrays of a table spell it
+-- ---- the arrays of a table mean that table
 
 -- a settled table that is packed is unpacked again
 pub unpack : (table : List Definition) → IsSettled table → unpacked (packed_nodes 0 (rows_of table)) (packed_edges (rows_of table)) (packed_offsets 0 (texts_of table)) (pool (texts_of table)) ≡ table
@@ -107,7 +107,7 @@ unpack table s =
 
 -- ---- a node's entries
 
--- the entries of node i and of the one behind it, counted from an index, and its edges among all
+-- the entries of node i and of the one after it, counted from an index, and its edges among all
 pub record NodePiece (nodes : List PackedNode) (edges : List PackedEdge) (offset i : ℕ) (row : NodeRow) : Type 0 where
   pub prefix : List PackedEdge
   pub back : List PackedEdge
@@ -121,7 +121,7 @@ first_offset : (rows : List NodeRow) (offset : ℕ) (d : PackedNode) → (get_or
 first_offset [] offset d = refl
 first_offset (r ∷ rows) offset d = refl
 
--- there is one packed node more than rows
+-- there is one more packed node than rows
 pub packed_count : (rows : List NodeRow) (offset : ℕ) → length (packed_nodes offset rows) ≡ length rows + 1
 packed_count [] offset = refl
 packed_count (r ∷ rows) offset = let e = packed_count rows (offset + length r.edges) in omega arith
@@ -166,7 +166,7 @@ module _ (nodes' : List PackedNode) (edges' : List PackedEdge) (offsets bytes : 
       (subst (λ (x : NodeRow). NodePiece (packed_nodes 0 (rows_of table)) (packed_edges (rows_of table)) 0 i x) (row_at_node i h)
       (node_piece (rows_of table) 0 i (let n = length-map (nodes table) (row_of table) in omega arith))))
 
-  -- there is one packed node more than nodes of the table
+  -- there is one more packed node than nodes of the table
   pub nodes_count : length nodes' ≡ length (nodes table) + 1
   nodes_count = ap length p.nodes_are ∙ packed_count (rows_of table) 0 ∙ ap (λ n. n + 1) (length-map (nodes table) (row_of table))
 
@@ -183,18 +183,18 @@ module _ (nodes' : List PackedNode) (edges' : List PackedEdge) (offsets bytes : 
       ap length q.edges_are ∙ length-append q.prefix (es ++ q.back) ∙ ap (λ m. length q.prefix + m) (length-append es q.back) in
       (omega arith, omega arith, ap (λ x. take (end - first) (drop first x)) q.edges_are ∙ piece first end q.prefix es q.back (sym from) (omega arith))
 
--- ---- what a search of a node's edges tells
+-- ---- the result of a search of a node's edges
 
 -- the packed edges of some keysyms have these keysyms
 pub packed_keys : (table : List Definition) (x ks : List ℕ) → keys_of (map packed_edge (map (edge_of table x) ks)) ≡ ks
 packed_keys table x [] = refl
 packed_keys table x (k ∷ ks) = ap (λ z. k ∷ z) (packed_keys table x ks)
 
--- the keysyms of a node's packed edges strictly rise
+-- the keysyms of a node's packed edges are strictly increasing
 pub keys_rise : (table : List Definition) (x : List ℕ) (es : List PackedEdge) → es ≡ map packed_edge (map (edge_of table x) (edges table x)) → IsStrictlyIncreasing (keys_of es)
 keys_rise table x es e = subst IsStrictlyIncreasing (sym (ap keys_of e ∙ packed_keys table x (edges table x))) (IsStrictlyIncreasing-from_sorted (edges table x) (edges_sorted table x))
 
--- where no edge has the keysym, it leads nowhere
+-- if no edge has the keysym, it leads nowhere
 pub step_none : (table : List Definition) (x : List ℕ) (k : ℕ) (es : List PackedEdge) → es ≡ map packed_edge (map (edge_of table x) (edges table x))
     → ((m : ℕ) → m < length es → slice_index (keys_of es) m ≡ k → ⊥) → None ≡ target_of table x k
 step_none table x k es e none =
@@ -235,12 +235,12 @@ edge_read table x i es e t es_are h at unpacked_is =
 pub edges_counted : (table : List Definition) (x : List ℕ) (es : List PackedEdge) → es ≡ map packed_edge (map (edge_of table x) (edges table x)) → length es ≡ length (edges table x)
 edges_counted table x es e = ap length e ∙ length-map (map (edge_of table x) (edges table x)) packed_edge ∙ length-map (edges table x) (edge_of table x)
 
--- arrays that are those of what they spell are those of what this is
+-- arrays that are those of their meaning are those of this table, if it is their meaning
 pub packed_as : (nodes' : List PackedNode) (edges' : List PackedEdge) (offsets bytes : List ℕ) (table : List Definition) → IsPacked nodes' edges' offsets bytes (unpacked nodes' edges' offsets bytes)
     → unpacked nodes' edges' offsets bytes ≡ table → IsPacked nodes' edges' offsets bytes table
 packed_as nodes' edges' offsets bytes table p e = subst (IsPacked nodes' edges' offsets bytes) e p
 
--- the arrays of a table spell it
+-- the arrays of a table mean that table
 pub unpack_packed : (nodes' : List PackedNode) (edges' : List PackedEdge) (offsets bytes : List ℕ) (table : List Definition) → IsPacked nodes' edges' offsets bytes table
     → unpacked nodes' edges' offsets bytes ≡ table
 unpack_packed nodes' edges' offsets bytes table p =

@@ -1,4 +1,4 @@
--- What is found in the pool of texts.
+-- The results of look-ups in the pool of texts.
 use Rattle.std.proofs.Common.{◌≡◌, ℕ, zero, suc, ◌+◌, ◌-◌, ◌<◌, ◌≤◌, List, [], ◌∷◌, ◌++◌, true, length, get_or, take, drop, refl, sym, ◌∙◌, ap, subst, arith, add-one, add-zero, zero-add, append_assoc, length-append}
 use Rattle.std.specs.Prelude.{Some}
 use Rattle.std.specs.List.{list_all}
@@ -16,7 +16,7 @@ use Rattle.compose_model.proofs.Definitions.{text_few, definition_at}
 use Rattle.compose_tree.proofs.Lookups.{leaves_count, leaf_text_is}
 use Rattle.compose_tree.proofs.Unpacking.{piece}
 
--- the index of text i and of the one behind it, counted from an index, and its bytes in the pool
+-- the index of text i and of the one after it, counted from an index, and its bytes in the pool
 pub record TextPiece (offsets bytes : List ℕ) (offset i : ℕ) (text : List ℕ) : Type 0 where
   pub prefix : List ℕ
   pub back : List ℕ
@@ -35,7 +35,7 @@ first_offset : (texts : List (List ℕ)) (offset d : ℕ) → get_or (packed_off
 first_offset [] offset d = refl
 first_offset (t ∷ texts) offset d = refl
 
--- there is one offset more than texts
+-- there is one more offset than texts
 pub offsets_count : (texts : List (List ℕ)) (offset : ℕ) → length (packed_offsets offset texts) ≡ length texts + 1
 offsets_count [] offset = refl
 offsets_count (t ∷ texts) offset = let e = offsets_count texts (offset + length t) in omega arith
@@ -78,18 +78,18 @@ pub record TextBetween (bytes : List ℕ) (first end : ℕ) (text : List ℕ) : 
   pub cut : take (end - first) (drop first bytes) ≡ text
 
 module _ (nodes' : List PackedNode) (edges' : List PackedEdge) (offsets bytes : List ℕ) (table : List Definition) (p : IsPacked nodes' edges' offsets bytes table) where
-  -- the offsets of a leaf, and of the one behind it, are the ends of its text in the pool
+  -- the offsets of a leaf, and of the one after it, are the ends of its text in the pool
   pub leaf_entries : (i : ℕ) → i < length (leaves table) → TextPiece offsets bytes 0 i (get_or (texts_of table) i [])
   leaf_entries i h =
       subst (λ (x : List ℕ). TextPiece x bytes 0 i (get_or (texts_of table) i [])) (sym p.offsets_are)
       (subst (λ (x : List ℕ). TextPiece (packed_offsets 0 (texts_of table)) x 0 i (get_or (texts_of table) i [])) (sym p.bytes_are)
       (text_piece (texts_of table) 0 i (let n = leaves_count table p.settled in let m = length-map table (λ (d : Definition). d.text) in omega arith) p.texts_are_utf8))
 
-  -- there is one offset more than leaves
+  -- there is one more offset than leaves
   pub offsets_counted : length offsets ≡ length (leaves table) + 1
   offsets_counted = ap length p.offsets_are ∙ offsets_count (texts_of table) 0 ∙ ap (λ n. n + 1) (length-map table (λ (d : Definition). d.text) ∙ sym (leaves_count table p.settled))
 
-  -- between the offset of a leaf and the next one stands its text, cut at characters
+  -- the bytes between the offset of a leaf and the next one are its text, cut at characters
   pub text_between : (i first end : ℕ) (a b : ℕ) → i < length (leaves table) → a ≡ get_or offsets i a → b ≡ get_or offsets (i + 1) b → first ≡ a → end ≡ b
       → TextBetween bytes first end (get_or (texts_of table) i [])
   text_between i first end a b h at behind f g =

@@ -37,18 +37,18 @@ then_step Less a b f h = refl
 then_step Equal a b f h = f h
 then_step Greater a b f h = cc
 
--- what is before a list is before each list that it begins
+-- a list before another one is before each list that begins with that one
 pub before_longer : (x q y : List ℕ) → Before x q → Before x (q ++ y)
 before_longer [] [] y h = cc
 before_longer [] (k ∷ q) y h = refl
 before_longer (j ∷ x) [] y h = cc
 before_longer (j ∷ x) (k ∷ q) y h = then_step (nat_cmp j k) (slice_cmp nat_cmp x q) (slice_cmp nat_cmp x (q ++ y)) (before_longer x q y) h
 
--- behind one first keysym the order is that of the rests
+-- after the same first keysym the order is that of the rests
 behind_same : (k : ℕ) (x y : List ℕ) → slice_cmp nat_cmp (k ∷ x) (k ∷ y) ≡ slice_cmp nat_cmp x y
 behind_same k x y = ap (λ o. ordering_then o (slice_cmp nat_cmp x y)) (tied_itself nat_cmp_total k)
 
--- lists behind the same prefix compare as without it
+-- lists after the same prefix compare as without it
 pub behind_prefix : (q x y : List ℕ) → slice_cmp nat_cmp (q ++ x) (q ++ y) ≡ slice_cmp nat_cmp x y
 behind_prefix [] x y = refl
 behind_prefix (k ∷ q) x y = behind_same k (q ++ x) (q ++ y) ∙ behind_prefix q x y
@@ -84,7 +84,7 @@ last_before p j k h = go (nat_cmp j k) (sym (behind_prefix p (j ∷ []) (k ∷ [
 
 -- ---- prefixes
 
--- the lists that properly begin s, as a test
+-- the proper prefixes of s, as a test
 pub prefixes_are : (p s : List ℕ) → list_any (same p) (proper_prefixes s) ≡ is_proper_prefix p s
 prefixes_are p [] = refl
 prefixes_are [] (k ∷ s) = refl
@@ -99,7 +99,7 @@ prefix_of_joined (j ∷ x) (k ∷ q) rest =
     ap (λ b. j == k && b) (prefix_of_joined x q rest) ∙ and_or (j == k) (is_proper_prefix x q) (list_any (λ y. same x (q ++ y)) (proper_prefixes rest))
     ∙ ap (λ b. (j == k && is_proper_prefix x q) || b) (sym (list_any-and (j == k) (λ y. same x (q ++ y)) (proper_prefixes rest)))
 
--- a proper prefix of a list with one keysym more is the list, or a proper prefix of it
+-- a proper prefix of a list with one more keysym is the list, or a proper prefix of it
 pub prefix_of_more : (x p : List ℕ) (k : ℕ) → is_proper_prefix x (p ++ k ∷ []) ≡ true → (x ≡ p) ⊎ (is_proper_prefix x p ≡ true)
 prefix_of_more [] [] k h = inl refl
 prefix_of_more (j ∷ x) [] k h = let e = (and_parts (j == k) false h).1 in cc
@@ -116,7 +116,7 @@ pub prefix_of_longer : (x y : List ℕ) (k : ℕ) → is_proper_prefix x (x ++ k
 prefix_of_longer [] y k = refl
 prefix_of_longer (j ∷ x) y k = and_from (j == j) (is_proper_prefix x (x ++ k ∷ y)) (eq-eqb j j refl) (prefix_of_longer x y k)
 
--- what properly begins p begins each list that p begins
+-- a proper prefix of p is a proper prefix of each list that begins with p
 pub prefix_on : (x p y : List ℕ) → is_proper_prefix x p ≡ true → is_proper_prefix x (p ++ y) ≡ true
 prefix_on x p y h = prefix_of_joined x p y ∙ or_left (is_proper_prefix x p) (list_any (λ z. same x (p ++ z)) (proper_prefixes y)) h
 
@@ -129,7 +129,7 @@ or_and true true = refl
 or_and true false = refl
 or_and false c = refl
 
--- behind what two lists share, one keysym begins the rest where it is its first
+-- after a common prefix, a keysym begins the rest exactly if it is its first
 pub begins_at : (u : List ℕ) (j k : ℕ) (r : List ℕ) → begins (u ++ j ∷ []) (u ++ k ∷ r) ≡ (j == k)
 begins_at [] j k [] = go (j == k)
   where
@@ -143,7 +143,8 @@ begins_at [] j k (i ∷ r) = go (j == k)
     go false = refl
 begins_at (i ∷ u) j k r = rw (eq-eqb i i refl) (begins_at u j k r)
 
--- where x with one keysym more goes on behind p and k, and x comes before these, it is these
+-- if x followed by a keysym is a list that continues p and k, and x comes before p and k, then x is p and the keysym is
+-- k
 pub last_is : (x : List ℕ) (j : ℕ) (p : List ℕ) (k : ℕ) (y : List ℕ) → x ++ j ∷ [] ≡ (p ++ k ∷ []) ++ y → Before x (p ++ k ∷ []) → (same x p && j == k) ≡ true
 last_is [] j [] k y e h = let is : j ≡ k = cc in eq-eqb j k is
 last_is [] j (a ∷ []) k y e h = cc
@@ -165,7 +166,7 @@ all_weaker : {X : Type 0} (P Q : X → Type 0) → ((x : X) → P x → Q x) →
 all_weaker P Q f [] a = tt
 all_weaker P Q f (x ∷ xs) a = (f x a.0, all_weaker P Q f xs a.1)
 
--- behind a common prefix a sorted list stays sorted
+-- after a common prefix a sorted list stays sorted
 pub behind_sorted : (q : List ℕ) (xs : List (List ℕ)) → IsStrictlySortedBy (slice_cmp nat_cmp) xs → IsStrictlySortedBy (slice_cmp nat_cmp) (map (λ x. q ++ x) xs)
 unfolding IsStrictlySortedBy
 behind_sorted q [] s = tt
@@ -175,7 +176,7 @@ behind_sorted q (x ∷ xs) s = (
   behind_sorted q xs s.1,
 )
 
--- the proper prefixes of a list strictly rise
+-- the proper prefixes of a list are strictly increasing
 pub prefixes_sorted : (s : List ℕ) → IsStrictlySortedBy (slice_cmp nat_cmp) (proper_prefixes s)
 unfolding IsStrictlySortedBy
 prefixes_sorted [] = tt
@@ -185,7 +186,7 @@ prefixes_sorted (k ∷ s) = (first (proper_prefixes s), behind_sorted (k ∷ [])
     first [] = tt
     first (x ∷ xs) = (refl, first xs)
 
--- two sorted lists are one sorted list where each element of the first comes before each of the second
+-- two sorted lists are one sorted list if each element of the first comes before each of the second
 pub joined_sorted : {X : Type 0} (cmp : X → X → Ordering) (xs ys : List X) → IsStrictlySortedBy cmp xs → IsStrictlySortedBy cmp ys → AllByRecursion (λ x. AllByRecursion (λ y. cmp x y ≡ Less) ys) xs
     → IsStrictlySortedBy cmp (xs ++ ys)
 unfolding IsStrictlySortedBy
@@ -196,19 +197,19 @@ joined_sorted {X = X} cmp (x ∷ xs) ys s t a = (both xs s.0, joined_sorted cmp 
     both [] b = a.0
     both (z ∷ zs) b = (b.0, both zs b.1)
 
--- what each element of a list is that is found in it
+-- a property of each element that is found in a list holds for all its elements
 pub all_found : (P : List ℕ → Type 0) (xs : List (List ℕ)) → ((x : List ℕ) → list_any (same x) xs ≡ true → P x) → AllByRecursion P xs
 all_found P [] f = tt
 all_found P (x ∷ xs) f = (f x (or_left (same x x) (list_any (same x) xs) (same_from x x refl)), all_found P xs (λ y h. f y (or_right (same y x) (list_any (same y) xs) h)))
 
--- what comes before a list comes before all its extensions
+-- a list before another one comes before all extensions of that one
 pub all_before_longer : (x q : List ℕ) (ys : List (List ℕ)) → Before x q → AllByRecursion (λ y. slice_cmp nat_cmp x y ≡ Less) (map (λ y. q ++ y) ys)
 all_before_longer x q [] h = tt
 all_before_longer x q (y ∷ ys) h = (before_longer x q y h, all_before_longer x q ys h)
 
--- ---- rising keysyms
+-- ---- increasing keysyms
 
--- what holds of each keysym that is found in a list holds of all its elements
+-- a property of each keysym that is found in a list holds for all its elements
 pub all_found_keys : (P : ℕ → Type 0) (ks : List ℕ) → ((k : ℕ) → list_any (λ j. k == j) ks ≡ true → P k) → AllByRecursion P ks
 all_found_keys P [] f = tt
 all_found_keys P (k ∷ ks) f = (f k (or_left (k == k) (list_any (λ j. k == j) ks) (eq-eqb k k refl)), all_found_keys P ks (λ i h. f i (or_right (i == k) (list_any (λ j. i == j) ks) h)))
@@ -223,7 +224,7 @@ below_all_keys x (y ∷ ys) q a h = elim (or_cases (q == y) (list_any (λ j. q =
 keys_clash : (x y : ℕ) → nat_cmp x y ≡ Less → nat_cmp y x ≡ Less → ⊥
 keys_clash x y e f = let g : Less ≡ Greater = sym e ∙ nat_cmp_total.antisymm x y ∙ ap ordering_reverse f in cc
 
--- two rising lists of keysyms with the same elements are one
+-- two increasing lists of keysyms with the same elements are equal
 pub one_rising_keys : (xs ys : List ℕ) → IsStrictlySortedBy nat_cmp xs → IsStrictlySortedBy nat_cmp ys → ((q : ℕ) → list_any (λ j. q == j) xs ≡ list_any (λ j. q == j) ys) → xs ≡ ys
 unfolding IsStrictlySortedBy
 one_rising_keys [] [] s t f = refl

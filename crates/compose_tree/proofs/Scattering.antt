@@ -11,18 +11,19 @@ use Rattle.compose_tree.specs.Packed.{packed_edge, packed_nodes, packed_edges}
 use Rattle.compose_tree.proofs.Gathering.{edges_join, own_first, other_first, own_last, other_last, one_more_edge, edges_left, node_there, next_gathered, rows_count, count_at, one_counted}
 use Rattle.compose_tree.proofs.PackedLookups.{packed_count}
 
--- what stands where no edge is put yet
+-- the entry of an offset at which no edge was put yet
 abbrev pub blank : PackedEdge
 blank = record { keysym = 0; target = 0 }
 
--- the edges of all nodes of these depths, from node i on: at each node its edges that are put, and a blank for each that is left
+-- the edges of all nodes of these depths, from node i on: for each node its edges that were put, and a blank for each
+-- one that is left
 abbrev pub laid : ℕ → List ℕ → List NodeEdge → List NodeEdge → List PackedEdge
 laid i [] put left = []
 laid i (d ∷ depths) put left = (map packed_edge (edges_at i put) ++ map (λ e. blank) (edges_at i left)) ++ laid (1 + i) depths put left
 
--- ---- one edge more is put
+-- ---- one more edge is put
 
--- the edge e is put, at index q from the first one, which is behind the edges of node k that are put
+-- the edge e is put, at index q from the first one, which is after the edges of node k that were put
 pub record Puts (offset i k : ℕ) (depths : List ℕ) (put : List NodeEdge) (e : NodeEdge) (left : List NodeEdge) : Type 0 where
   pub q : ℕ
   pub next : (d : PackedNode) → (get_or (packed_nodes offset (gathered i depths (put ++ e ∷ left))) k d).first + length (edges_at e.node put) ≡ offset + q
@@ -170,7 +171,7 @@ end_offset (r ∷ rows) offset d =
 
 -- ---- the nodes
 
--- one node more
+-- one more node
 pub nodes_step : (ds : List ℕ) (es : List NodeEdge) (k offset next d : ℕ) (whole nodes more : List PackedNode) → k < length ds → d ≡ get_or ds k d → next ≡ offset + length (edges_at k es)
     → more ≡ nodes ++ record { depth = d; first = offset } ∷ []
     → whole ≡ nodes ++ packed_nodes offset (gathered k (drop k ds) es) → whole ≡ more ++ packed_nodes next (gathered (k + 1) (drop (k + 1) ds) es)

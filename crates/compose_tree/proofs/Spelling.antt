@@ -35,7 +35,7 @@ no_group_empty : (g : ℕ → List (List ℕ)) (ks : List ℕ) → list_any (λ 
 no_group_empty g [] = refl
 no_group_empty g (k ∷ ks) = or_from (list_any (same []) (map (λ w. k ∷ w) (g k))) (list_any (λ k. list_any (same []) (map (λ w. k ∷ w) (g k))) ks) (none_empty k (g k)) (no_group_empty g ks)
 
--- a test at one keysym alone
+-- a test of one keysym only
 any_at : (k : ℕ) (g : ℕ → Bool) (ks : List ℕ) → list_any (λ j. k == j && g j) ks ≡ list_any (λ j. k == j) ks && g k
 any_at k g [] = refl
 any_at k g (j ∷ ks) = go (k == j) refl (any_at k g ks)
@@ -76,7 +76,7 @@ each_behind : (k : ℕ) (g : ℕ → List (List ℕ)) (ks : List ℕ) (xs : List
 each_behind k g ks [] a = tt
 each_behind k g ks (x ∷ xs) a = (all_behind_keys x k g ks a, each_behind k g ks xs a)
 
--- sorted groups behind rising keysyms are sorted
+-- sorted groups after increasing keysyms are sorted
 groups_sorted : (g : ℕ → List (List ℕ)) (ks : List ℕ) → IsStrictlySortedBy nat_cmp ks → ((k : ℕ) → IsStrictlySortedBy (slice_cmp nat_cmp) (g k))
     → IsStrictlySortedBy (slice_cmp nat_cmp) (flat_map (λ j. map (λ v. j ∷ v) (g j)) ks)
 unfolding IsStrictlySortedBy
@@ -94,7 +94,7 @@ unfolding IsStrictlySortedBy
 one_list_sorted x = (tt, tt)
 
 module _ (table : List Definition) (s : IsSettled table) where
-  -- what goes on behind the keysym k of a node
+  -- the lists that continue after the keysym k of a node
   behind : ℕ → List ℕ → ℕ → List (List ℕ)
   behind f p k = spelled_behind (where_to table (p ++ k ∷ [])) (λ n. spelled (rows_of table) f n)
 
@@ -124,12 +124,12 @@ module _ (table : List Definition) (s : IsSettled table) where
   key_extends : (p : List ℕ) (k : ℕ) → is_node table (p ++ k ∷ []) ≡ true → is_extended table (p ++ k ∷ []) ≡ true
   key_extends p k h = ap (λ b. b || is_extended table (p ++ k ∷ [])) (sym (not_root p k)) ∙ sym (node_means table (p ++ k ∷ [])) ∙ h
 
-  -- behind a node, what is spelled goes on to a sequence
+  -- after a node, the spelled lists continue to a sequence
   along_node : (q w : List ℕ) (b : Bool) → is_extended table q ≡ true → b ≡ (not (same w []) && is_sequence table (q ++ w)) → b ≡ is_sequence table (q ++ w)
   along_node q [] b h e = e ∙ sym (ap (is_sequence table) (append-nil q) ∙ node_no_sequence q h)
   along_node q (i ∷ w) b h e = e
 
-  -- behind a leaf nothing more is spelled
+  -- after a leaf nothing more is spelled
   along_leaf : (q w : List ℕ) → is_node table q ≡ false → is_sequence table q && (same w [] || false) ≡ is_sequence table (q ++ w)
   along_leaf q [] h = and_true (is_sequence table q) ∙ ap (is_sequence table) (sym (append-nil q))
     where
@@ -146,7 +146,7 @@ module _ (table : List Definition) (s : IsSettled table) where
       none (inl e) = let f : true ≡ false = sym (extended_is_node table q (extended_from table q (q ++ i ∷ w) (prefix_of_longer q w i) e)) ∙ h in cc
       none (inr e) = e
 
-  -- what is spelled from p goes on to a sequence, and all that goes on is spelled
+  -- the lists that are spelled from p continue to a sequence, and all such lists are spelled
   spelled_means : (f : ℕ) (p w : List ℕ) → is_node table p ≡ true → 32 ≤ f + length p
       → list_any (same w) (spelled (rows_of table) f (number_of table p)) ≡ not (same w []) && is_sequence table (p ++ w)
   spelled_means zero p w h few = absurd (let m = node_few table p s.definitions h in omega arith)
@@ -186,7 +186,7 @@ module _ (table : List Definition) (s : IsSettled table) where
   any_sequence [] = sym never_empty
   any_sequence (k ∷ w) = refl
 
-  -- what is spelled from the root is the sequences
+  -- the lists that are spelled from the root are the sequences
   pub spelled_all : (f : ℕ) → 32 ≤ f → spelled (rows_of table) f 0 ≡ map (λ d. d.sequence) table
   spelled_all f few =
       ap (spelled (rows_of table) f) (sym (root_number table))

@@ -1,4 +1,5 @@
--- What the target of a key says of the step there: the crates above know a table by its targets, and the model by its effects.
+-- The target of a key determines the step there: the crates above know a table by its targets, and the model by its
+-- effects.
 use Rattle.std.proofs.Common.{◌≡◌, ℕ, ◌<◌, List, [], ◌∷◌, ◌++◌, Bool, true, false, cond, ◌||◌, length, map, refl, sym, ◌∙◌, ap, Option, Some, None, nat_cmp}
 use Rattle.std.specs.List.{list_any}
 use Rattle.std.specs.Cmp.Lexicographic.{slice_cmp}
@@ -34,18 +35,18 @@ text_of_leaf table s h = ap (text_at table) (found_at s (leaves table) (leaf_mea
 
 -- ---- targets
 
--- behind a key there is a node exactly where a sequence goes on
+-- there is a node after a key exactly if a sequence goes on
 pub goes_on : (table : List Definition) (p : List ℕ) (k : ℕ) → is_node table (p ++ k ∷ []) ≡ is_extended table (p ++ k ∷ [])
 goes_on table p k = node_means table (p ++ k ∷ []) ∙ ap (λ b. b || is_extended table (p ++ k ∷ [])) (never_empty p k)
 
--- behind the key there is this node
+-- this node comes after the key
 pub record ToNode (table : List Definition) (p : List ℕ) (k : ℕ) (node : NodeId) : Type 0 where
   pub extended : is_extended table (p ++ k ∷ []) ≡ true
   pub is_node : is_node table (p ++ k ∷ []) ≡ true
   pub number : number_of table (p ++ k ∷ []) ≡ node.0
   pub in_range : node.0 < length (nodes table)
 
--- behind the key there is this leaf, and no sequence goes on
+-- this leaf comes after the key, and no sequence goes on
 pub record ToLeaf (table : List Definition) (p : List ℕ) (k : ℕ) (leaf : LeafId) : Type 0 where
   pub extended : is_extended table (p ++ k ∷ []) ≡ false
   pub sequence : is_sequence table (p ++ k ∷ []) ≡ true
@@ -53,18 +54,18 @@ pub record ToLeaf (table : List Definition) (p : List ℕ) (k : ℕ) (leaf : Lea
   pub in_range : leaf.0 < length (leaves table)
   pub text : leaf_text table leaf.0 ≡ text_at table (p ++ k ∷ [])
 
--- behind the key there is neither a node nor a leaf
+-- neither a node nor a leaf comes after the key
 pub record Nowhere (table : List Definition) (p : List ℕ) (k : ℕ) : Type 0 where
   pub extended : is_extended table (p ++ k ∷ []) ≡ false
   pub sequence : is_sequence table (p ++ k ∷ []) ≡ false
 
--- what the target of the key k says where p is pending
+-- the meaning of the target of the key k if p is pending
 abbrev pub Leads : List Definition → List ℕ → ℕ → Option Target → Type 0
 Leads table p k (Some (Node n)) = ToNode table p k n
 Leads table p k (Some (Leaf l)) = ToLeaf table p k l
 Leads table p k None = Nowhere table p k
 
--- the target of a key says what follows it
+-- the target of a key determines what follows it
 pub leads : (table : List Definition) (p : List ℕ) (k : ℕ) → Leads table p k (target_of table p k)
 leads table p k = go (is_node table (p ++ k ∷ [])) (is_sequence table (p ++ k ∷ [])) refl refl
   where
@@ -87,13 +88,13 @@ leads table p k = go (is_node table (p ++ k ∷ [])) (is_sequence table (p ++ k 
 
 -- ---- effects
 
--- the effect of a key with this target that is not ignored; whether nothing is pending
+-- the effect of a key with this target that is not ignored; the flag is true if nothing is pending
 abbrev pub effect_at : Bool → Option Target → Effect
 effect_at rests (Some (Node n)) = extends
 effect_at rests (Some (Leaf l)) = completes
 effect_at rests None = cond rests passes cancels
 
--- the effect of a key that isn't ignored is told by its target, and by whether anything is pending
+-- the effect of a key that isn't ignored depends only on its target and on whether anything is pending
 pub effect_by_target : (table : List Definition) (p : List ℕ) (k : ℕ) → is_ignored k ≡ false → effect table p k ≡ effect_at (is_empty p) (target_of table p k)
 effect_by_target table p k fed = go (target_of table p k) (leads table p k)
   where
@@ -104,7 +105,7 @@ effect_by_target table p k fed = go (target_of table p k) (leads table p k)
 
 -- ---- edges
 
--- a key has an edge exactly where it has a target
+-- a key has an edge exactly if it has a target
 pub edge_target : (table : List Definition) (p : List ℕ) (k : ℕ) (t : Target) → target_of table p k ≡ Some t → has_edge table p k ≡ true
 edge_target table p k t e = go (is_node table (p ++ k ∷ [])) (is_sequence table (p ++ k ∷ [])) refl refl
   where

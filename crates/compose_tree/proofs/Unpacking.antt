@@ -1,4 +1,4 @@
--- The packed arrays of rows and texts spell these rows and texts.
+-- Unpacking the packed arrays of rows and texts returns these rows and texts.
 use Rattle.std.proofs.Common.{◌≡◌, ℕ, zero, suc, ◌+◌, ◌-◌, ◌*◌, ◌/◌, ◌%◌, List, [], ◌∷◌, ◌++◌, true, false, cond, length, map, take, drop, refl, sym, ◌∙◌, ap, arith, inl, inr, eqb-true, eq-eqb, append_assoc, length-append}
 use Rattle.std.specs.Prelude.{◌==◌}
 use Rattle.std.proofs.Math.Seq.{drop-append_seam}
@@ -52,7 +52,7 @@ take_prefix (suc n) (x ∷ xs) ys e = ap (λ zs. x ∷ zs) (take_prefix n xs ys 
 drop_prefix : {X : Type 0} (n : ℕ) (xs ys : List X) → length xs ≡ n → drop n (xs ++ ys) ≡ ys
 drop_prefix n xs ys e = ap (λ m. drop m (xs ++ ys)) (sym e) ∙ drop-append_seam xs ys
 
--- the piece between two indexes is what stands there
+-- the piece between two indexes consists of the elements there
 pub piece : {X : Type 0} (a b : ℕ) (prefix xs back : List X) → length prefix ≡ a → b ≡ a + length xs → take (b - a) (drop a (prefix ++ (xs ++ back))) ≡ xs
 piece a b prefix xs back e f = ap (take (b - a)) (drop_prefix a prefix (xs ++ back) e) ∙ take_prefix (b - a) xs back (omega arith)
 
@@ -75,7 +75,7 @@ rows_unpack (row ∷ rows) offset prefix e =
     two offset row [] edges h l = λ i. record { depth = row.depth; edges = h i } ∷ l i
     two offset row (r ∷ rows) edges h l = λ i. record { depth = row.depth; edges = h i } ∷ l i
 
--- the packed rows spell the rows
+-- unpacking the packed rows returns the rows
 pub unpack_rows : (rows : List NodeRow) → unpacked_rows (packed_nodes 0 rows) (packed_edges rows) ≡ rows
 unpack_rows rows = rows_unpack rows 0 [] refl
 

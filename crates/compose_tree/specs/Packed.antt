@@ -1,4 +1,5 @@
--- The packed form of a table: flat arrays of nodes, edges and texts, and what they spell. Words for private functions.
+-- The packed form of a table: flat arrays of nodes, edges and texts, and their meaning. Definitions for the contracts
+-- of private functions.
 use Rattle.std.specs.Prelude.{◌≡◌, ◌≤◌, IsTrue, ℕ, zero, suc, ◌+◌, ◌-◌, ◌*◌, ◌/◌, ◌%◌, ◌==◌, List, [], ◌∷◌, map, length, take, drop, flat_map, if◌then◌else◌}
 use Rattle.std.specs.List.{list_all}
 use Rattle.std.specs.Str.{is_utf8}
@@ -16,7 +17,7 @@ use Rattle.compose_tree.specs.Rows.{NodeRow, row_at, rows_of}
 
 -- ---- the arrays of some rows and texts
 
--- a node by twice its number, a leaf by twice its number and one
+-- a node by twice its number, a leaf by twice its number plus one
 abbrev pub packed_target : Target → ℕ
 packed_target (Node n) = n.0 * 2
 packed_target (Leaf l) = l.0 * 2 + 1
@@ -24,28 +25,28 @@ packed_target (Leaf l) = l.0 * 2 + 1
 abbrev pub packed_edge : Edge → PackedEdge
 packed_edge e = record { keysym = e.keysym; target = packed_target e.target }
 
--- for each node its depth and the offset of its first edge, from this offset on, and behind them the end of the edges
+-- for each node its depth and the offset of its first edge, from this offset on, and after them the end of the edges
 abbrev pub packed_nodes : ℕ → List NodeRow → List PackedNode
 packed_nodes offset [] = record { depth = 0; first = offset } ∷ []
 packed_nodes offset (row ∷ rows) = record { depth = row.depth; first = offset } ∷ packed_nodes (offset + length row.edges) rows
 
--- the edges of all nodes, one node's behind another's
+-- the edges of all nodes, those of one node after another
 abbrev pub packed_edges : List NodeRow → List PackedEdge
 packed_edges rows = flat_map (λ row. map packed_edge row.edges) rows
 
--- for each text its offset in the pool, from this offset on, and behind them the end of the pool
+-- for each text its offset in the pool, from this offset on, and after them the end of the pool
 abbrev pub packed_offsets : ℕ → List (List ℕ) → List ℕ
 packed_offsets offset [] = offset ∷ []
 packed_offsets offset (text ∷ texts) = offset ∷ packed_offsets (offset + length text) texts
 
--- one text behind another
+-- the texts, one after another
 abbrev pub pool : List (List ℕ) → List ℕ
 pool texts = flat_map (λ text. text) texts
 
 abbrev pub texts_of : List Definition → List (List ℕ)
 texts_of table = map (λ d. d.text) table
 
--- ---- what arrays spell
+-- ---- the meaning of arrays
 
 abbrev pub unpacked_target : ℕ → Target
 unpacked_target code = if code % 2 == 0 then Node (record { 0 = code / 2 }) else Leaf (record { 0 = code / 2 })
@@ -63,12 +64,12 @@ unpacked_texts [] bytes = []
 unpacked_texts (a ∷ []) bytes = []
 unpacked_texts (a ∷ b ∷ offsets) bytes = take (b - a) (drop a bytes) ∷ unpacked_texts (b ∷ offsets) bytes
 
--- what leads on behind an edge: from a node whatever leads on from there, and nothing from a leaf
+-- the lists of keysyms after an edge: all lists from a node, or the empty one from a leaf
 abbrev pub spelled_behind : Target → (ℕ → List (List ℕ)) → List (List ℕ)
 spelled_behind (Node n) more = more n.0
 spelled_behind (Leaf l) more = [] ∷ []
 
--- the lists of at most so many keysyms that lead from a node to leaves, in order
+-- the lists of keysyms that lead from a node to leaves, in order, up to a length
 abbrev pub spelled : List NodeRow → ℕ → ℕ → List (List ℕ)
 spelled rows zero i = []
 spelled rows (suc keysyms) i = flat_map (λ e. map (λ s. e.keysym ∷ s) (spelled_behind e.target (λ n. spelled rows keysyms n))) (row_at rows i).edges
@@ -78,13 +79,13 @@ with_texts [] texts = []
 with_texts (s ∷ sequences) [] = []
 with_texts (s ∷ sequences) (t ∷ texts) = record { sequence = s; text = t } ∷ with_texts sequences texts
 
--- the definitions that the arrays stand for; a sequence has at most 32 keysyms
+-- the definitions that the arrays mean; a sequence has at most 32 keysyms
 unfoldable pub unpacked : List PackedNode → List PackedEdge → List ℕ → List ℕ → List Definition
 unpacked nodes edges offsets bytes = with_texts (spelled (unpacked_rows nodes edges) 32 0) (unpacked_texts offsets bytes)
 
--- ---- what a packed table is
+-- ---- the properties of a packed table
 
--- the arrays are those of this table: its rows, one edge list behind another, and its texts, one behind another
+-- the arrays are those of this table: its rows, one list of edges after another, and its texts, one after another
 pub record IsPacked (nodes : List PackedNode) (edges : List PackedEdge) (offsets bytes : List ℕ) (table : List Definition) : Type 0 where
   pub settled : IsSettled table
   pub nodes_are : nodes ≡ packed_nodes 0 (rows_of table)

@@ -1,4 +1,4 @@
--- What reading a table gives: its settled definitions, or the first fault on the way.
+-- The result of reading a table: its settled definitions, or the first fault.
 use Rattle.std.specs.Prelude.{◌≡◌, ℕ, nat_le, List, [], ◌∷◌, length, if◌then◌else◌, Result, Ok, Err}
 use Rattle.keysym_core.specs.Names.{KeysymNames}
 use Rattle.compose_model.specs.Table.{Definition}
@@ -19,13 +19,13 @@ use Rattle.compose_tree.specs.declared.reading.TableFault.TheVariants.{Read, Set
 
 -- ---- the definition
 
--- why sources give no table
+-- why a table can't be read
 pub data NoTable : Type 0 where
   unread : ReadFault → NoTable
   overlapping : Overlap → NoTable
   too_many_nodes : NoTable
 
--- the rows that the definitions are settled to, unless they have too many nodes
+-- the rows to which the definitions are settled, unless they have too many nodes
 abbrev pub bounded : Result (List Definition) Overlap → Result (List Definition) NoTable
 bounded (Err overlap) = Err (overlapping overlap)
 bounded (Ok rows) = if nat_le (length (nodes rows)) max_nodes then Ok rows else Err too_many_nodes
@@ -38,14 +38,14 @@ settled_by rule (Ok definitions) = bounded (settled rule definitions)
 abbrev pub table_of : KeysymNames → List Source → List ℕ → Rule → Result (List Definition) NoTable
 table_of names sources root rule = settled_by rule (definitions_of names sources root)
 
--- the same, where the root is the first source
+-- the same if the root is the first source
 abbrev pub first_table : KeysymNames → List Source → Rule → Result (List Definition) NoTable
 first_table names [] rule = Err (unread read_faults.MissingRoot)
 first_table names (s ∷ sources) rule = table_of names (s ∷ sources) s.name rule
 
--- ---- what a call answers
+-- ---- the result of a call
 
--- a fault of a part as one of the whole; out of memory is the whole's own
+-- a fault of a part as a fault of the whole; running out of memory is a fault of the whole
 abbrev pub read_raised : ReadFault → TableFault
 read_raised read_faults.NoMemory = NoMemory
 read_raised fault = Read fault
@@ -58,12 +58,12 @@ abbrev pub build_raised : BuildFault → TableFault
 build_raised build_faults.NoMemory = NoMemory
 build_raised fault = Build fault
 
--- the fault of reading that is said
+-- the fault of reading is the specified one
 abbrev pub ReadSaid : ReadFault → Result (List Definition) NoTable → Type 0
 ReadSaid read_faults.NoMemory said = ⊥
 ReadSaid fault said = said ≡ Err (unread fault)
 
--- the value or the fault that is said, unless memory is wanting
+-- the specified value or fault, unless memory runs out
 abbrev pub TableGives : {T : Type 0} → (T → List Definition) → Result T TableFault → Result (List Definition) NoTable → Type 0
 TableGives view (Ok table) said = said ≡ Ok (view table)
 TableGives view (Err (Read fault)) said = ReadSaid fault said

@@ -1,4 +1,4 @@
--- Where the edges of a table lead, and the texts of its leaves, by their numbers.
+-- The targets of the edges of a table, and the texts of its leaves, by their numbers.
 use Rattle.std.specs.Prelude.{ℕ, List, [], ◌∷◌, ◌++◌, get_or, if◌then◌else◌, Option, Some, None}
 use Rattle.std.specs.List.{position_or_len}
 use Rattle.compose_model.specs.Table.{Definition, same, is_sequence, text_at}
@@ -6,7 +6,7 @@ use Rattle.compose_model.specs.Nodes.{leaves, is_node, number_of}
 use Rattle.compose_tree.specs.declared.table.Target.{Target}
 use Rattle.compose_tree.specs.declared.table.Target.TheVariants.{Node, Leaf}
 
--- the most nodes that a table may have (this project's profile)
+-- the largest number of nodes that a table may have (a limit of this project)
 abbrev pub max_nodes : ℕ
 max_nodes = 1048576
 
@@ -14,7 +14,7 @@ max_nodes = 1048576
 abbrev pub leaf_number : List Definition → List ℕ → ℕ
 leaf_number table s = position_or_len (same s) (leaves table)
 
--- the node or the leaf that p followed by k is
+-- the node or the leaf of p followed by k
 abbrev pub target_of : List Definition → List ℕ → ℕ → Option Target
 target_of table p k =
     if is_node table (p ++ k ∷ []) then Some (Node (record { 0 = number_of table (p ++ k ∷ []) })) else

@@ -2,16 +2,20 @@
 use crate::table::Target;
 use keysym_core::Keysym;
 
-/// A keysym that a node has an edge for, and where it leads.
+/// A keysym for which a node has an edge, and the edge's target.
 #[derive(Clone, Copy, Debug, PartialEq, Eq)]
 pub struct Edge {
+    /// The keysym of the edge.
     pub keysym: Keysym,
+    /// The node or the leaf to which it leads.
     pub target: Target,
 }
 
-/// An edge, and the number of the node that has it.
+/// An edge, and the number of its node.
 #[derive(Clone, Copy)]
 pub struct NodeEdge {
+    /// The number of the node to which the edge belongs.
     pub node: u32,
+    /// The edge.
     pub edge: Edge,
 }

@@ -1,4 +1,4 @@
-//! The packed form of a table in memory that somebody else keeps: a table as five arrays that may cross to C.
+//! The packed form of a table in borrowed memory: five arrays, which may be passed to C.
 ghost use Rattle.std.specs.Prelude.{◌≡◌, map};
 ghost use Rattle.compose_tree.specs.Packed.{IsPacked, packed_edge, unpacked};
 
@@ -11,17 +11,22 @@ use keysym_core::Keysym;
 use std::alloc::Global;
 use std::marker::Model;
 
-/// The arrays of a packed table, and its hints.
+/// The arrays of a packed table, and its hints. See `PackedTable`.
 #[derive(Clone, Copy)]
 pub struct LentArrays<'t> {
+    /// The nodes, and after them an entry for the end of the edges.
     pub nodes: &'t [PackedNode],
+    /// The edges of all nodes, those of one node after another.
     pub edges: &'t [PackedEdge],
+    /// For each leaf the offset of its text in `texts`, and after them the end of the texts.
     pub offsets: &'t [u32],
+    /// The texts of all leaves, one after another, in UTF-8.
     pub texts: &'t [u8],
+    /// The hints; see `hint_in`.
     pub hints: &'t [u8],
 }
 
-/// A packed table in memory that is lent.
+/// A packed table in borrowed memory.
 #[derive(Drop)]
 pub struct LentTable<'t> {
     nodes: &'t [PackedNode],
@@ -51,7 +56,7 @@ impl<'t> LentTable<'t> {
     ghost use Rattle.compose_tree.specs.Rows.{row_of};
     ghost use Rattle.compose_tree.specs.Packed.{IsPacked, unpacked};
 
-    /// The table of these arrays. Any bytes are hints. O(1).
+    /// Makes a table of these arrays. The hints may be any bytes. O(1).
     pub fn of(
         nodes: &'t [PackedNode],
         edges: &'t [PackedEdge],
@@ -72,7 +77,7 @@ impl<'t> LentTable<'t> {
         }
     }
 
-    /// Its arrays. O(1).
+    /// Returns its arrays. O(1).
     pub fn arrays(&self) -> LentArrays<'t>
         ensures value { unpacked result.nodes.now result.edges.now result.offsets.now
             result.texts.now ≡ self.now }
@@ -88,7 +93,7 @@ impl<'t> LentTable<'t> {
         }
     }
 
-    /// The edges of a node. O(1).
+    /// Returns the edges of a node. O(1).
     fn edges_of(&self, node: NodeId) -> &'t [PackedEdge]
         requires { node.0 < length (model.nodes self.now) }
         ensures value { result.now
@@ -107,7 +112,8 @@ impl<'t> LentTable<'t> {
 impl<'t> ComposeTable for LentTable<'t> {
     ghost definitions = { λ t. t };
 
-    /// Memory that is lent can't be taken: a table that is lent is built as another one.
+    /// Always fails with `NoMemory`: a table can't be built in borrowed memory. Build another form
+    /// of table, and lend it.
     fn build(_alloc: Global, _sequences: Sequences) -> Result<Self, BuildFault> {
         Err(BuildFault::NoMemory)
     }

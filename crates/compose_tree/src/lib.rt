@@ -1,9 +1,11 @@
 //! Compose tables as nodes and edges, behind one trait.
 //!
-//! A table means a list of settled definitions. Its nodes are the root and the proper prefixes of the sequences, its
-//! leaves the sequences, both numbered in the order of sequences. The contract of `ComposeTable` says counts, depths,
-//! edges, steps and texts by that list alone, so no layer above learns which form is kept: `ListTable` is the plain
-//! form, `PackedTable` the flat one. Both are built of the same rows, in one pass over the sequences.
+//! The meaning of a table is a list of settled definitions. Its nodes are the root and the proper
+//! prefixes of the sequences, its leaves are the sequences; both are numbered in the order of the
+//! sequences. The contract of [`ComposeTable`] defines counts, depths, edges, steps and texts by
+//! that list alone, so the crates above do not depend on the form: [`ListTable`] is the plain form,
+//! [`PackedTable`] the compact one. Both are built from the same rows, in one pass over the
+//! sequences.
 //!
 //! ```text
 //! let table: PackedTable = read_table(alloc, &names, &sources, "main", Rule::Refuse)?;

@@ -1,4 +1,4 @@
-//! The plain form of a table: its sequences, and a row of edges for each node.
+//! The plain form of a table: its sequences, and for each node a row of edges.
 ghost use Rattle.std.specs.Prelude.{◌≡◌, ◌<◌, ◌++◌, ℕ, [], ◌∷◌, length, nat_eq, option_map, slice_index, MatchOption, OnOk, IfOk};
 ghost use Rattle.std.specs.List.{find};
 ghost use Rattle.compose_tree.specs.Rows.{keysyms_of, with_edge, gathered, AreAtNodes};
@@ -11,7 +11,7 @@ use keysym_core::Keysym;
 use std::alloc::{AllocError, Global};
 use std::marker::Model;
 
-/// A node: its depth, and its edges in rising order.
+/// A node: its depth, and its edges in increasing order of keysyms.
 #[derive(Drop)]
 struct Row {
     depth: u32,
@@ -27,14 +27,14 @@ impl Model for Row {
 }
 
 impl Row {
-    /// How many keysyms lead to the node. O(1).
+    /// Returns the depth of the node: the number of keysyms that lead to it. O(1).
     fn depth(&self) -> u32
         ensures { result ≡ self.now.depth }
     {
         self.depth
     }
 
-    /// Its edges in rising order. O(1).
+    /// Returns its edges in increasing order of keysyms. O(1).
     fn edges(&self) -> &[Edge]
         ensures { result.now ≡ self.now.edges }
     {
@@ -50,7 +50,8 @@ impl Row {
     }
 }
 
-/// A table as rows of nodes, with the sequences beside them. Its `find` and `step` are scans, O(edges of the node).
+/// A table as rows of nodes, together with the sequences. Its `find` and `step` are linear scans,
+/// O(edges of the node).
 #[derive(Drop)]
 pub struct ListTable {
     sequences: Sequences,
@@ -74,7 +75,7 @@ impl Model for ListTable {
         × (length (nodes t.sequences) ≤ max_nodes) × (length t.sequences ≤ max_definitions) };
 }
 
-/// A row without edges for each depth.
+/// Returns a row without edges for each depth.
 fn open_rows(alloc: Global, depths: &[u32]) -> Result<Vec<Row>, AllocError>
     ensures { IfOk result (λ rows. rows.items ≡ gathered 0 depths.now []) }
 {
@@ -88,7 +89,7 @@ fn open_rows(alloc: Global, depths: &[u32]) -> Result<Vec<Row>, AllocError>
     Ok(rows)
 }
 
-/// Puts the edge at a node.
+/// Adds the edge to a node.
 fn push_edge(rows: &mut Vec<Row>, node: u32, edge: Edge) -> Result<(), AllocError>
     requires { node < length rows.old.items }
     ensures { OnOk result (rows.new.items ≡ with_edge rows.old.items node edge) }
@@ -96,7 +97,7 @@ fn push_edge(rows: &mut Vec<Row>, node: u32, edge: Edge) -> Result<(), AllocErro
     rows[node as usize].push(edge)
 }
 
-/// The rows of nodes of these depths, with these edges.
+/// Returns the rows of nodes of these depths, with these edges.
 fn list_rows(alloc: Global, depths: &[u32], edges: &[NodeEdge]) -> Result<Vec<Row>, AllocError>
     requires { AreAtNodes (length depths.now) edges.now }
     ensures { IfOk result (λ rows. rows.items ≡ gathered 0 depths.now edges.now) }
@@ -108,7 +109,7 @@ fn list_rows(alloc: Global, depths: &[u32], edges: &[NodeEdge]) -> Result<Vec<Ro
     Ok(rows)
 }
 
-/// Where the edge of this keysym leads, if it is among these.
+/// Returns the target of the edge of this keysym, if it is among these.
 fn target_in(edges: &[Edge], keysym: Keysym) -> Option<Target>
     ensures { result ≡ option_map (λ e. e.target) (find (λ e. nat_eq e.keysym keysym) edges.now) }
 {
@@ -120,7 +121,7 @@ fn target_in(edges: &[Edge], keysym: Keysym) -> Option<Target>
     None
 }
 
-/// Where a keysym stands among a node's edges. O(edges).
+/// Returns the index of a keysym among a node's edges. O(edges).
 fn index_in(edges: &[Edge], keysym: Keysym) -> Option<usize>
     ensures { MatchOption result
         ((k : ℕ) → k < length edges.now → slice_index (keysyms_of edges.now) k ≡ keysym → ⊥)

@@ -1,18 +1,22 @@
 //! The entries of the packed arrays.
 use keysym_core::Keysym;
 
-/// A node: its depth, and the offset of its first edge.
+/// A node of a packed table.
 #[derive(Clone, Copy)]
 #[repr(C)]
 pub struct PackedNode {
+    /// The depth of the node: the number of keysyms that lead to it, at most 31.
     pub depth: u32,
+    /// The index of its first edge among all edges. Its edges end where those of the next begin.
     pub first: u32,
 }
 
-/// An edge: its keysym, and where it leads: a node by twice its number, a leaf by twice its number and one.
+/// An edge of a packed table.
 #[derive(Clone, Copy)]
 #[repr(C)]
 pub struct PackedEdge {
+    /// The keysym of the edge.
     pub keysym: Keysym,
+    /// The target of the edge: twice the number of a node, or twice the number of a leaf plus one.
     pub target: u32,
 }

@@ -16,8 +16,9 @@
 //! texts             x        y z      w
 //! ```
 //!
-//! A node's edges stand together and rise by their keysyms; they end where the next node's begin. Beside the arrays are
-//! hints of where each edge stands, which a search looks at first. They have no part in what the table means.
+//! The edges of a node are contiguous, in increasing order of keysyms, and end where those of the
+//! next node begin. There are also hints for the index of each edge, which a search tries first.
+//! The hints are no part of the table's meaning.
 ghost use Rattle.std.specs.Prelude.{◌≡◌, ◌<◌, ◌≤◌, ◌+◌, ◌++◌, ℕ, length, map, slice_index, MatchOption, IfOk, OnOk, IsTrue, string_bytes};
 ghost use Rattle.std.specs.List.{list_all};
 ghost use Rattle.std.specs.List.Sorted.{IsStrictlyIncreasing};
@@ -37,13 +38,15 @@ use keysym_core::Keysym;
 use std::alloc::{AllocError, Global};
 use std::marker::Model;
 
-/// Every keysym is below this.
+/// All keysyms are below this number.
 const KEYSYMS: u32 = Keysym::GREATEST + 1;
 
-/// Few texts have more bytes: most are one character. There is room for so many a text at first.
+/// The number of bytes to allocate for each text at first. Few texts are longer, since most are one
+/// character.
 const COMMON_TEXT: usize = 3;
 
-/// A table as flat arrays: 8 bytes a node, 12 bytes an edge (4 of them its hints), 4 bytes a leaf and its text.
+/// A table as flat arrays: 8 bytes per node, 12 bytes per edge (4 of them hints), and for each leaf
+/// 4 bytes and its text.
 #[derive(Drop)]
 pub struct PackedTable {
     nodes: Vec<PackedNode>,
@@ -68,7 +71,8 @@ impl Model for PackedTable {
         (unpacked t.nodes.items t.edges.items t.offsets.items (string_bytes t.texts)) };
 }
 
-/// The code of a target. Both kinds of target take one way, since a branch on the kind is often mispredicted.
+/// Returns the code of a target. There is no branch on the kind of target, since it would often be
+/// mispredicted.
 fn pack_target(target: Target) -> u32
     requires { target_number target < 2147483648 }
     ensures { result ≡ packed_target target }
@@ -80,7 +84,7 @@ fn pack_target(target: Target) -> u32
     number * 2 + leaf
 }
 
-/// The target of a code.
+/// Returns the target of a code.
 pub fn unpack_target(code: u32) -> Target
     ensures { result ≡ unpacked_target code }
 {
@@ -91,7 +95,7 @@ pub fn unpack_target(code: u32) -> Target
     }
 }
 
-/// How many edges each of these nodes has.
+/// Returns the number of edges of each of these nodes.
 fn count_edges(alloc: Global, depths: &[u32], edges: &[NodeEdge]) -> Result<Vec<u32>, AllocError>
     requires at_nodes { AreAtNodes (length depths.now) edges.now }
     requires few { length edges.now < 4294967296 }
@@ -105,7 +109,8 @@ fn count_edges(alloc: Global, depths: &[u32], edges: &[NodeEdge]) -> Result<Vec<
     Ok(counts)
 }
 
-/// For each node its depth and the offset of its first edge, and behind them the end of the edges.
+/// Returns for each node its depth and the offset of its first edge, and after them the end of the
+/// edges.
 fn pack_nodes(
     alloc: Global,
     depths: &[u32],
@@ -133,7 +138,7 @@ fn pack_nodes(
     Ok(nodes)
 }
 
-/// The packed edge.
+/// Returns the packed edge.
 fn pack_edge(edge: Edge) -> PackedEdge
     requires { target_number edge.target < 2147483648 }
     ensures { result ≡ packed_edge edge }
@@ -144,7 +149,8 @@ fn pack_edge(edge: Edge) -> PackedEdge
     }
 }
 
-/// The edges of all nodes, each put at its node's next free offset. Hints note which of its node's edges each one is.
+/// Returns the edges of all nodes, each put at its node's next free offset. Notes in the hints the
+/// index of each edge among its node's edges.
 fn pack_edges(
     alloc: Global,
     nodes: &[PackedNode],
@@ -175,7 +181,8 @@ fn pack_edges(
     Ok(packed)
 }
 
-/// For each text its offset in the pool, and behind them the end of the pool; and the pool, all texts one behind another.
+/// Returns for each text its offset in the pool, and after them the end of the pool; and the pool,
+/// which is all texts, one after another.
 fn pack_texts(alloc: Global, sequences: &Sequences) -> Result<(Vec<u32>, String), AllocError>
     ensures offsets { IfOk result
         (λ packed. packed.0.items ≡ packed_offsets 0 (texts_of sequences.now)) }
@@ -196,8 +203,8 @@ fn pack_texts(alloc: Global, sequences: &Sequences) -> Result<(Vec<u32>, String)
     Ok((offsets, texts))
 }
 
-/// 1 where the keysym is no greater than the other, and else 0. By arithmetic, since a comparison becomes a branch, which a
-/// search mispredicts half of the time.
+/// Returns 1 if the keysym is at most the other, and else 0. This is arithmetic, since a comparison
+/// would become a branch, which a search mispredicts half of the time.
 fn at_most(keysym: Keysym, other: Keysym) -> usize
     ensures one { keysym ≤ other → result ≡ 1 }
     ensures zero { other < keysym → result ≡ 0 }
@@ -205,7 +212,7 @@ fn at_most(keysym: Keysym, other: Keysym) -> usize
     ((other.value() + KEYSYMS - keysym.value()) / KEYSYMS) as usize
 }
 
-/// Where a keysym stands among rising edges. O(log edges).
+/// Returns the index of a keysym among edges in increasing order. O(log edges).
 fn index_of(edges: &[PackedEdge], keysym: Keysym) -> Option<usize>
     requires { IsStrictlyIncreasing (keys_of edges.now) }
     ensures { MatchOption result
@@ -226,7 +233,8 @@ fn index_of(edges: &[PackedEdge], keysym: Keysym) -> Option<usize>
     }
 }
 
-/// Where a keysym stands among rising edges. O(1) where the hint is right, and else O(log edges).
+/// Returns the index of a keysym among edges in increasing order. O(1) if the hint is right, and
+/// else O(log edges).
 pub fn index_by_hint(edges: &[PackedEdge], keysym: Keysym, hint: usize) -> Option<usize>
     requires { IsStrictlyIncreasing (keys_of edges.now) }
     ensures { MatchOption result
@@ -239,7 +247,7 @@ pub fn index_by_hint(edges: &[PackedEdge], keysym: Keysym, hint: usize) -> Optio
     index_of(edges, keysym)
 }
 
-/// The table of these arrays, which are those of the sequences.
+/// Makes a table of these arrays, which are those of the sequences.
 fn from_arrays(
     sequences: &Sequences,
     nodes: Vec<PackedNode>,
@@ -252,7 +260,7 @@ fn from_arrays(
         (string_bytes texts) sequences.now }
     ensures { result ≡ sequences.now }
 {
-    // The contract alone speaks of them.
+    // Only the contract refers to them.
     let _ = sequences;
     PackedTable {
         nodes,
@@ -269,7 +277,7 @@ impl PackedTable {
     ghost use Rattle.compose_read.specs.Settle.{IsSettled};
     ghost use Rattle.compose_tree.specs.Rows.{row_of};
 
-    /// The table in the memory of this one. O(1).
+    /// Borrows the table as a `LentTable`. O(1).
     pub fn lend(&self) -> LentTable<'_>
         ensures { result ≡ self.now }
     {
@@ -282,7 +290,7 @@ impl PackedTable {
         )
     }
 
-    /// The edges of a node. O(1).
+    /// Returns the edges of a node. O(1).
     fn edges_of(&self, node: NodeId) -> &[PackedEdge]
         requires { node.0 < length (model.nodes self.now) }
         ensures value { result.now

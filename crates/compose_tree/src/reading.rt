@@ -1,4 +1,4 @@
-//! Tables from sources.
+//! Reading tables from sources.
 ghost use Rattle.std.specs.Prelude.{◌≡◌, [], Err};
 ghost use Rattle.compose_tree.specs.TableGives.{TableGives, first_table, table_of};
 
@@ -9,19 +9,19 @@ use keysym_core::Names;
 use std::alloc::Global;
 use thiserror::Error;
 
-/// Why sources give no table.
+/// Why a table can't be read from sources.
 #[derive(Debug, PartialEq, Eq, Drop, Error)]
 pub enum TableFault {
-    /// A fault of the sources.
+    /// The sources have a fault.
     #[error("1 Read: {0}")]
     Read(ReadFault),
-    /// A sequence is a prefix of another one, and the rule refuses that.
+    /// A sequence is a prefix of another one, and the rule refuses overlaps.
     #[error("2 Settle: {0}")]
     Settle(SettleFault),
-    /// There are too many nodes.
+    /// The table has too many nodes.
     #[error("3 Build: {0}")]
     Build(BuildFault),
-    /// Memory was refused in this call.
+    /// A memory allocation failed.
     #[error("4 NoMemory")]
     NoMemory,
 }
@@ -68,7 +68,12 @@ impl From<BuildFault> for TableFault {
     }
 }
 
-/// The table that is read from the root by the rule: its definitions are read, settled and built, and the first fault decides. O(b + n log n) in the bytes of all visited lines and the definitions.
+/// Reads the table whose root is the source with this name: reads its definitions, settles them by
+/// the rule, and builds the table. O(b + n log n) in the bytes of all visited lines and the
+/// definitions.
+///
+/// Errors: the first of `Read` for a fault of the sources, `Settle` for an overlap that the rule
+/// refuses, and `Build` for too many nodes; or `NoMemory`.
 pub fn read_table<T: ComposeTable>(
     alloc: Global,
     names: &Names,
@@ -84,7 +89,9 @@ pub fn read_table<T: ComposeTable>(
     Ok(table)
 }
 
-/// The table whose root is the first source, read by the rule as by `read_table`. Without a source, the root is missing.
+/// Reads the table whose root is the first source, as [`read_table`] does.
+///
+/// Errors: those of [`read_table`]; without a source, the error is that the root is missing.
 pub fn read_first_table<T: ComposeTable>(
     alloc: Global,
     names: &Names,

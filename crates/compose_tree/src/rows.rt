@@ -1,8 +1,9 @@
 //! The rows of a table, built in one pass over its settled sequences.
 //!
-//! The sequences rise, so each shares the longest prefix with the one before it. The way to the last sequence is kept:
-//! a sequence adds one edge where it leaves that way, and opens a node for each keysym but the last behind it. All edges
-//! go into one list, with their nodes: no node has a vector of its own.
+//! The sequences are in increasing order, so each shares its longest prefix with the one before it.
+//! The path of nodes to the last sequence is kept. A sequence adds one edge where it leaves that
+//! path, and one node for each of its keysyms after that edge. All edges go into one list, together
+//! with their nodes: no node has a vector of its own.
 ghost use Rattle.std.specs.Prelude.{◌≡◌, ◌<◌, ◌≤◌, ◌+◌, ◌++◌, ℕ, List, [], ◌∷◌, length, take, drop, Some, slice_get, slice_set, get_or, OnOk, OnErr, IfOk, IfErr};
 ghost use Rattle.compose_model.specs.Table.{Definition};
 ghost use Rattle.compose_model.specs.Nodes.{nodes};
@@ -19,10 +20,11 @@ use keysym_core::Keysym;
 use std::alloc::{AllocError, Global};
 use std::marker::Model;
 
-/// The most nodes that a table may have.
+/// The largest number of nodes that a table may have.
 pub const MAX_NODES: usize = 1_048_576;
 
-/// The rows of nodes, flat: the depth of each node, and the edges of all nodes in the order in which the sequences add them.
+/// The rows of the nodes as flat lists: the depth of each node, and the edges of all nodes in the
+/// order in which the sequences add them.
 #[derive(Drop)]
 pub struct Rows {
     depths: Vec<u32>,
@@ -44,7 +46,7 @@ impl Rows {
     ghost use Rattle.std.specs.Prelude.{◌≡◌, ◌<◌, ◌++◌, [], ◌∷◌, length, OnOk, IfOk};
     ghost use Rattle.compose_tree.specs.Rows.{rows_of, with_edge, gathered, AreAtNodes};
 
-    /// The row of the root alone, with room for two edges for each of so many sequences. O(1).
+    /// Makes the row of the root alone, with room for two edges per sequence. O(1).
     fn root(alloc: Global, sequence_count: usize) -> Result<Rows, AllocError>
         ensures { IfOk result (λ rows. rows ≡ rows_of []) }
     {
@@ -54,14 +56,15 @@ impl Rows {
         })
     }
 
-    /// How many rows there are. O(1).
+    /// Returns the number of rows. O(1).
     fn len(&self) -> usize
         ensures { result ≡ length self.now }
     {
         self.depths.len()
     }
 
-    /// The depth of each node, and the edges with their nodes, each node's in rising order. O(1).
+    /// Returns the depth of each node, and the edges with their nodes; those of each node are in
+    /// increasing order of keysyms. O(1).
     pub fn parts(&self) -> (&[u32], &[NodeEdge])
         ensures rows { gathered 0 result.0.now result.1.now ≡ self.now }
         ensures at_nodes { AreAtNodes (length result.0.now) result.1.now }
@@ -69,7 +72,7 @@ impl Rows {
         (self.depths.as_slice(), self.edges.as_slice())
     }
 
-    /// Puts a row with one edge behind the others.
+    /// Adds a row with one edge after the others.
     fn open(&mut self, depth: u32, edge: Edge) -> Result<(), AllocError>
         requires { length self.old < 4294967296 }
         ensures { OnOk result
@@ -81,7 +84,7 @@ impl Rows {
         Ok(())
     }
 
-    /// Puts an edge behind the others of its node.
+    /// Adds an edge after the others of its node.
     fn push_edge(&mut self, node: u32, edge: Edge) -> Result<(), AllocError>
         requires { node < length self.old }
         ensures { OnOk result (self.new ≡ with_edge self.old node edge) }
@@ -91,7 +94,7 @@ impl Rows {
     }
 }
 
-/// The length of the longest common prefix of two lists.
+/// Returns the length of the longest common prefix of two lists.
 fn shared_prefix(one: &[Keysym], other: &[Keysym]) -> usize
     ensures { result ≡ words.shared one.now other.now }
 {
@@ -102,7 +105,7 @@ fn shared_prefix(one: &[Keysym], other: &[Keysym]) -> usize
     count
 }
 
-/// The sequence at this index.
+/// Returns the sequence at this index.
 fn sequence_of(sequences: &Sequences, index: usize) -> &[Keysym]
     requires { index < length sequences.now }
     ensures { result.now ≡ sequence_at sequences.now index }
@@ -110,7 +113,8 @@ fn sequence_of(sequences: &Sequences, index: usize) -> &[Keysym]
     sequences.sequence(index)
 }
 
-/// Where the edge of the keysym at this index of the sequence leads: to the leaf behind the last one, else to the node.
+/// Returns the target of the edge of the keysym at this index of the sequence: the leaf after the
+/// last keysym, else the node.
 fn target_at(sequence: &[Keysym], index: usize, node: u32, leaf: u32) -> Target
     requires { index < length sequence.now }
     ensures { result ≡ next_target node leaf (drop (index + 1) sequence.now) }
@@ -148,8 +152,8 @@ fn open_nodes(
     Ok(())
 }
 
-/// Adds the sequence, which is the one at this index and shares so many keysyms with the one before it, to the rows of those
-/// before it.
+/// Adds to the rows the sequence at this index. It shares its first `shared` keysyms with the
+/// sequence before it, and the rows are those of all sequences before it.
 fn add_sequence(
     rows: &mut Rows,
     path: &mut Vec<u32>,
@@ -188,7 +192,9 @@ fn add_sequence(
     Ok(())
 }
 
-/// The rows of the sequences, one for each node, unless there are more than 1,048,576. O(keysyms of all sequences).
+/// Builds the rows of the sequences, one for each node. O(keysyms of all sequences).
+///
+/// Errors: `TooManyNodes` if there are more than 1,048,576 nodes, or `NoMemory`.
 pub fn build_rows(alloc: Global, sequences: &Sequences) -> Result<Rows, BuildFault>
     ensures rows { IfOk result (λ rows. rows ≡ rows_of sequences.now) }
     ensures few { IfOk result (λ _. length (nodes sequences.now) ≤ max_nodes) }

@@ -1,4 +1,4 @@
-//! Requests to a service, before, within and after the call that is tried.
+//! Requests to a service before, in and after the tried call.
 use crate::failure::Failure;
 use crate::input::{read_requests, start_service};
 use crate::marks::mark;
@@ -7,14 +7,15 @@ use compose_service::Service;
 use compose_tree::PackedTable;
 use compose_wire::{Reply, Request};
 
-/// Answers the requests of the file `before`, tries the call that the argument names on those of `tried`, and answers those of `after`;
-/// prints each reply.
+/// Answers the requests of the file `before`, tries the call that the argument names on those of
+/// `tried`, and answers those of `after`. Prints each reply. `Err(Arguments)` if there is no such
+/// call; other errors: see [`Failure`].
 pub fn try_call(rt: &HostRuntime, call: &str) -> Result<(), Failure> {
     let mut service = start_service(rt)?;
     try_on(rt, &mut service, call)
 }
 
-/// The same on this service.
+/// Does the same with this service.
 fn try_on(rt: &HostRuntime, service: &mut Service<PackedTable>, call: &str) -> Result<(), Failure> {
     answer_all(rt, service, "before")?;
     match call {
@@ -25,7 +26,7 @@ fn try_on(rt: &HostRuntime, service: &mut Service<PackedTable>, call: &str) -> R
     answer_all(rt, service, "after")
 }
 
-/// Answers the requests of a file, and prints each reply.
+/// Answers the requests of a file, and prints each reply. Errors: see [`Failure`].
 pub fn answer_all(
     rt: &HostRuntime,
     service: &mut Service<PackedTable>,
@@ -55,7 +56,7 @@ fn answer_one(rt: &HostRuntime, service: &mut Service<PackedTable>) -> Result<()
     say_reply(rt, &reply)
 }
 
-/// Answers requests by one call.
+/// Answers requests in one call.
 fn run(rt: &HostRuntime, service: &mut Service<PackedTable>) -> Result<(), Failure> {
     let requests = read_requests(rt, "tried")?;
     mark(rt);

@@ -1,5 +1,5 @@
-//! Times of single calls, for `bench/run.py`: `compose_trials bench WHAT FILE..` prints lines of a name, a tab and a number.
-//! Times are nanoseconds of the quickest of some rounds.
+//! Times of single calls, for `bench/run.py`. `compose_trials bench WHAT FILE..` prints lines of a
+//! name, a tab and a number. Times are in nanoseconds, each the least of some rounds.
 //!
 //! ```text
 //! compose_trials bench names share/composecheck/short-unicode-names.h
@@ -18,18 +18,19 @@ use crate::failure::Failure;
 use compose_service::Service;
 use compose_tree::PackedTable;
 
-/// What is measured of a service.
+/// What is measured with a service.
 #[derive(Clone, Copy)]
 enum Measured<'a> {
     /// Loads of the same table.
     Loads,
-    /// Opening and closing as many sessions.
+    /// Opening and closing this number of sessions.
     Sessions(&'a str),
-    /// The keys of a file, in as many sessions.
+    /// The keys of this file, in this number of sessions.
     Keys(&'a str, &'a str),
 }
 
-/// Measures what the arguments say.
+/// Measures what the arguments ask for. `Err(Arguments)` if they name no measurement; other errors:
+/// see [`Failure`].
 pub fn run(rt: &HostRuntime, arguments: &[&str]) -> Result<(), Failure> {
     match arguments {
         ["lex", table] => reading::lex(rt, table),
@@ -58,13 +59,14 @@ pub fn run(rt: &HostRuntime, arguments: &[&str]) -> Result<(), Failure> {
     }
 }
 
-/// Measures a service over the packed table of a file; the files are those of the names, the table and its certificate.
+/// Measures a service over the packed table of a file. The files are those of the names, the table
+/// and its certificate.
 fn serve(rt: &HostRuntime, files: &[&str; 3], measured: Measured<'_>) -> Result<(), Failure> {
     let mut service: Service<PackedTable> = start(rt, files)?;
     measure(rt, &mut service, files, measured)
 }
 
-/// Measures this service, whose files are these.
+/// Measures this service, which was started from these files.
 fn measure(
     rt: &HostRuntime,
     service: &mut Service<PackedTable>,

@@ -1,25 +1,25 @@
-//! The text of a certificate, cut at each place, and with each byte replaced by every other.
+//! A certificate's text, cut at each place, and with each byte replaced by every other.
 use crate::checking::{Parts, check_with, read_parts, say_verdict};
 use crate::failure::Failure;
 use crate::input::read_file;
 use crate::output::say;
 use compose_check::Verdict;
 
-/// Prints what is answered to each prefix of the certificate that lacks a byte, and each change of a byte to which the answer is yes:
-/// its index and the byte.
+/// Prints the answer to each prefix of the certificate that lacks a byte, and each change of a byte
+/// to which the answer is yes: its index and the byte. Errors: see [`Failure`].
 pub fn try_all(rt: &HostRuntime) -> Result<(), Failure> {
     let parts = read_parts(rt)?;
     try_with(rt, &parts)
 }
 
-/// The same with these parts.
+/// Does the same with these parts.
 fn try_with(rt: &HostRuntime, parts: &Parts) -> Result<(), Failure> {
     let mut certificate = read_file(rt, "certificate")?;
     try_prefixes(rt, parts, &certificate)?;
     try_changes(rt, parts, &mut certificate)
 }
 
-/// Prints what is answered to each prefix that lacks a byte.
+/// Prints the answer to each prefix that lacks a byte.
 fn try_prefixes(rt: &HostRuntime, parts: &Parts, certificate: &[u8]) -> Result<(), Failure> {
     for end in 0..certificate.len() {
         say_verdict(rt, check_with(rt, parts, &certificate[..end]))?;
@@ -35,7 +35,7 @@ fn try_changes(rt: &HostRuntime, parts: &Parts, certificate: &mut [u8]) -> Resul
     Ok(())
 }
 
-/// Puts every other byte at an index, and then the first one again.
+/// Tries every other byte at an index, and then restores the first one.
 fn try_bytes(
     rt: &HostRuntime,
     parts: &Parts,
@@ -56,7 +56,7 @@ fn try_bytes(
     Ok(())
 }
 
-/// Puts a byte at an index.
+/// Writes a byte at an index.
 fn put(bytes: &mut [u8], index: usize, byte: u8) {
     if let Some(found) = bytes.get_mut(index) {
         *found = byte;

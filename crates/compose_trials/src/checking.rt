@@ -1,4 +1,4 @@
-//! Checks of a certificate on bytes.
+//! Checks of a certificate from bytes.
 use crate::failure::Failure;
 use crate::input::{read_file, read_sources};
 use crate::marks::mark;
@@ -8,7 +8,7 @@ use compose_model::Rule;
 use compose_read::Sources;
 use compose_tree::PackedTable;
 
-/// What a certificate is checked with.
+/// The input of a check, except for the certificate.
 #[derive(Drop)]
 pub struct Parts {
     header: Vec<u8>,
@@ -23,7 +23,7 @@ struct Tables {
     new: Sources,
 }
 
-/// The parts in the files.
+/// Reads the parts from the files. Errors: see [`Failure`].
 pub fn read_parts(rt: &HostRuntime) -> Result<Parts, Failure> {
     let header = read_file(rt, "header")?;
     let tables = read_tables(rt)?;
@@ -35,14 +35,14 @@ pub fn read_parts(rt: &HostRuntime) -> Result<Parts, Failure> {
     })
 }
 
-/// Both tables.
+/// Reads both tables.
 fn read_tables(rt: &HostRuntime) -> Result<Tables, Failure> {
     let old = read_sources(rt, "old")?;
     let new = read_sources(rt, "new")?;
     Ok(Tables { old, new })
 }
 
-/// Checks a certificate with these parts.
+/// Checks a certificate with these parts. Errors: those of `check_bytes`.
 pub fn check_with(
     rt: &HostRuntime,
     parts: &Parts,
@@ -60,7 +60,7 @@ pub fn check_with(
     check_bytes::<PackedTable>(rt.alloc(), &input)
 }
 
-/// Prints what is answered to a certificate.
+/// Prints the answer to a certificate. `Err(System)` if the output fails.
 pub fn say_verdict(rt: &HostRuntime, verdict: Result<Verdict, InputFault>) -> Result<(), Failure> {
     match verdict {
         Ok(Verdict::Yes) => say(rt, "yes"),
@@ -69,7 +69,7 @@ pub fn say_verdict(rt: &HostRuntime, verdict: Result<Verdict, InputFault>) -> Re
     }
 }
 
-/// Checks the certificate.
+/// Checks the certificate. Errors: see [`Failure`].
 pub fn check(rt: &HostRuntime) -> Result<(), Failure> {
     let parts = read_parts(rt)?;
     check_marked(rt, &parts)

@@ -3,20 +3,20 @@ use std::alloc::Global;
 use std::io;
 use std::io::{ErrorKind, Read, Write};
 
-/// How a device behaves. A call is counted from 1; none has the number 0.
+/// The behaviour of a device. Calls are counted from 1, so 0 is none.
 #[derive(Clone, Copy, Drop)]
 pub struct Behaviour {
-    /// The most bytes that a call moves.
+    /// The greatest number of bytes that a call moves.
     pub most: usize,
     /// The call that fails.
     pub failing: usize,
     /// The call that moves no byte.
     pub idle: usize,
-    /// Of so many calls the last is interrupted, which is not counted otherwise.
+    /// Of this number of calls, the last is interrupted. It does not count for the other fields.
     pub interrupted: usize,
 }
 
-/// What the calls of a device come to.
+/// A device's calls so far.
 #[derive(Clone, Copy, Drop)]
 struct Calls {
     behaviour: Behaviour,
@@ -25,7 +25,7 @@ struct Calls {
 }
 
 impl Calls {
-    /// No call yet.
+    /// Makes the state before the first call.
     fn new(behaviour: Behaviour) -> Calls {
         Calls {
             behaviour,
@@ -34,7 +34,7 @@ impl Calls {
         }
     }
 
-    /// Counts a call, and gives the most bytes that it moves.
+    /// Counts a call, and returns the greatest number of bytes that it moves.
     fn next(&mut self) -> io::Result<usize> {
         self.since_interrupted = self.since_interrupted.saturating_add(1);
         if self.since_interrupted == self.behaviour.interrupted {
@@ -61,7 +61,7 @@ pub struct TrialReader {
 }
 
 impl TrialReader {
-    /// A reader of these bytes.
+    /// Makes a reader of these bytes.
     pub fn new(bytes: Vec<u8>, behaviour: Behaviour) -> TrialReader {
         TrialReader {
             bytes,
@@ -84,7 +84,7 @@ impl Read for TrialReader {
     }
 }
 
-/// A writer that keeps what it takes.
+/// A writer that keeps the bytes that it takes.
 #[derive(Drop)]
 pub struct TrialWriter {
     taken: Vec<u8>,
@@ -92,7 +92,7 @@ pub struct TrialWriter {
 }
 
 impl TrialWriter {
-    /// A writer that has taken nothing.
+    /// Makes a writer that has taken nothing.
     pub fn new(alloc: Global, behaviour: Behaviour) -> TrialWriter {
         TrialWriter {
             taken: Vec::new(alloc),
@@ -100,7 +100,7 @@ impl TrialWriter {
         }
     }
 
-    /// What it has taken.
+    /// Returns the bytes that it has taken.
     pub fn taken(&self) -> &[u8] {
         self.taken.as_slice()
     }

@@ -9,19 +9,19 @@ use compose_tree::PackedTable;
 use std::io;
 use std::io::{Read, Write};
 
-/// The bytes of an Ask of session 0: its kind, and zeros.
+/// The length in bytes of an Ask of session 0: its kind, and zeros.
 const FRAME: usize = 9;
 
 /// The kind of an Ask.
 const ASK: u8 = 6;
 
-/// Its refusal: there is no such session.
+/// The refusal of the Ask: there is no such session.
 const REPLY: [u8; 11] = [0xff, 0, 0, 0, 0, 0, 0, 0, 2, 0, 2];
 
-/// How many frames come.
+/// The number of frames in the stream.
 const FRAMES: usize = 16_777_217;
 
-/// A reader of one frame again and again, which takes no memory.
+/// A reader that repeats one frame, and takes no memory.
 #[derive(Drop)]
 struct Repeated {
     left: usize,
@@ -39,7 +39,7 @@ impl Read for Repeated {
     }
 }
 
-/// A writer that counts the replies, and those that are other ones.
+/// A writer that counts the replies, and those that differ from the expected one.
 #[derive(Drop)]
 struct Counted {
     replies: u64,
@@ -60,13 +60,14 @@ impl Write for Counted {
     }
 }
 
-/// Serves the frames; prints how that ends, how many replies were written, and how many of them are other ones.
+/// Serves the frames, and prints how the stream ends, the number of replies that were written, and
+/// the number of those that differ from the expected one. Errors: see [`Failure`].
 pub fn serve_endless(rt: &HostRuntime) -> Result<(), Failure> {
     let mut service = start_service(rt)?;
     serve_frames(rt, &mut service)
 }
 
-/// The same by this service.
+/// Does the same with this service.
 fn serve_frames(rt: &HostRuntime, service: &mut Service<PackedTable>) -> Result<(), Failure> {
     let mut reader = Device::new(Repeated {
         left: FRAMES * FRAME,

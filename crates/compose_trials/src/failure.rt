@@ -1,22 +1,22 @@
-//! Why nothing is tried or measured.
+//! Why a trial or a measurement could not be made.
 
-/// Why nothing is tried or measured, in the order of the exit statuses.
+/// Why a trial or a measurement could not be made, in the order of the exit statuses.
 #[derive(Clone, Copy, Drop)]
 pub enum Failure {
     /// The arguments name no trial and no measurement.
     Arguments,
     /// A file can't be read.
     File,
-    /// A file is not what it should be.
+    /// A file does not hold what it should, or a call on it failed.
     Input,
     /// The output, a socket or the clock failed.
     System,
-    /// A growth was refused outside of the call that is tried.
+    /// Memory ran out outside of the tried call.
     NoMemory,
 }
 
 impl Failure {
-    /// The exit status, 1 to 5.
+    /// Returns the exit status, from 1 to 5.
     pub fn status(self) -> u8 {
         match self {
             Failure::Arguments => 1,

@@ -1,4 +1,4 @@
-//! What the files hold.
+//! The contents of the files.
 use crate::failure::Failure;
 use compose_cert::Repertoire;
 use compose_model::Rule;
@@ -8,7 +8,7 @@ use compose_tree::{ComposeTable, PackedTable, read_first_table};
 use compose_wire::{Feeder, Request};
 use keysym_core::Names;
 
-/// The bytes of a file.
+/// Reads the bytes of a file. `Err(File)` if that fails.
 pub fn read_file(rt: &HostRuntime, path: &str) -> Result<Vec<u8>, Failure> {
     match std::fs::read(rt, path) {
         Ok(bytes) => Ok(bytes),
@@ -16,7 +16,8 @@ pub fn read_file(rt: &HostRuntime, path: &str) -> Result<Vec<u8>, Failure> {
     }
 }
 
-/// The names of a header.
+/// Reads the names of a header. `Err(File)` if the file can't be read, `Err(Input)` if it is not a
+/// header.
 pub fn read_names(rt: &HostRuntime, path: &str) -> Result<Names, Failure> {
     let header = read_file(rt, path)?;
     match Names::read(rt.alloc(), &header) {
@@ -25,7 +26,8 @@ pub fn read_names(rt: &HostRuntime, path: &str) -> Result<Names, Failure> {
     }
 }
 
-/// The characters of the repertoire.
+/// Reads the characters of the repertoire. `Err(File)` if the file can't be read, `Err(Input)` if
+/// it is not a repertoire.
 pub fn read_repertoire(rt: &HostRuntime) -> Result<Repertoire, Failure> {
     let bytes = read_file(rt, "repertoire")?;
     match Repertoire::read(rt.alloc(), &bytes) {
@@ -34,7 +36,8 @@ pub fn read_repertoire(rt: &HostRuntime) -> Result<Repertoire, Failure> {
     }
 }
 
-/// The sources of a table that is one file, under its path.
+/// Reads the sources of a table that is one file, under its path. `Err(File)` if the file can't be
+/// read, `Err(Input)` if it can't be added.
 pub fn read_sources(rt: &HostRuntime, path: &str) -> Result<Sources, Failure> {
     let bytes = read_file(rt, path)?;
     let mut sources = Sources::new(rt.alloc());
@@ -44,7 +47,8 @@ pub fn read_sources(rt: &HostRuntime, path: &str) -> Result<Sources, Failure> {
     }
 }
 
-/// The table of a file.
+/// Reads the table of a file. `Err(File)` if the file can't be read, `Err(Input)` if it is not a
+/// table.
 pub fn read_table<T: ComposeTable>(
     rt: &HostRuntime,
     names: &Names,
@@ -57,7 +61,7 @@ pub fn read_table<T: ComposeTable>(
     }
 }
 
-/// What a service starts with, beside its certificate.
+/// What a service starts with, besides its certificate.
 #[derive(Drop)]
 pub struct Start {
     names: Names,
@@ -65,7 +69,8 @@ pub struct Start {
     sources: Sources,
 }
 
-/// The repertoire, the old table and the names.
+/// Reads the repertoire, the old table and the names. `Err(File)` if a file can't be read,
+/// `Err(Input)` if it does not hold what it should.
 pub fn read_start(rt: &HostRuntime) -> Result<Start, Failure> {
     let repertoire = read_repertoire(rt)?;
     let sources = read_sources(rt, "old")?;
@@ -77,7 +82,7 @@ pub fn read_start(rt: &HostRuntime) -> Result<Start, Failure> {
     })
 }
 
-/// Starts a service of these parts.
+/// Starts a service of these parts. Errors: those of `Service::start`.
 pub fn start_with(
     rt: &HostRuntime,
     parts: Start,
@@ -93,7 +98,9 @@ pub fn start_with(
     )
 }
 
-/// A service over the old table, in a box: it has many parts, and a function that owns all of them is slow to verify.
+/// Starts a service over the old table. It is in a box because it has many parts, and a function
+/// that owns all of them is slow to verify. `Err(File)` if a file can't be read, `Err(Input)` if no
+/// service starts, `Err(NoMemory)` if there is no memory for the box.
 pub fn start_service(rt: &HostRuntime) -> Result<Box<Service<PackedTable>>, Failure> {
     let certificate = read_file(rt, "certificate")?;
     let parts = read_start(rt)?;
@@ -103,7 +110,7 @@ pub fn start_service(rt: &HostRuntime) -> Result<Box<Service<PackedTable>>, Fail
     }
 }
 
-/// The value in a box.
+/// Moves the value into a box.
 fn boxed<T: Drop>(rt: &HostRuntime, value: T) -> Result<Box<T>, Failure> {
     match Box::new(rt.alloc(), value) {
         Ok(boxed) => Ok(boxed),
@@ -111,7 +118,8 @@ fn boxed<T: Drop>(rt: &HostRuntime, value: T) -> Result<Box<T>, Failure> {
     }
 }
 
-/// A feeder that holds what a file does.
+/// Makes a feeder that holds the bytes of a file. `Err(File)` if the file can't be read,
+/// `Err(NoMemory)` if memory runs out.
 pub fn feed_file(rt: &HostRuntime, path: &str) -> Result<Feeder, Failure> {
     let bytes = read_file(rt, path)?;
     let mut feeder = Feeder::new(rt.alloc());
@@ -121,7 +129,8 @@ pub fn feed_file(rt: &HostRuntime, path: &str) -> Result<Feeder, Failure> {
     }
 }
 
-/// The requests of a file.
+/// Reads the requests of a file. `Err(File)` if the file can't be read, `Err(Input)` if it has a
+/// faulty frame, `Err(NoMemory)` if memory runs out.
 pub fn read_requests(rt: &HostRuntime, path: &str) -> Result<Vec<Request>, Failure> {
     let mut feeder = feed_file(rt, path)?;
     let mut requests = Vec::new(rt.alloc());
@@ -135,7 +144,7 @@ pub fn read_requests(rt: &HostRuntime, path: &str) -> Result<Vec<Request>, Failu
     Ok(requests)
 }
 
-/// Puts a request behind the others.
+/// Appends a request.
 fn keep(requests: &mut Vec<Request>, request: Request) -> Result<(), Failure> {
     match requests.push(request) {
         Ok(()) => Ok(()),

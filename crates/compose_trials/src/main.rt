@@ -1,5 +1,6 @@
-//! Single calls and failing devices, for `tests/calls.py` and `tests/devices.py`: `compose_trials WHAT [CALL]` reads what a trial needs
-//! from files of fixed names in the folder that it runs in, and prints what came of it. `compose_trials bench WHAT FILE..` measures.
+//! Single calls and failing devices, for `tests/calls.py` and `tests/devices.py`. With the
+//! arguments `WHAT [CALL]` the program reads the input of a trial from files with fixed names in
+//! the current folder, and prints the results. `bench WHAT FILE..` measures.
 //!
 //! ```text
 //! python3 tests/calls.py crates/compose_trials/out/compose_trials
@@ -28,7 +29,7 @@ mod tables;
 use failure::Failure;
 use std::process::ExitCode;
 
-/// Tries or measures what the arguments say.
+/// Tries or measures what the arguments ask for.
 fn run(rt: &HostRuntime, arguments: &[&str]) -> Result<(), Failure> {
     match arguments {
         ["bench", words @ ..] => bench::run(rt, words),
@@ -46,7 +47,7 @@ fn run(rt: &HostRuntime, arguments: &[&str]) -> Result<(), Failure> {
     }
 }
 
-/// The arguments after the program's name.
+/// Returns the arguments after the program's name.
 fn arguments_given(rt: &HostRuntime) -> Result<Vec<String>, Failure> {
     let Ok(arguments) = std::env::args(rt) else {
         return Err(Failure::Arguments);

@@ -1,4 +1,5 @@
-//! A network in memory: sockets that delay, split and cut at any byte, and fail to accept, as a seed has it.
+//! A network in memory: sockets that delay, split and cut at any byte, and fail to accept, as a
+//! seed determines.
 ghost use Rattle.std.specs.Prelude.{◌≡◌, None};
 ghost use Rattle.compose_hub.specs.Sockets.{KeepsBytes};
 ghost use Rattle.compose_trials.specs.Network.{stream_at};
@@ -19,26 +20,28 @@ pub mod schedule;
 use client::Client;
 use marks::Marks;
 
-/// The clients, and what chance does to their streams. It reads from and writes to the one that is chosen.
+/// The clients, and the random numbers that determine what happens to their streams. Reads and
+/// writes go to the chosen client.
 #[derive(Drop)]
 pub struct Clients {
     clients: Vec<Client>,
     chance: Chance,
     chosen: usize,
-    /// So many of them have connected.
+    /// The number of clients that have connected.
     connected: usize,
     /// The most time that passes at once, in milliseconds.
     longest: usize,
 }
 
 impl Clients {
-    /// The client with this number, from 1.
+    /// Returns the client with this number, counted from 1.
     fn at(&mut self, number: u64) -> Option<&mut Client> {
         let index = (number as usize).checked_sub(1)?;
         self.clients.get_mut(index)
     }
 
-    /// Whether chance lets the next one connect be accepted, as the connection with this number, under this key.
+    /// Accepts the next client as the connection with this number, under this key, or not, at
+    /// random.
     fn accept(&mut self, number: u64, key: usize) -> Accepted {
         match self.chance.below(16) {
             0 => return Accepted::GivenUp,
@@ -57,7 +60,8 @@ impl Clients {
         }
     }
 
-    /// Something happens to a client, from this one on, that is not done; puts what is ready then behind the others.
+    /// Goes on with the first client, from this index on, that is not done, and appends what is
+    /// ready then.
     fn go_on(&mut self, from: usize, ready: &mut Vec<Ready>) -> io::Result<()> {
         for index in 0..self.clients.len() {
             let at = index
@@ -78,7 +82,7 @@ impl Clients {
         Ok(())
     }
 
-    /// Some things happen; puts what is ready then in place of what was there.
+    /// Lets some events happen, and replaces `ready` by what is ready then.
     fn happen(&mut self, ready: &mut Vec<Ready>) -> io::Result<()> {
         ready.clear();
         for _ in 0..=self.chance.below(6) {
@@ -118,7 +122,7 @@ impl Write for Clients {
     }
 }
 
-/// The network.
+/// A network of clients, with the marks of each open connection.
 #[derive(Drop)]
 pub struct Network {
     clients: Clients,
@@ -126,7 +130,8 @@ pub struct Network {
 }
 
 impl Network {
-    /// A network of these clients, by this chance, in which at most so many milliseconds pass at once.
+    /// Makes a network of these clients, with these random numbers, in which at most this number of
+    /// milliseconds pass at once.
     pub fn new(alloc: Global, clients: Vec<Client>, chance: Chance, longest: usize) -> Network {
         Network {
             clients: Clients {
@@ -140,7 +145,7 @@ impl Network {
         }
     }
 
-    /// The clients, in the order of their numbers.
+    /// Returns the clients, in the order of their numbers.
     pub fn clients(&self) -> &[Client] {
         self.clients.clients.as_slice()
     }

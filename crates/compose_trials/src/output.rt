@@ -1,9 +1,9 @@
-//! What is printed.
+//! The output of a trial.
 use crate::failure::Failure;
 use compose_wire::{Reply, put_reply};
 use std::fmt::Display;
 
-/// Prints a line.
+/// Prints a line. `Err(System)` if the output fails.
 pub fn say<D: Display + Drop>(rt: &HostRuntime, line: D) -> Result<(), Failure> {
     match println!(rt; "{line}") {
         Ok(()) => Ok(()),
@@ -11,7 +11,7 @@ pub fn say<D: Display + Drop>(rt: &HostRuntime, line: D) -> Result<(), Failure> 
     }
 }
 
-/// The bytes in hexadecimal.
+/// Returns the bytes in hexadecimal.
 fn hexadecimal(rt: &HostRuntime, bytes: &[u8]) -> Result<String, Failure> {
     match hex::encode(rt.alloc(), bytes) {
         Ok(text) => Ok(text),
@@ -19,13 +19,15 @@ fn hexadecimal(rt: &HostRuntime, bytes: &[u8]) -> Result<String, Failure> {
     }
 }
 
-/// Prints bytes in hexadecimal.
+/// Prints bytes in hexadecimal. `Err(System)` if the output fails, `Err(NoMemory)` if memory runs
+/// out.
 pub fn say_bytes(rt: &HostRuntime, bytes: &[u8]) -> Result<(), Failure> {
     let text = hexadecimal(rt, bytes)?;
     say(rt, text.as_str())
 }
 
-/// Prints the frame of a reply in hexadecimal.
+/// Prints the frame of a reply in hexadecimal. `Err(System)` if the output fails, `Err(NoMemory)`
+/// if memory runs out.
 pub fn say_reply(rt: &HostRuntime, reply: &Reply) -> Result<(), Failure> {
     let frame = put_reply(reply);
     say_bytes(rt, frame.as_slice())

@@ -1,4 +1,4 @@
-//! Calls that are wrong on purpose: the scripts have to tell each.
+//! Calls that are wrong on purpose: the scripts have to report each.
 use crate::answering::{answer, answer_all};
 use crate::failure::Failure;
 use crate::input::{read_requests, start_service};
@@ -8,7 +8,8 @@ use compose_service::Service;
 use compose_tree::PackedTable;
 use std::mem;
 
-/// Does the wrong call that the argument names.
+/// Makes the wrong call that the argument names. `Err(Arguments)` if there is no such call; other
+/// errors: see [`Failure`].
 pub fn try_call(rt: &HostRuntime, call: &str) -> Result<(), Failure> {
     match call {
         "leak" => leak(rt),
@@ -19,7 +20,7 @@ pub fn try_call(rt: &HostRuntime, call: &str) -> Result<(), Failure> {
     }
 }
 
-/// Takes a block, and never gives it back.
+/// Takes a block, and never frees it.
 fn leak(rt: &HostRuntime) -> Result<(), Failure> {
     mark(rt);
     let taken: Result<_, _> = Vec::from_slice(rt.alloc(), b"lost");
@@ -33,7 +34,7 @@ fn leak(rt: &HostRuntime) -> Result<(), Failure> {
     }
 }
 
-/// Takes two blocks, and loses the first where the second is refused.
+/// Takes two blocks, and leaks the first if the second is refused.
 fn leak_at_a_refusal(rt: &HostRuntime) -> Result<(), Failure> {
     mark(rt);
     let first: Result<_, _> = Vec::from_slice(rt.alloc(), b"lost");
@@ -46,7 +47,7 @@ fn leak_at_a_refusal(rt: &HostRuntime) -> Result<(), Failure> {
     say(rt, "NoMemory")
 }
 
-/// Answers that memory was refused, though none was asked for.
+/// Answers that memory ran out, even if it did not.
 fn refuse_nothing(rt: &HostRuntime) -> Result<(), Failure> {
     mark(rt);
     let taken: Result<_, _> = Vec::from_slice(rt.alloc(), b"given");
@@ -57,19 +58,19 @@ fn refuse_nothing(rt: &HostRuntime) -> Result<(), Failure> {
     }
 }
 
-/// Whether there is memory for a block; it is given back.
+/// Whether there is memory for a block, which is freed again.
 fn has_room(rt: &HostRuntime) -> bool {
     let block: Result<_, _> = Vec::from_slice(rt.alloc(), b"block");
     block.is_ok()
 }
 
-/// Answers an Open of session 9 by NoMemory, though it has opened the session.
+/// Answers an Open of session 9 with NoMemory, although the session is open then.
 fn change_before_a_refusal(rt: &HostRuntime) -> Result<(), Failure> {
     let mut service = start_service(rt)?;
     refuse_an_open(rt, &mut service)
 }
 
-/// The same by this service.
+/// Does the same with this service.
 fn refuse_an_open(rt: &HostRuntime, service: &mut Service<PackedTable>) -> Result<(), Failure> {
     mark(rt);
     let has_room = has_room(rt);
@@ -78,7 +79,7 @@ fn refuse_an_open(rt: &HostRuntime, service: &mut Service<PackedTable>) -> Resul
     answer_all(rt, service, "after")
 }
 
-/// Opens the session, and says so only where there is room.
+/// Opens the session, but prints its reply only if there is room, and otherwise a refusal.
 fn open_anyway(
     rt: &HostRuntime,
     service: &mut Service<PackedTable>,

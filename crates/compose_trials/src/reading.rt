@@ -8,7 +8,8 @@ use compose_bundle::write_bundle;
 use compose_read::Sources;
 use keysym_core::Names;
 
-/// Tries the call that the argument names.
+/// Tries the call that the argument names. `Err(Arguments)` if there is no such call; other errors:
+/// see [`Failure`].
 pub fn try_call(rt: &HostRuntime, call: &str) -> Result<(), Failure> {
     match call {
         "names" => names(rt),
@@ -20,7 +21,7 @@ pub fn try_call(rt: &HostRuntime, call: &str) -> Result<(), Failure> {
     }
 }
 
-/// Reads the header, and prints what the key types that the file `word` names.
+/// Reads the header, and prints the text of the key that the file `word` names.
 fn names(rt: &HostRuntime) -> Result<(), Failure> {
     let header = read_file(rt, "header")?;
     let word = read_file(rt, "word")?;
@@ -38,7 +39,7 @@ fn read_names(rt: &HostRuntime, header: &[u8], word: &[u8]) -> Result<(), Failur
     }
 }
 
-/// Prints what a key types.
+/// Prints the text of a key.
 fn say_text(rt: &HostRuntime, names: &Names, word: &[u8]) -> Result<(), Failure> {
     let Ok(word) = str::from_utf8(word) else {
         return Err(Failure::Input);
@@ -52,7 +53,7 @@ fn say_text(rt: &HostRuntime, names: &Names, word: &[u8]) -> Result<(), Failure>
     }
 }
 
-/// Adds a second source, and tries again after a refusal; prints the refusal, and all sources.
+/// Adds a second source, and tries again after a refusal. Prints the refusal, and all sources.
 fn add(rt: &HostRuntime) -> Result<(), Failure> {
     let mut sources = read_sources(rt, "old")?;
     add_new(rt, &mut sources)
@@ -81,7 +82,7 @@ fn add_again(rt: &HostRuntime, sources: &mut Sources) -> Result<(), Failure> {
     }
 }
 
-/// Prints each source: its name, and how many bytes it has.
+/// Prints each source: its name, and the number of its bytes.
 fn say_sources(rt: &HostRuntime, sources: &Sources) -> Result<(), Failure> {
     for index in 0..sources.count() {
         if let Some(name) = sources.name(index) {
@@ -99,7 +100,7 @@ fn start(rt: &HostRuntime) -> Result<(), Failure> {
     start_marked(rt, parts, &certificate)
 }
 
-/// Starts it of these parts, between two marks.
+/// Starts it from these parts, between two marks.
 fn start_marked(rt: &HostRuntime, parts: Start, certificate: &[u8]) -> Result<(), Failure> {
     mark(rt);
     let started = start_with(rt, parts, certificate);

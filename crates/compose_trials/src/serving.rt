@@ -1,4 +1,4 @@
-//! Streams over devices that fail, and what the service answers then.
+//! Streams over devices that fail, and the service's answers on them.
 use crate::devices::{Behaviour, TrialReader, TrialWriter};
 use crate::failure::Failure;
 use crate::input::{read_file, start_service};
@@ -8,7 +8,7 @@ use compose_service::Service;
 use compose_tree::PackedTable;
 use std::io::{Read, Write};
 
-/// One stream of a trial: the bytes, and how its devices behave.
+/// One stream of a trial: its bytes, and the behaviour of its devices.
 #[derive(Clone, Copy, Drop)]
 struct Stream<'a> {
     bytes: &'a [u8],
@@ -16,12 +16,18 @@ struct Stream<'a> {
     writing: Behaviour,
 }
 
-/// Serves both streams of each line of the file `trials`, one after the other, by a service that starts anew for each line; prints how
-/// each stream ends, and what is written.
+/// Serves both streams of each line of the file `trials`, one after the other, by a service that is
+/// started anew for each line. Prints how each stream ends, and what is written.
 ///
-/// A line has twelve numbers: where the first stream ends in the file `stream` and where the second begins, for the reader of the first
-/// one and then for its writer the most bytes of a call, the call that fails, the one that moves nothing, and of how many calls one is
-/// interrupted; and the most bytes of a call of the second stream's reader and writer.
+/// A line has twelve numbers:
+///
+/// - where the first stream ends in the file `stream`, and where the second begins;
+/// - for the first stream's reader, and then for its writer, the four fields of [`Behaviour`]: the
+///   most bytes of a call, the call that fails, the one that moves nothing, and the number of calls
+///   of which one is interrupted;
+/// - the most bytes of a call of the second stream's reader and writer.
+///
+/// `Err(Input)` if a line is wrong; other errors: see [`Failure`].
 pub fn try_all(rt: &HostRuntime) -> Result<(), Failure> {
     let stream = read_file(rt, "stream")?;
     let trials = read_file(rt, "trials")?;
@@ -43,7 +49,7 @@ fn try_line(rt: &HostRuntime, stream: &[u8], line: &str) -> Result<(), Failure> 
     }
 }
 
-/// Both streams of a line's numbers.
+/// Makes both streams from a line's numbers.
 fn streams_of<'a>(stream: &'a [u8], numbers: &[usize]) -> Option<(Stream<'a>, Stream<'a>)> {
     let [end, start, behaviours @ .., reads, writes] = numbers else {
         return None;
@@ -57,7 +63,7 @@ fn streams_of<'a>(stream: &'a [u8], numbers: &[usize]) -> Option<(Stream<'a>, St
     Some((first, second))
 }
 
-/// The first stream of a line, whose devices may fail.
+/// Makes the first stream of a line, whose devices may fail.
 fn first_stream<'a>(bytes: &'a [u8], behaviours: &[usize]) -> Option<Stream<'a>> {
     let (reading, writing) = behaviours.split_at_checked(4)?;
     Some(Stream {
@@ -67,7 +73,7 @@ fn first_stream<'a>(bytes: &'a [u8], behaviours: &[usize]) -> Option<Stream<'a>>
     })
 }
 
-/// How a device behaves, by four numbers.
+/// Makes a device's behaviour from four numbers.
 fn behaviour_of(numbers: &[usize]) -> Option<Behaviour> {
     let [most, failing, idle, interrupted] = numbers else {
         return None;
@@ -80,7 +86,7 @@ fn behaviour_of(numbers: &[usize]) -> Option<Behaviour> {
     })
 }
 
-/// The numbers of a line.
+/// Reads the numbers of a line.
 fn numbers_of(rt: &HostRuntime, line: &str) -> Result<Vec<usize>, Failure> {
     let mut numbers = Vec::new(rt.alloc());
     for word in line.split(' ') {
@@ -94,7 +100,7 @@ fn numbers_of(rt: &HostRuntime, line: &str) -> Result<Vec<usize>, Failure> {
     Ok(numbers)
 }
 
-/// How a device behaves that moves so many bytes a call, and never fails.
+/// Returns the behaviour of a device that moves this number of bytes per call, and never fails.
 fn sound(most: usize) -> Behaviour {
     Behaviour {
         most,
@@ -110,7 +116,7 @@ fn serve_both(rt: &HostRuntime, first: Stream<'_>, second: Stream<'_>) -> Result
     serve_in_turn(rt, &mut service, first, second)
 }
 
-/// The same by this service.
+/// Does the same with this service.
 fn serve_in_turn(
     rt: &HostRuntime,
     service: &mut Service<PackedTable>,
@@ -121,7 +127,7 @@ fn serve_in_turn(
     serve_one(rt, service, second)
 }
 
-/// Serves a stream; prints how it ends, and what is written.
+/// Serves a stream, and prints how it ends, and what is written.
 fn serve_one(
     rt: &HostRuntime,
     service: &mut Service<PackedTable>,
@@ -147,7 +153,7 @@ fn serve_into(
     Ok(serve(rt, service, &mut reader, &mut Device::new(writer)))
 }
 
-/// Serves a stream.
+/// Serves a stream. Errors: those of `Service::serve`.
 pub fn serve<R: Read, W: Write>(
     rt: &HostRuntime,
     service: &mut Service<PackedTable>,
@@ -157,7 +163,7 @@ pub fn serve<R: Read, W: Write>(
     service.serve(rt.alloc(), reader, writer)
 }
 
-/// Prints how a stream ends.
+/// Prints how a stream ends. `Err(System)` if the output fails.
 pub fn say_end(rt: &HostRuntime, ended: Result<Ended, ServeFault>) -> Result<(), Failure> {
     match ended {
         Ok(Ended::InputEnd) => say(rt, "ended"),

@@ -8,9 +8,11 @@ use std::io::{Read, Write};
 use std::net::Shutdown;
 use std::os::unix::net::{UnixListener, UnixStream};
 
-/// Serves the file `stream` over a socket file; prints how it ends, and what comes back.
+/// Serves the file `stream` over a socket file, and prints how the stream ends, and what comes
+/// back. Errors: see [`Failure`].
 ///
-/// The stream is sent before it is served, and its replies are read afterwards, so both have to find room in the socket.
+/// The stream is sent before it is served, and its replies are read afterwards, so the socket must
+/// have room for both.
 pub fn try_all(rt: &HostRuntime) -> Result<(), Failure> {
     let stream = read_file(rt, "stream")?;
     let Ok(listener) = UnixListener::bind(rt, "socket") else {
@@ -65,7 +67,7 @@ fn serve_stream(
     Ok(serve(rt, &mut service, &mut reader, &mut writer))
 }
 
-/// All that comes back.
+/// Reads all that comes back.
 fn receive(rt: &HostRuntime, mut client: &UnixStream) -> Result<Vec<u8>, Failure> {
     let mut replies = Vec::new(rt.alloc());
     match client.read_to_end(&mut replies) {

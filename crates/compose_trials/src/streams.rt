@@ -1,12 +1,13 @@
-//! Bytes of a stream that are taken in, and requests that are given out.
+//! Bytes of a stream that are fed, and the requests read from them.
 use crate::failure::Failure;
 use crate::input::{feed_file, read_file};
 use crate::marks::mark;
 use crate::output::say;
 use compose_wire::{Feeder, Request, WireFault};
 
-/// Takes in the file `before`, and tries the call that the argument names; after a refusal it is tried again. Prints the refusal, and all
-/// requests then.
+/// Feeds the file `before`, and tries the call that the argument names, a second time if the first
+/// is refused. Prints the refusal, and then all requests. `Err(Arguments)` if there is no such
+/// call; other errors: see [`Failure`].
 pub fn try_call(rt: &HostRuntime, call: &str) -> Result<(), Failure> {
     let mut feeder = feed_file(rt, "before")?;
     match call {
@@ -17,7 +18,7 @@ pub fn try_call(rt: &HostRuntime, call: &str) -> Result<(), Failure> {
     say_all(rt, &mut feeder)
 }
 
-/// Takes in the file `tried`.
+/// Feeds the file `tried`.
 fn feed(rt: &HostRuntime, feeder: &mut Feeder) -> Result<(), Failure> {
     let piece = read_file(rt, "tried")?;
     mark(rt);
@@ -33,7 +34,7 @@ fn feed(rt: &HostRuntime, feeder: &mut Feeder) -> Result<(), Failure> {
     }
 }
 
-/// Gives out the next request.
+/// Reads the next request.
 fn next(rt: &HostRuntime, feeder: &mut Feeder) -> Result<(), Failure> {
     mark(rt);
     let given = feeder.next_request(rt.alloc());
@@ -45,7 +46,7 @@ fn next(rt: &HostRuntime, feeder: &mut Feeder) -> Result<(), Failure> {
     }
 }
 
-/// Prints a refusal, and how many bytes are held.
+/// Prints a refusal, and the number of bytes that are held.
 fn say_held(rt: &HostRuntime, fault: WireFault, feeder: &Feeder) -> Result<(), Failure> {
     say(rt, fault)?;
     say(rt, feeder.held())
@@ -59,7 +60,7 @@ fn say_request(rt: &HostRuntime, request: &Request) -> Result<(), Failure> {
     }
 }
 
-/// Prints the requests that are given out, up to the first end of them.
+/// Prints the requests, until there is none.
 fn say_all(rt: &HostRuntime, feeder: &mut Feeder) -> Result<(), Failure> {
     for _ in 0..=feeder.held() {
         match feeder.next_request(rt.alloc()) {

@@ -17,13 +17,14 @@ struct Tables {
     new: PackedTable,
 }
 
-/// Tries the call that the argument names.
+/// Tries the call that the argument names. `Err(Arguments)` if there is no such call; other errors:
+/// see [`Failure`].
 pub fn try_call(rt: &HostRuntime, call: &str) -> Result<(), Failure> {
     let tables = read_tables(rt)?;
     try_on(rt, &tables, call)
 }
 
-/// The same on these tables.
+/// Does the same with these tables.
 fn try_on(rt: &HostRuntime, tables: &Tables, call: &str) -> Result<(), Failure> {
     match call {
         "make" => try_make(rt, tables),
@@ -32,14 +33,14 @@ fn try_on(rt: &HostRuntime, tables: &Tables, call: &str) -> Result<(), Failure> 
     }
 }
 
-/// The tables in the files.
+/// Reads the tables from the files.
 fn read_tables(rt: &HostRuntime) -> Result<Tables, Failure> {
     let names = read_names(rt, "header")?;
     let old = read_table(rt, &names, "old")?;
     read_new(rt, names, old)
 }
 
-/// The tables, the names and the old one of which are read.
+/// Reads the new table, with the names and the old table at hand.
 fn read_new(rt: &HostRuntime, names: Names, old: PackedTable) -> Result<Tables, Failure> {
     let new = read_table(rt, &names, "new")?;
     Ok(Tables { names, old, new })

@@ -10,7 +10,7 @@ use Rattle.compose_typing.specs.declared.stage.Stage.TheVariants.{Apart, Ready, 
 use Rattle.compose_typing.specs.Typing.{Client, Outcome, pressed_at, connected_at, opened_at, fed_at, asked_at, answered_at, given_up, lost_with, lost_at, timed_out}
 use Rattle.compose_typing.specs.Laws.{Event, press, connect, reply, lose, time_out, happens, after, actions, verdicts, presses, waiting, OneVerdict}
 
--- the verdicts and the keys that wait after an event are so many
+-- the number of verdicts and waiting keys after an event
 abbrev pub Counts : Outcome → ℕ → Type 0
 Counts o n = verdicts o.action + waiting o.client ≡ n
 
@@ -105,7 +105,7 @@ once c (reply r) =
 once c lose = let h = lost_once c c.stage refl in omega (arith, h)
 once c time_out = let h = timed_out_once c c.stage refl in omega (arith, h)
 
--- what is counted at an event and after it
+-- the counts at an event and after it
 joined : (v w x p vs q ps : ℕ) → v + w ≡ x + p → vs + q ≡ w + ps → (v + vs) + q ≡ x + (p + ps)
 joined v w x p vs q ps e f = omega (arith, e, f)
 

@@ -22,7 +22,7 @@ use Rattle.compose_typing.proofs.TypedOnce.{feeding, heard_here, fed_next, reset
 
 -- ---- one key
 
--- what is done with a key goes by its effect alone
+-- the verdict on a key depends only on its effect
 told_heard : (names : KeysymNames) (table : List Definition) (s : Session) (k : ℕ) (i e q m : Bool) → is_ignored k ≡ i → is_extended table (s.pending ++ k ∷ []) ≡ e
     → is_sequence table (s.pending ++ k ∷ []) ≡ q → is_empty s.pending ≡ m
     → told k (heard names table s k) ≡ told_by_effect (effect table s.pending k) k (step names table s.pending k).text
@@ -46,7 +46,7 @@ told_append c (x ∷ xs) ys =
 
 -- ---- replies that were read before a connection was lost
 
--- after these events nothing was told, and the key waits for a reply still
+-- after these events there is no verdict yet, and the key still waits for a reply
 record StillWaits (d c : Client) (w : Waiting) (es : List Event) : Type 0 where
   stage : Stage
   at : key_at stage ≡ Some w

@@ -21,7 +21,7 @@ use Rattle.compose_typing.specs.Typing.{Client, Outcome, does, sent, asks, bodie
 use Rattle.compose_typing.specs.Laws.{Event, connect, reply, lose, happens, after}
 use Rattle.compose_typing.specs.Service.{answer_of, session_after, replies, typed, told_in, told_at, heard, moved, Types, session_for, key_at, AskedOnce, LostOnce, PendingAgain}
 
--- at these events the client becomes this one, and these verdicts are told
+-- at these events the client becomes this one, and reports these verdicts
 pub record Goes (c : Client) (es : List Event) (end : Client) (verdicts : List Verdict) : Type 0 where
   pub client : after c es ≡ end
   pub told : told_at c es ≡ verdicts
@@ -40,7 +40,7 @@ goes_on : (c : Client) (a : Answer) (o : Outcome) (es : List Event) (end : Clien
     → Goes c (reply (record { session = c.session; answer = a }) ∷ es) end (told_in o.action ++ verdicts)
 goes_on c a o es end verdicts e g = happened c (reply (record { session = c.session; answer = a })) o es end verdicts (heard_here c a ∙ e) g
 
--- the client while so many replies are passed over
+-- the client while it still has to skip this number of replies
 abbrev pub feeding : Client → Waiting → ℕ → Client
 feeding c w n = record c { is_stale = true; stage = Feeding w n }
 
@@ -51,7 +51,7 @@ fed_next c w n status accepted text = rw (eqb-suc-zero n) (rw (sub-one (suc n)) 
 pub reset_next : (c : Client) (w : Waiting) (n : ℕ) → fed_at (feeding c w (suc n)) w (suc n) was_reset ≡ does (feeding c w n) Wait
 reset_next c w n = rw (eqb-suc-zero n) (rw (sub-one (suc n)) refl)
 
--- the replies to keys that are typed anew are passed over
+-- the replies to keys that are typed again are skipped
 passed_over : (names : KeysymNames) (table : List Definition) (ks : List ℕ) (c : Client) (w : Waiting) (s : Session) (bs : List Body) (end : Client) (verdicts : List Verdict)
     → Goes (feeding c w 0) (replies names table c.session (typed table s ks) bs) end verdicts
     → Goes (feeding c w (length (map key ks))) (replies names table c.session s (map key ks ++ bs)) end verdicts

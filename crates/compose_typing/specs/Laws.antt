@@ -1,4 +1,4 @@
--- What holds of a client over every list of events.
+-- What is true of a client over every list of events.
 use Rattle.std.specs.Prelude.{◌≡◌, ℕ, ◌+◌, if◌then◌else◌, List, [], ◌∷◌, sum_by}
 use Rattle.compose_wire.specs.Messages.{Reply}
 use Rattle.compose_typing.specs.declared.action.Action.{Action}
@@ -20,7 +20,7 @@ happens c (reply r) = answered c r
 happens c lose = lost c
 happens c time_out = timed_out c
 
--- the client after these events, and what was to be done at each
+-- the client after these events, and its action at each
 abbrev pub after : Client → List Event → Client
 after c [] = c
 after c (e ∷ es) = after (happens c e).client es
@@ -31,7 +31,7 @@ actions c (e ∷ es) = (happens c e).action ∷ actions (happens c e).client es
 
 -- ---- verdicts
 
--- an action that says what is done with a key
+-- the number of verdicts in an action
 abbrev pub verdicts : Action → ℕ
 verdicts Wait = 0
 verdicts (Send bytes) = 0
@@ -44,10 +44,10 @@ abbrev pub presses : Event → ℕ
 presses (press k) = 1
 presses _ = 0
 
--- the keys that wait
+-- the number of keys that wait: one or none
 abbrev pub waiting : Client → ℕ
 waiting c = if waits c.stage then 1 else 0
 
--- each key that was pressed has one verdict, or waits for it; and no more than one waits
+-- each key that was pressed has one verdict, or waits for it; at most one waits
 abbrev pub OneVerdict : Type 0
 OneVerdict = (c : Client) (es : List Event) → sum_by verdicts (actions c es) + waiting (after c es) ≡ waiting c + sum_by presses es

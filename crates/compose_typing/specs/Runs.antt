@@ -1,4 +1,4 @@
--- What a client tells over many keys with a service that types over one table, while connections are lost.
+-- A client's verdicts over many keys, with a service that types over one table, while connections are lost.
 use Rattle.std.specs.Prelude.{◌≡◌, ℕ, ◌<◌, Bool, true, false, List, [], ◌∷◌, ◌++◌, length, map, take, Option, Some, None}
 use Rattle.keysym_core.specs.Names.{KeysymNames}
 use Rattle.compose_model.specs.Table.{Definition}
@@ -13,7 +13,7 @@ use Rattle.compose_typing.specs.Service.{replies, typed, told_at, moved, session
 
 -- ---- verdicts by the table
 
--- what is done with a key of this effect and text
+-- the verdict on a key with this effect and text
 abbrev pub told_by_effect : Effect → ℕ → List ℕ → Verdict
 told_by_effect ignores k text = Pass
 told_by_effect extends k text = Take
@@ -21,14 +21,15 @@ told_by_effect completes k text = Commit text
 told_by_effect passes k text = told_at_rest k text
 told_by_effect cancels k text = Take
 
--- what is done with each of these keys, where u is pending: by the steps of the table's run over them
+-- the verdicts on these keys, with u pending: by the steps of the table's run over them
 abbrev pub run_verdicts : KeysymNames → List Definition → List ℕ → List ℕ → List Verdict
 run_verdicts names table u [] = []
 run_verdicts names table u (k ∷ ks) = told_by_effect (effect table u k) k (step names table u k).text ∷ run_verdicts names table (pending_after table u k) ks
 
 -- ---- keys
 
--- a connection was lost after so many replies, and the service was left with this session; the next one brought this number
+-- a connection was lost after this number of replies, and the service was left with this session; the next connection
+-- brought this number
 pub record Loss : Type 0 where
   pub read : ℕ
   pub number : ℕ
@@ -39,7 +40,7 @@ pub record Press : Type 0 where
   pub key : ℕ
   pub loss : Option Loss
 
--- what happens from the press of the key to its verdict, where the session is s
+-- what happens from the press of the key to its verdict, in the session s
 abbrev pub key_events : KeysymNames → List Definition → Client → Session → ℕ → Option Loss → List Event
 key_events names table c s k None = press k ∷ replies names table c.session s (bodies_for c k)
 key_events names table c s k (Some l) = press k ∷ take l.read (replies names table c.session s (bodies_for c k)) ++ reconnected names table c l.number l.left k
@@ -66,7 +67,8 @@ AllInTime table c s [] = Unit {0}
 AllInTime table c s (p ∷ ps) =
     IsInTime c p.key p.loss × AllInTime table (moved table c (key_session table c s p.loss) p.key) (session_fed table (key_session table c s p.loss) p.key) ps
 
--- no key waits, the session is open, what is pending was reached by some keys, and unless it has to be typed anew it is pending in the session
+-- no key waits, the session is open, some keys led to what is pending, and unless it has to be typed again it is
+-- pending in the session
 pub record IsReady (table : List Definition) (c : Client) (s : Session) : Type 0 where
   pub stage : c.stage ≡ Ready
   pub opened : c.is_opened ≡ true

@@ -1,4 +1,4 @@
--- A client and a service that types over one table: what comes of a key, also where connections are lost.
+-- A client, and a service that types over one table: what happens at a key, even if connections are lost.
 use Rattle.std.specs.Prelude.{◌≡◌, ℕ, Bool, true, false, not, if◌then◌else◌, List, [], ◌∷◌, ◌++◌, Option, Some, None}
 use Rattle.keysym_core.specs.Keysym.{is_ignored}
 use Rattle.keysym_core.specs.Names.{KeysymNames}
@@ -19,7 +19,8 @@ use Rattle.compose_typing.specs.Laws.{Event, connect, reply, lose, happens, afte
 
 -- ---- the service
 
--- what a service with this session open answers, and the session after it; it is open, and a client asks nothing else
+-- the answer of a service with this session open, and the session after it; the client sends no other request than
+-- these
 abbrev pub answer_of : KeysymNames → List Definition → Session → Body → Answer
 answer_of names table s (key k) = fed (session_fed table s k).status (not (is_ignored k)) (step names table s.pending k).text
 answer_of names table s reset = was_reset
@@ -41,7 +42,7 @@ abbrev pub typed : List Definition → Session → List ℕ → Session
 typed table s [] = s
 typed table s (k ∷ ks) = typed table (session_fed table s k) ks
 
--- ---- what is told
+-- ---- the verdicts
 
 abbrev pub told_in : Action → List Verdict
 told_in (Tell verdict) = verdict ∷ []
@@ -53,11 +54,11 @@ abbrev pub told_at : Client → List Event → List Verdict
 told_at c [] = []
 told_at c (e ∷ es) = told_in (happens c e).action ++ told_at (happens c e).client es
 
--- what the key is answered in the session
+-- the service's answer to the key in the session
 abbrev pub heard : KeysymNames → List Definition → Session → ℕ → Heard
 heard names table s k = record { status = (session_fed table s k).status; accepted = not (is_ignored k); text = (step names table s.pending k).text }
 
--- the client where the session is after the key
+-- the client, once it has read the session's state after the key
 abbrev pub moved : List Definition → Client → Session → ℕ → Client
 moved table c s k = record c {
   pending = (session_fed table s k).pending;
@@ -65,14 +66,15 @@ moved table c s k = record c {
   stage = Ready;
 }
 
--- at these events the key has its one verdict, by its step in the session s, and the client is where the session is then
+-- at these events the key has its one verdict, by its step in the session s, and the client then agrees with that
+-- session
 pub record Types (names : KeysymNames) (table : List Definition) (c : Client) (es : List Event) (s : Session) (k : ℕ) : Type 0 where
   pub client : after c es ≡ moved table c s k
   pub verdict : told_at c es ≡ told k (heard names table s k) ∷ []
 
 -- ---- laws
 
--- the session in which the key is typed: this one, or where it is stale that of the pending keys alone
+-- the session in which the key is typed: this one or, if it is stale, that of the pending keys alone
 abbrev pub session_for : List Definition → Client → Session → Session
 session_for table c s = if c.is_stale then typed table rest c.pending else s
 
@@ -88,18 +90,18 @@ key_at (Feeding w n) = Some w
 key_at (Asking w h) = Some w
 key_at _ = None
 
--- the connection is lost, a new one is made (with a number for another session), the session is found open there, and all that is asked is
--- answered
+-- the connection is lost, a new one is made (with a number for another session), the session is found open there, and
+-- every request is answered
 abbrev pub reconnected : KeysymNames → List Definition → Client → ℕ → Session → ℕ → List Event
 reconnected names table c n s k =
     lose ∷ connect n ∷ reply (record { session = c.session; answer = refused session_taken }) ∷ replies names table c.session s (bodies_for (record c { is_stale = true }) k)
 
--- whatever replies a key has had when its connection is lost, and whatever session the service is left with, the key is typed once, in the
--- session of the keys that were pending before it
+-- whatever replies have come to a key when its connection is lost, and whatever session the service is left with, the
+-- key is typed once, in the session of the keys that were pending before it
 abbrev pub LostOnce : Type 0
 LostOnce = (names : KeysymNames) (table : List Definition) (c : Client) (w : Waiting) (n : ℕ) (s : Session) → key_at c.stage ≡ Some w → w.is_again ≡ false → c.is_opened ≡ true
     → Types names table c (reconnected names table c n s w.key) (typed table rest c.pending) w.key
 
--- what is pending in a session is pending again where it is typed anew
+-- the pending keys of a session are pending again after they are typed anew
 abbrev pub PendingAgain : Type 0
 PendingAgain = (table : List Definition) (keys : List ℕ) → (typed table rest (pending table keys)).pending ≡ pending table keys

@@ -1,4 +1,5 @@
--- A client of the typing service as a machine: what it does at each event (this project's protocol, "What a client does with a reply").
+-- A client of the typing service as a machine: what it does at each event (this project's protocol, "What a client does
+-- with a reply").
 use Rattle.std.specs.Prelude.{ℕ, ◌-◌, ◌==◌, ◌||◌, ◌&&◌, Bool, true, false, if◌then◌else◌, List, [], ◌∷◌, ◌++◌, length, map}
 use Rattle.compose_text.specs.Numbers.{is_between}
 use Rattle.compose_model.specs.declared.Status.{Status}
@@ -14,8 +15,8 @@ use Rattle.compose_typing.specs.declared.stage.Heard.{Heard}
 use Rattle.compose_typing.specs.declared.stage.Stage.{Stage}
 use Rattle.compose_typing.specs.declared.stage.Stage.TheVariants.{Apart, Ready, Connecting, Opening, Feeding, Asking}
 
--- a client: the number of its session, and whether a service was heard to have it; what is pending in it; whether a Reset and these keys
--- have to be sent before the next one; and what is waited for
+-- a client: the number of its session, and whether the service has confirmed it; its pending keys; whether a Reset and
+-- these keys have to be sent before the next key; and what the client waits for
 pub record Client : Type 0 where
   pub session : ℕ
   pub is_opened : Bool
@@ -23,7 +24,7 @@ pub record Client : Type 0 where
   pub is_stale : Bool
   pub stage : Stage
 
--- what comes of an event: the client after it, and what is to be done
+-- the outcome of an event: the client after it, and what to do
 pub record Outcome : Type 0 where
   pub client : Client
   pub action : Action
@@ -41,28 +42,28 @@ start = record { session = 0; is_opened = false; pending = []; is_stale = true; 
 abbrev pub sent : ℕ → List Body → List ℕ
 sent n bodies = frames (map (λ body. record { session = n; body = body }) bodies)
 
--- what brings the session to where these keys are pending
+-- the requests that make exactly these keys pending in the session
 abbrev pub typed_anew : List ℕ → List Body
 typed_anew keys = reset ∷ map key keys
 
--- what goes before the next key
+-- the requests that are sent before the next key
 abbrev pub before_key : Client → List Body
 before_key c = if c.is_stale then typed_anew c.pending else []
 
 abbrev pub bodies_for : Client → ℕ → List Body
 bodies_for c k = before_key c ++ key k ∷ ask ∷ []
 
--- the key is asked about, and what goes before it is sent with it
+-- sends the requests for the key, with those that go before it
 abbrev pub asks : Client → Waiting → Outcome
 asks c w = does (record c { is_stale = true; stage = Feeding w (length (before_key c)) }) (Send (sent c.session (bodies_for c w.key)))
 
--- ---- what is told of a key
+-- ---- the verdict on a key
 
--- dead keys and Multi_key (keysymdef.h): with one of them a toolkit begins a sequence of its own
+-- dead keys and Multi_key (keysymdef.h): at these a toolkit starts a compose sequence of its own
 abbrev pub begins_sequences : ℕ → Bool
 begins_sequences k = is_between 0xfe50 0xfe93 k || k == 0xff20
 
--- at rest, a key that gave no text is passed, but for a dead key
+-- at rest, a key that gave no text is passed, except for a dead key
 abbrev pub told_at_rest : ℕ → List ℕ → Verdict
 told_at_rest k [] = if begins_sequences k then Take else Pass
 told_at_rest k (byte ∷ text) = Pass
@@ -73,7 +74,7 @@ told_by Composing k text = Take
 told_by Composed k text = Commit text
 told_by Cancelled k text = Take
 
--- what is done with the key that was answered so
+-- the verdict on a key with this answer
 abbrev pub told : ℕ → Heard → Verdict
 told k h = if h.accepted then told_by h.status k h.text else Pass
 
@@ -105,11 +106,11 @@ pressed_at _ c k = does c (Tell Pass)
 abbrev pub pressed : Client → ℕ → Outcome
 pressed c k = pressed_at c.stage c k
 
--- a session that was opened keeps its number, and another one gets this one
+-- a session that was opened keeps its number, any other gets this one
 abbrev pub number_for : Client → ℕ → ℕ
 number_for c n = if c.is_opened then c.session else n
 
--- a connection was made, with a number for the session; one that no key waits for is closed
+-- a connection was made, with a number for the session; it is closed if no key waits for it
 abbrev pub connected_at : Stage → Client → ℕ → Outcome
 connected_at (Connecting w) c n = does (record c { session = number_for c n; stage = Opening w }) (Send (sent (number_for c n) (open_session ∷ [])))
 connected_at _ c n = given_up c
@@ -117,13 +118,13 @@ connected_at _ c n = given_up c
 abbrev pub connected : Client → ℕ → Outcome
 connected c n = connected_at c.stage c n
 
--- the answer to an Open: a session that is open is this client's only if it was opened before
+-- the answer to an Open: if a session is already open, it is this client's only if the client opened it before
 abbrev pub opened_at : Client → Waiting → Answer → Outcome
 opened_at c w opened = asks (record c { is_opened = true; is_stale = true }) w
 opened_at c w (refused why) = if c.is_opened && (code why == code session_taken) then asks (record c { is_stale = true }) w else abandoned c
 opened_at c w _ = abandoned c
 
--- the answers to a Reset and to keys that are typed anew are passed over, and then the key is answered
+-- the answers to a Reset and to keys that are typed again are skipped, and then the key is answered
 abbrev pub fed_at : Client → Waiting → ℕ → Answer → Outcome
 fed_at c w n (fed status accepted text) =
     if n == 0 then does (record c { is_stale = true; stage = Asking w (record { status = status; accepted = accepted; text = text }) }) Wait else
@@ -135,7 +136,7 @@ abbrev pub is_cancelled : Status → Bool
 is_cancelled Cancelled = true
 is_cancelled _ = false
 
--- the session is where the service says; after a cancelled sequence it is put to rest before the next key
+-- the session's state is what the service reports; after a cancelled sequence it is reset before the next key
 abbrev pub asked_at : Client → Waiting → Heard → Answer → Outcome
 asked_at c w h (state status pending) = does (record c { pending = pending; is_stale = is_cancelled status; stage = Ready }) (Tell (told w.key h))
 asked_at c w h _ = abandoned c
@@ -150,7 +151,7 @@ answered_at _ c answer = given_up c
 abbrev pub answered : Client → Reply → Outcome
 answered c r = if r.session == c.session then answered_at c.stage c r.answer else given_up c
 
--- the connection was lost, or none could be made: it is made anew once for a key
+-- the connection was lost, or none could be made: for each key it is made again once
 abbrev pub lost_with : Client → Waiting → Outcome
 lost_with c w = if w.is_again then abandoned c else does (record c { is_stale = true; stage = Connecting (record { key = w.key; is_again = true }) }) Connect
 
@@ -165,6 +166,6 @@ lost_at (Asking w h) c = lost_with c w
 abbrev pub lost : Client → Outcome
 lost c = lost_at c.stage c
 
--- the time for a key is up
+-- the time allowed for a key is over
 abbrev pub timed_out : Client → Outcome
 timed_out c = if waits c.stage then given_up c else does c Wait

@@ -4,7 +4,7 @@ ghost use Rattle.std.specs.Prelude.{◌≡◌};
 use arrayvec::{ArrayString, ArrayVec};
 use std::marker::Model;
 
-/// The text of a key or of a sequence, at most 255 bytes.
+/// The text that a key or a sequence gives, at most 255 bytes.
 #[derive(Drop)]
 pub struct Text {
     bytes: ArrayString<255>,
@@ -19,14 +19,14 @@ impl Model for Text {
 }
 
 impl Text {
-    /// The text of these bytes. O(1).
+    /// Wraps these bytes. O(1).
     pub(crate) fn new(bytes: ArrayString<255>) -> Text
         ensures { result ≡ bytes.bytes }
     {
         Text { bytes }
     }
 
-    /// The text. O(1).
+    /// Returns the text. O(1).
     pub fn as_str(&self) -> &str
         ensures { result.now ≡ self.now }
     {
@@ -34,7 +34,7 @@ impl Text {
     }
 }
 
-/// The bytes of requests, at most 448.
+/// The bytes of the requests that an input method sends at once, at most 448.
 #[derive(Drop)]
 pub struct Frames {
     pub(crate) bytes: ArrayVec<u8, 448>,
@@ -49,7 +49,7 @@ impl Model for Frames {
 }
 
 impl Frames {
-    /// The bytes. O(1).
+    /// Returns the bytes. O(1).
     pub fn as_slice(&self) -> &[u8]
         ensures { result.now ≡ self.now }
     {
@@ -64,7 +64,7 @@ pub enum Verdict {
     Pass,
     /// The application gets nothing.
     Take,
-    /// The application gets this text in the place of the key.
+    /// The application gets this text in place of the key.
     Commit(Text),
 }
 
@@ -75,12 +75,12 @@ pub enum Action {
     Wait,
     /// It sends these bytes.
     Send(Frames),
-    /// It makes a connection to the service, and closes the one that it had.
+    /// It connects to the service, and closes the connection that it had.
     Connect,
-    /// It does this with the key that waited.
+    /// It does this with the key that was waiting.
     Tell(Verdict),
-    /// It closes the connection, and the key that waited passes.
+    /// It closes the connection, and passes the key that was waiting to the application.
     Abandon,
-    /// It closes the connection. No key waited.
+    /// It closes the connection. No key was waiting.
     Close,
 }

@@ -14,7 +14,7 @@ use keysym_core::Keysym;
 use std::marker::Model;
 use std::mem;
 
-/// The code of the refusal of an Open where a session with this number is open.
+/// The code with which the service refuses an Open if a session with this number is open.
 const SESSION_TAKEN: u16 = 1;
 
 /// A client of the typing service, with one session.
@@ -38,14 +38,15 @@ impl Model for Client {
     ghost invariant = { λ c. length c.pending.items ≤ 31 };
 }
 
-/// Whether a toolkit begins a sequence of its own with the key: dead keys and Multi_key do. O(1).
+/// Whether a toolkit starts a compose sequence of its own at this key: at dead keys and at
+/// Multi_key. O(1).
 fn begins_sequences(key: Keysym) -> bool
     ensures { result ≡ words.begins_sequences key }
 {
     matches!(key.value(), 0xfe50..=0xfe93 | 0xff20)
 }
 
-/// What is done with a key that was answered so. O(1).
+/// Returns the verdict on a key, from what the service answered. O(1).
 fn verdict_of(key: Keysym, heard: Heard) -> Verdict
     ensures { result ≡ words.told key heard }
 {
@@ -65,7 +66,7 @@ fn verdict_of(key: Keysym, heard: Heard) -> Verdict
 }
 
 impl Client {
-    /// A client that has typed nothing. O(1).
+    /// Makes a client that has typed nothing. O(1).
     pub fn new() -> Client
         ensures { result ≡ words.start }
     {
@@ -78,7 +79,7 @@ impl Client {
         }
     }
 
-    /// What is pending, at most 31 keys: what an input method shows. O(1).
+    /// Returns the pending keys, at most 31: what an input method shows as preedit. O(1).
     pub fn pending(&self) -> &[Keysym]
         ensures value { result.now ≡ self.now.pending }
         ensures few { length result.now ≤ 31 }
@@ -93,7 +94,7 @@ impl Client {
         self.stage.waits()
     }
 
-    /// Asks about the key. O(pending keys).
+    /// Sends the requests for the key. O(pending keys).
     fn ask(&mut self, waiting: Waiting) -> Action
         ensures { record { client = self.new; action = result } ≡ words.asks self.old waiting }
     {
@@ -105,7 +106,7 @@ impl Client {
         Action::Send(frames)
     }
 
-    /// Gives the connection up, and drops what is pending. O(1).
+    /// Gives up the connection, and drops the pending keys. O(1).
     fn abandon(&mut self) -> Action
         ensures { record { client = self.new; action = result } ≡ words.abandoned self.old }
     {
@@ -115,7 +116,7 @@ impl Client {
         Action::Abandon
     }
 
-    /// Gives the connection up. O(1).
+    /// Gives up the connection. O(1).
     pub(crate) fn give_up(&mut self) -> Action
         ensures { record { client = self.new; action = result } ≡ words.given_up self.old }
     {
@@ -127,7 +128,8 @@ impl Client {
         Action::Close
     }
 
-    /// A key is pressed. One that comes while another one waits passes at once. O(pending keys).
+    /// Handles a key press. A key that is pressed while another one waits passes at once. O(pending
+    /// keys).
     pub fn press(&mut self, key: Keysym) -> Action
         ensures { record { client = self.new; action = result } ≡ words.pressed self.old key }
     {
@@ -143,8 +145,8 @@ impl Client {
         }
     }
 
-    /// A connection was made. One that no key waits for is given up. The session gets this number, at best a random one each time, unless
-    /// it was opened before. O(1).
+    /// Handles a new connection; it is given up if no key waits for it. The session gets this
+    /// number, ideally a random one each time, unless it was opened before. O(1).
     pub fn connected(&mut self, number: u32) -> Action
         ensures { record { client = self.new; action = result } ≡ words.connected self.old number }
     {
@@ -156,7 +158,7 @@ impl Client {
         Action::Send(open_frames(self.session))
     }
 
-    /// The reply to Open came. O(pending keys).
+    /// Handles the reply to Open. O(pending keys).
     fn answer_open(&mut self, waiting: Waiting, answer: &Answer) -> Action
         ensures { (value : wire.Answer) → SaysAnswer answer.now value
             → record { client = self.new; action = result }
@@ -176,7 +178,8 @@ impl Client {
         }
     }
 
-    /// A reply to Reset or to a key that is typed anew came, of this number. O(1).
+    /// Handles a reply to Reset or to a key that is typed again, when this number of them is still
+    /// to come. O(1).
     fn pass_over(&mut self, waiting: Waiting, left: usize, answer: &Answer) -> Action
         requires { 0 < left }
         ensures { (value : wire.Answer) → SaysAnswer answer.now value
@@ -191,7 +194,8 @@ impl Client {
         Action::Wait
     }
 
-    /// A reply to Reset or to a key came, this number of them before the reply to the key that waits. O(1).
+    /// Handles a reply to Reset or to a key, when this number of replies comes before the reply to
+    /// the key that waits. O(1).
     fn answer_key(&mut self, waiting: Waiting, left: usize, answer: Answer) -> Action
         ensures { (value : wire.Answer) → SaysAnswer answer value
             → record { client = self.new; action = result }
@@ -214,7 +218,7 @@ impl Client {
         Action::Wait
     }
 
-    /// The reply to Ask came. O(1).
+    /// Handles the reply to Ask. O(1).
     fn answer_ask(&mut self, waiting: Waiting, heard: Heard, answer: Answer) -> Action
         ensures { (value : wire.Answer) → SaysAnswer answer value
             → record { client = self.new; action = result }
@@ -223,7 +227,7 @@ impl Client {
         let Answer::State(status, pending) = answer else {
             return self.abandon();
         };
-        // Its contract says that there are at most 31.
+        // The contract of this call says that there are at most 31.
         let _ = pending.len();
         self.pending = pending;
         self.is_stale = status == Status::Cancelled;
@@ -231,7 +235,8 @@ impl Client {
         Action::Tell(verdict_of(waiting.key, heard))
     }
 
-    /// A reply came. One that belongs to no request gives the connection up. O(pending keys).
+    /// Handles a reply. A reply that belongs to no request gives up the connection. O(pending
+    /// keys).
     pub fn answer(&mut self, reply: Reply) -> Action
         ensures { (value : wire.Reply) → SaysReply reply value
             → record { client = self.new; action = result } ≡ words.answered self.old value }
@@ -248,7 +253,8 @@ impl Client {
         }
     }
 
-    /// The connection was lost, or none could be made. It is made anew once for a key. O(1).
+    /// Handles a connection that was lost, or could not be made. For each key, it is made again
+    /// once. O(1).
     pub fn lose(&mut self) -> Action
         ensures { record { client = self.new; action = result } ≡ words.lost self.old }
     {
@@ -265,7 +271,7 @@ impl Client {
         }
     }
 
-    /// The connection was lost while this key waited for a reply. O(1).
+    /// Handles a connection that was lost while this key waited for a reply. O(1).
     fn lose_with(&mut self, waiting: Waiting) -> Action
         ensures { record { client = self.new; action = result } ≡ words.lost_with self.old waiting }
     {
@@ -279,7 +285,7 @@ impl Client {
         Action::Connect
     }
 
-    /// The time for a key is up. O(1).
+    /// Handles the end of the time allowed for a key. O(1).
     pub fn time_out(&mut self) -> Action
         ensures { record { client = self.new; action = result } ≡ words.timed_out self.old }
     {

@@ -1,4 +1,4 @@
-//! The requests of a client as bytes.
+//! A client's requests as bytes.
 ghost use Rattle.std.specs.Prelude.{◌≡◌, ◌+◌, ◌≤◌, ◌++◌, ◌∷◌, [], length, if◌then◌else◌};
 ghost use Rattle.compose_wire.specs.Messages as words;
 ghost use Rattle.compose_wire.specs.Frames.{frame, frame_of};
@@ -9,7 +9,7 @@ use arrayvec::ArrayVec;
 use keysym_core::Keysym;
 
 impl Frames {
-    /// No bytes. O(1).
+    /// Makes an empty list of bytes. O(1).
     fn new() -> Frames
         ensures { result ≡ [] }
     {
@@ -18,7 +18,7 @@ impl Frames {
         }
     }
 
-    /// Puts some bytes behind the others. O(their number).
+    /// Appends some bytes. O(their number).
     fn append(&mut self, more: &[u8])
         requires { length self.old + length more.now ≤ 448 }
         ensures { self.new ≡ self.old ++ more.now }
@@ -26,7 +26,7 @@ impl Frames {
         self.bytes.try_extend_from_slice(more).unwrap();
     }
 
-    /// Puts a frame of this kind behind the others. O(payload).
+    /// Appends a frame of this kind. O(payload).
     fn push(&mut self, kind: u8, session: u32, payload: &[u8])
         requires few { length payload.now ≤ 4 }
         requires room { length self.old + 9 + length payload.now ≤ 448 }
@@ -39,7 +39,7 @@ impl Frames {
         self.append(payload);
     }
 
-    /// Puts a request to type the key behind the others. O(1).
+    /// Appends a request to type the key. O(1).
     fn push_key(&mut self, session: u32, key: Keysym)
         requires { length self.old + 13 ≤ 448 }
         ensures value { self.new ≡ self.old ++ frame (record { session = session; body = words.key key }) }
@@ -49,7 +49,7 @@ impl Frames {
     }
 }
 
-/// The request to open the session. O(1).
+/// Returns the request that opens the session. O(1).
 pub(crate) fn open_frames(session: u32) -> Frames
     ensures { result ≡ sent session (words.open_session ∷ []) }
 {
@@ -58,7 +58,7 @@ pub(crate) fn open_frames(session: u32) -> Frames
     frames
 }
 
-/// The requests that bring the session to where these keys are pending. O(keys).
+/// Returns the requests after which exactly these keys are pending in the session. O(keys).
 fn frames_anew(session: u32, pending: &[Keysym]) -> Frames
     requires { length pending.now ≤ 31 }
     ensures value { result ≡ sent session (typed_anew pending.now) }
@@ -72,7 +72,8 @@ fn frames_anew(session: u32, pending: &[Keysym]) -> Frames
     frames
 }
 
-/// The requests for a key, behind those that bring the session to where these keys are pending, if it is not there. O(pending keys).
+/// Returns the requests for a key. If the session is stale, they begin with the requests that make
+/// these keys pending in it again. O(pending keys).
 pub(crate) fn key_frames(session: u32, is_stale: bool, pending: &[Keysym], key: Keysym) -> Frames
     requires { length pending.now ≤ 31 }
     ensures { result ≡ sent session

@@ -1,19 +1,21 @@
-//! A client of the typing service as a machine without input and output.
+//! A client of the typing service as a state machine without input and output.
 //!
-//! An input method hands in what happens: a key, bytes that came, a connection that was made or lost, a time that is up. What comes
-//! out says what to do: bytes to send, a connection to make or to close, and for each key one verdict.
+//! An input method reports what happens: a key, bytes that came, a connection that was made or
+//! lost, a timeout. The client returns what to do: bytes to send, a connection to make or to close,
+//! and one verdict for each key.
 //!
 //! ```text
 //! press(0xfe51)   Connect
 //! connected(7)    Send(01 ..): open session 7
-//! 81 .. came      Send(03 .. 02 .. 06 ..): put it to rest, type the key, ask what is pending
+//! 81 .. came      Send(03 .. 02 .. 06 ..): reset it, type the key, ask what is pending
 //! 83 .. came      Wait
 //! 82 .. came      Wait
 //! 86 .. came      Tell(Take), and 0xfe51 is pending
 //! ```
 //!
-//! Where a connection is lost before a key was answered, nobody knows whether the key counted. So on a new connection the session is
-//! put to rest, what was pending is typed anew, and then the key: it counts once.
+//! If a connection is lost before a key was answered, nobody knows whether the service received the
+//! key. So on a new connection the session is reset, the pending keys are typed again, and then the
+//! key: it counts once.
 #![tactic(auto)]
 
 ghost use Rattle.compose_typing.specs.Laws.{OneVerdict};
@@ -30,21 +32,24 @@ pub use action::{Action, Frames, Text, Verdict};
 pub use client::Client;
 pub use typing::Typing;
 
-/// Over every list of events each key has one verdict: it was told, or the key waits for it, which one key does at a time.
+/// Over every list of events, each key has one verdict: it was reported, or the key waits for it.
+/// At most one key waits at a time.
 pub fn law_one_verdict()
     ensures { OneVerdict }
 {}
 
-/// A key counts once: with a service that types over one table it has one verdict, that of its step in the session, also where the
-/// connection is lost after any of its replies; what was pending before is pending again on the new connection.
+/// A key counts once, with a service that types over one table: it has one verdict, that of its
+/// step in the session, even if the connection is lost after any of its replies. What was pending
+/// before is pending again on the new connection.
 pub fn law_key_once()
     ensures asked { AskedOnce }
     ensures lost { LostOnce }
     ensures again { PendingAgain }
 {}
 
-/// Over all keys the verdicts of a client are those of the table's run over these keys, so that what is committed is what the table
-/// commits: with a service that types over one table, in a session that is open, whichever connections are lost on the way.
+/// Over all keys, a client's verdicts are those of the table's run over these keys: what is
+/// committed is what the table commits. This holds for a service that types over one table and for
+/// a session that is open, whichever connections are lost on the way.
 pub fn law_types_run()
     ensures { TypesRun }
 {}

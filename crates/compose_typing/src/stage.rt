@@ -9,17 +9,20 @@ use keysym_core::Keysym;
 /// A key that waits for its verdict.
 #[derive(Clone, Copy)]
 pub struct Waiting {
-    /// The key.
+    /// The pressed key.
     pub key: Keysym,
-    /// Whether a connection was lost while it waited.
+    /// Whether a connection was lost while it waited. If so, a second loss makes it pass.
     pub is_again: bool,
 }
 
-/// What was answered to a key.
+/// The service's answer to a key.
 #[derive(Drop)]
 pub struct Heard {
+    /// The state of the session after the key.
     pub status: Status,
+    /// Whether the key was accepted: modifiers and other ignored keys are not.
     pub accepted: bool,
+    /// The text that the key gave, or nothing.
     pub text: Text,
 }
 
@@ -34,7 +37,8 @@ pub enum Stage {
     Connecting(Waiting),
     /// A key waits for the reply to Open.
     Opening(Waiting),
-    /// A key waits for this number of replies to a Reset and to keys that are typed anew, and then for its own.
+    /// A key waits for this number of replies, to a Reset and to keys that are typed again, and
+    /// then for its own.
     Feeding(Waiting, usize),
     /// A key was answered, and waits for the reply to Ask.
     Asking(Waiting, Heard),

@@ -1,4 +1,4 @@
-//! A client that is handed the bytes of its connection.
+//! A client that reads the bytes of its connection.
 ghost use Rattle.std.specs.Prelude.{◌≡◌, ◌++◌, List, ℕ, [], Some, None, OnOk, OnErr};
 ghost use Rattle.compose_wire.specs.Messages as wire;
 ghost use Rattle.compose_wire.specs.Frames.{Fault, reply_bytes};
@@ -13,7 +13,7 @@ use keysym_core::Keysym;
 use std::alloc::Global;
 use std::marker::Model;
 
-/// A client, and the bytes of replies that came and were not looked at yet.
+/// A client, and the received bytes of replies that it has not read yet.
 #[derive(Drop)]
 pub struct Typing {
     client: Client,
@@ -29,7 +29,7 @@ impl Model for Typing {
 }
 
 impl Typing {
-    /// A client that has typed nothing. O(1), takes no memory.
+    /// Makes a client that has typed nothing. O(1), takes no memory.
     pub fn new(alloc: Global) -> Typing
         ensures { result ≡ record { client = words.start; held = [] } }
     {
@@ -39,7 +39,7 @@ impl Typing {
         }
     }
 
-    /// What is pending, at most 31 keys: what an input method shows. O(1).
+    /// Returns the pending keys, at most 31: what an input method shows as preedit. O(1).
     pub fn pending(&self) -> &[Keysym]
         ensures { result.now ≡ self.now.client.pending }
     {
@@ -53,7 +53,8 @@ impl Typing {
         self.client.waits()
     }
 
-    /// A key is pressed. One that comes while another one waits passes at once. O(pending keys).
+    /// Handles a key press. A key that is pressed while another one waits passes at once. O(pending
+    /// keys).
     pub fn press(&mut self, key: Keysym) -> Action
         ensures { Becomes (words.pressed self.old.client key) self.old.held self.new
             result }
@@ -61,8 +62,8 @@ impl Typing {
         self.client.press(key)
     }
 
-    /// A connection was made: bytes of an earlier one are dropped. The session gets this number, at best a random one each time, unless it
-    /// was opened before. O(1), takes no memory.
+    /// Handles a new connection, and drops the bytes of an earlier one. The session gets this
+    /// number, ideally a random one each time, unless it was opened before. O(1), takes no memory.
     pub fn connected(&mut self, alloc: Global, number: u32) -> Action
         ensures { Becomes (words.connected self.old.client number) [] self.new result }
     {
@@ -70,10 +71,10 @@ impl Typing {
         self.client.connected(number)
     }
 
-    /// These bytes came. What is to be done, `next_action` says then. O(bytes).
+    /// Takes bytes that were received. After this, `next_action` returns what to do. O(bytes).
     ///
     /// # Errors
-    /// NoMemory where a growth was refused; nothing changes.
+    /// `NoMemory` if memory runs out; nothing changes then.
     pub fn receive(&mut self, piece: &[u8]) -> Result<(), ReplyFault>
         ensures ok { OnOk result
             (self.new
@@ -83,8 +84,8 @@ impl Typing {
         self.replies.feed(piece)
     }
 
-    /// What is to be done at the next reply that came; none where no whole one is left. Bytes that are no reply give the connection up.
-    /// O(pending keys).
+    /// Returns what to do at the next reply that was received, or `None` if no whole reply is left.
+    /// Bytes that are not a reply give up the connection. O(pending keys).
     pub fn next_action(&mut self) -> Option<Action>
         ensures reply { (r : wire.Reply) (more : List ℕ) → ReplyFits r
             → self.old.held ≡ reply_bytes r ++ more
@@ -102,14 +103,15 @@ impl Typing {
         }
     }
 
-    /// The connection was lost, or none could be made. It is made anew once for a key. O(1).
+    /// Handles a connection that was lost, or could not be made. For each key, it is made again
+    /// once. O(1).
     pub fn lose(&mut self) -> Action
         ensures { Becomes (words.lost self.old.client) self.old.held self.new result }
     {
         self.client.lose()
     }
 
-    /// The time for a key is up. O(1).
+    /// Handles the end of the time allowed for a key. O(1).
     pub fn time_out(&mut self) -> Action
         ensures { Becomes (words.timed_out self.old.client) self.old.held self.new result }
     {

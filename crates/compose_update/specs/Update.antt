@@ -1,4 +1,4 @@
--- What an update does with the table that a service starts from (this project's profile).
+-- The effect of an update on the table from which a service starts (this project's profile).
 use Rattle.std.specs.Prelude.{◌≡◌, ◌⊎◌, ℕ, ◌<◌, List, [], map, length, Option, Some, None, Result, Ok, Err, string_bytes}
 use Rattle.std.specs.Option.{option_map}
 use Rattle.std.specs.declared.string.String.{String}
@@ -20,7 +20,8 @@ use Rattle.compose_update.specs.declared.deciding.Update.TheVariants.{Replaced, 
 use Rattle.compose_update.specs.declared.deciding.UpdateFault.{UpdateFault}
 use Rattle.compose_update.specs.declared.deciding.UpdateFault.TheVariants.{Input, TooLarge}
 
--- names, the key names of fresh keysyms, the sources of the table in use, if there is one, those of the new table, and a repertoire
+-- names, the key names of fresh keysyms, the sources of the table in use, if there is one, those of the new table, and
+-- a repertoire
 pub record GivenUpdate : Type 0 where
   pub header : List ℕ
   pub fresh : List (List ℕ)
@@ -37,7 +38,7 @@ given_update input = record {
   repertoire = input.repertoire.now;
 }
 
--- ---- moves: of overlapping sequences the longest counts
+-- ---- moves: the longest of overlapping sequences counts
 
 abbrev pub whole : List Source → TableSources
 whole sources = record { sources = sources; rule = Longest }
@@ -54,7 +55,7 @@ itself given = record { header = given.header; key_names = []; old = whole given
 abbrev pub IsCertificate : GivenMigration → List ℕ → List ℕ → Type 0
 IsCertificate move repertoire text = (needs : Needs) × (make_parts move repertoire ≡ Ok needs) × SpellsMade needs text
 
--- there is none: the text is what `make` prints then
+-- there is none, and the text is what `make` prints instead
 abbrev pub HasNoCertificate : GivenMigration → List ℕ → String Global → Type 0
 HasNoCertificate move repertoire text = (needs : Needs) × (make_parts move repertoire ≡ Ok needs) × IsMadeText needs (No text)
 
@@ -65,12 +66,12 @@ abbrev pub IsStored : GivenUpdate → List ℕ → Type 0
 IsStored given bytes =
     (text : List ℕ) × IsBundle bytes (record { sources = given.new; certificate = text }) × IsCertificate (itself given) given.repertoire text
 
--- a certificate for the move from the table in use; none exactly where no table is
+-- a certificate for the move from the table in use; none exactly if no table is in use
 abbrev pub IsMove : GivenUpdate → Option (List ℕ) → Type 0
 IsMove given None = given.current ≡ None
 IsMove given (Some text) = (old : List Source) × (given.current ≡ Some old) × IsCertificate (move_from given old) given.repertoire text
 
--- these bytes are stored, and a running service takes the new table by this certificate
+-- these bytes are stored, and a running service takes the new table with this certificate
 abbrev pub Replaces : GivenUpdate → List ℕ → Option (List ℕ) → Type 0
 Replaces given stored certificate = IsMove given certificate × IsStored given stored
 
@@ -80,9 +81,9 @@ IsTooLarge given =
     (text : List ℕ) × IsCertificate (itself given) given.repertoire text
     × (BundleFits (record { sources = given.new; certificate = text }) → max_payload < length (bundle_bytes (record { sources = given.new; certificate = text })))
 
--- ---- what an update does, of the one move or the other
+-- ---- the outcome of an update, for one move or the other
 
--- of a table that is in use, or of the new one
+-- it is true of the move from a table that is in use, or of the one from the new table to itself
 abbrev pub OfEither : GivenUpdate → (GivenMigration → Type 0) → Type 0
 OfEither given P = P (itself given) ⊎ ((old : List Source) × (given.current ≡ Some old) × P (move_from given old))
 
@@ -92,7 +93,7 @@ Updates given (Ok (Refused text)) = OfEither given (λ move. HasNoCertificate mo
 Updates given (Err (Input refusal)) = OfEither given (λ move. IsRefused refusal (make_parts move given.repertoire))
 Updates given (Err TooLarge) = IsTooLarge given
 
--- ---- in words for private functions
+-- ---- definitions for private functions
 
 -- the same once the certificate of the move is made, if there is one
 abbrev pub StoresWith : GivenUpdate → Option (List ℕ) → Result Update UpdateFault → Type 0

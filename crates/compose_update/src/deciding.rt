@@ -14,14 +14,15 @@ use compose_tree::ComposeTable;
 use std::alloc::Global;
 use thiserror::Error;
 
-/// What an update is made of. Both tables take the longest of overlapping sequences.
+/// The input of an update. In both tables the longer of two overlapping sequences counts.
 #[derive(Clone, Copy)]
 pub struct UpdateInput<'a, 'w> {
     /// A header of names, which is added to the core names.
     pub header: &'a [u8],
-    /// The key names of the fresh keysyms, with which new sequences may begin.
+    /// The key names of the fresh keysyms: new sequences may start with these.
     pub fresh: &'a [&'w str],
-    /// The sources of the table that is in use, the root first; none where there is no such table yet.
+    /// The sources of the table that is in use, the root first; `None` if there is no such table
+    /// yet.
     pub current: Option<&'a Sources>,
     /// The sources of the new table, the root first.
     pub new: &'a Sources,
@@ -29,33 +30,42 @@ pub struct UpdateInput<'a, 'w> {
     pub repertoire: &'a [u8],
 }
 
-/// What an update does.
+/// The outcome of an update.
 #[derive(Debug, PartialEq, Eq, Drop)]
 pub enum Update {
-    /// The new table takes the place of the one in use.
+    /// The new table replaces the one in use.
     Replaced {
-        /// The bytes that are stored: the bundle of the new table's sources and of a certificate of the table against itself.
+        /// The bytes to store: the bundle of the new table's sources and of a certificate for the
+        /// table against itself.
         stored: Vec<u8>,
-        /// The certificate by which a running service takes the new table; none where no table was in use.
+        /// The certificate with which a running service takes the new table; `None` if no table was
+        /// in use.
         certificate: Option<String>,
     },
-    /// Typing would change, or a character can't be typed: the lines that `make` prints. Nothing is stored.
+    /// Typing would change, or a character can't be typed. The text is the lines that `make`
+    /// prints. Nothing is stored.
     Refused(String),
 }
 
-/// Why nothing can be decided.
+/// Why there is no decision.
 #[derive(Debug, PartialEq, Eq, Drop, Error)]
 pub enum UpdateFault {
-    /// A part that was given is refused, or memory was.
+    /// A part of the input is refused, or memory ran out.
     #[error("{0}")]
     Input(Refusal),
-    /// The sources of the new table and its certificate are more than 8,388,608 bytes, or there is no source.
+    /// The bundle of the new table and its certificate is larger than 8,388,608 bytes, or there is
+    /// no source.
     #[error("1 TooLarge")]
     TooLarge,
 }
 
-/// The bytes that are stored from now on, and the certificate for a running service; or why all stays as it is. The new table is compared with the
-/// one in use, and then with itself. The parts are read in the order of `make_migration`. At the cost of two calls of it.
+/// Returns the bytes to store from now on, and the certificate for a running service; or why
+/// everything stays as it is. The new table is compared with the one in use, and then with itself.
+/// It costs two calls of `make_migration`.
+///
+/// The parts are read in the order of `make_migration`. Errors: `Input` with the first of them that
+/// is refused, or if memory runs out; `TooLarge` if no load can carry the new table and its
+/// certificate.
 pub fn decide_update<T: ComposeTable>(
     alloc: Global,
     input: &UpdateInput<'_, '_>,
@@ -68,7 +78,7 @@ pub fn decide_update<T: ComposeTable>(
     }
 }
 
-/// The update of a table that is in use.
+/// Decides the update of a table that is in use.
 fn follow<T: ComposeTable>(
     alloc: Global,
     input: &UpdateInput<'_, '_>,
@@ -91,7 +101,7 @@ fn follow<T: ComposeTable>(
     }
 }
 
-/// The update that stores the new table, which a running service takes by this certificate.
+/// Stores the new table, which a running service takes with this certificate.
 fn store<T: ComposeTable>(
     alloc: Global,
     input: &UpdateInput<'_, '_>,
@@ -120,7 +130,7 @@ fn store<T: ComposeTable>(
     }
 }
 
-/// The table of these sources, with the longest of overlapping sequences.
+/// Describes the table of these sources; the longest of overlapping sequences counts.
 fn whole(sources: &Sources) -> TableInput<'_>
     ensures sources { result.sources.now ≡ sources.now }
     ensures rule { result.rule ≡ Rule.Longest }

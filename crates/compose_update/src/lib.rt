@@ -1,7 +1,9 @@
-//! What an update does with the table that a service starts from: a new table takes its place only if nobody's typing changes.
+//! Updates of the table from which a service starts: a new table replaces it only if nobody's
+//! typing changes.
 //!
-//! [`decide_update`] is the decision, over values: the bytes that are stored from then on, and the certificate by which a running
-//! service takes the new table; or why everything stays as it is. [`law_update`] says what that is worth.
+//! [`decide_update`] is the decision, over values. It returns the bytes to store from then on, and
+//! the certificate with which a running service takes the new table; or why everything stays as it
+//! is. [`law_update`] says what that guarantees.
 //!
 //! ```text
 //! match decide_update::<PackedTable>(alloc, &input)? {

@@ -1,4 +1,4 @@
--- Which of some paths is the first at which there is a file.
+-- The first of some paths at which there is a file.
 use Rattle.std.proofs.Common.{◌≡◌, ℕ, ◌+◌, ◌<◌, ◌≤◌, List, [], ◌∷◌, ◌++◌, Bool, true, false, length, get_or, map, take, drop, refl, sym, ◌∙◌, ap, subst, inl, inr, Option, Some, None}
 use Rattle.std.specs.List.{find}
 use Rattle.std.proofs.lemmas.Bool.{cases_Bool}
@@ -6,7 +6,7 @@ use Rattle.std.proofs.lemmas.List.{take_more, take_all, drop_more, take-append-d
 use Rattle.compose_folder.specs.Content.{Entry, held}
 use Rattle.compose_user.specs.Paths.{IsFirstFile, IsKnown, is_file}
 
--- ---- what is found first
+-- ---- the first element that is found
 
 module _ {X : Type 0} (p : X → Bool) where
   found_first : (x : X) (xs : List X) → p x ≡ true → find p (x ∷ xs) ≡ Some x
@@ -24,7 +24,7 @@ module _ {X : Type 0} (p : X → Bool) where
 
 -- ---- a folder
 
--- the same of the same folder, path and answer
+-- the same for an equal folder, path and answer
 pub known_as : (f g : Option (List Entry)) (p q : List ℕ) (a b : Bool) → f ≡ g → p ≡ q → a ≡ b → IsKnown f p a → IsKnown g q b
 known_as f g p q a b i j k h = subst (λ x. IsKnown g q x) k (subst (λ x. IsKnown g x a) j (subst (λ x. IsKnown x p a) i h))
 
@@ -66,6 +66,6 @@ module _ {S : Type 0} (text : S → List ℕ) (folder : Option (List Entry)) (pa
             ap (find (λ p. is_file (held entries p))) whole ∙ found_after (λ p. is_file (held entries p)) (map text (take i paths)) (text path ∷ map text (drop (i + 1) paths)) a
             ∙ found_first (λ p. is_file (held entries p)) (text path) (map text (drop (i + 1) paths)) (sym b))
 
-    -- and a copy of it
+    -- and for a copy of it
     pub copy_found : (copy : List ℕ) → copy ≡ text path → IsKnown folder (text path) true → IsFirstFile folder (map text paths) (Some copy)
     copy_found copy e known = subst (λ q. IsFirstFile folder (map text paths) (Some q)) (sym e) (found_here known)

@@ -1,4 +1,5 @@
-//! The Compose file of a user's own: that of the environment, or one among the user's settings.
+//! The user's own Compose file: the one that the environment names, or one among the user's
+//! settings.
 //!
 //! ```text
 //! $XCOMPOSEFILE, $XDG_CONFIG_HOME/XCompose (or ~/.config/XCompose), ~/.XCompose

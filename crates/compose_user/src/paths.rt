@@ -1,11 +1,11 @@
-//! Where a user's own Compose file may lie.
+//! The paths at which a user's own Compose file may lie.
 ghost use Rattle.std.specs.Prelude.{◌≡◌, ◌++◌, map, option_copied, option_to_list, IfOk, OnOk, string_bytes};
 ghost use Rattle.std.specs.Option.{option_map, option_and_then};
 ghost use Rattle.compose_user.specs.Paths as words;
 
 use std::alloc::{AllocError, Global};
 
-/// What the environment says of a user's files.
+/// The environment variables that lead to a user's own files.
 #[derive(Clone, Copy, Debug)]
 pub struct UserFolders<'a> {
     /// `$XCOMPOSEFILE`, the path of a Compose file.
@@ -16,7 +16,10 @@ pub struct UserFolders<'a> {
     pub home: Option<&'a str>,
 }
 
-/// The paths at which a user's own Compose file may lie, in the order in which libxkbcommon looks there. O(bytes).
+/// Returns the paths at which a user's own Compose file may lie, in the order in which libxkbcommon
+/// tries them. O(bytes).
+///
+/// Errors: `AllocError` if memory runs out.
 pub fn user_paths(alloc: Global, folders: UserFolders<'_>) -> Result<Vec<String>, AllocError>
     ensures { IfOk result
         (λ paths. map string_bytes paths.items
@@ -35,7 +38,7 @@ pub fn user_paths(alloc: Global, folders: UserFolders<'_>) -> Result<Vec<String>
     Ok(paths)
 }
 
-/// Puts the path of a file in the folder after the others, if the folder is given.
+/// Adds the path of the file with this name in the folder after the others, if the folder is given.
 fn push_path(
     alloc: Global,
     paths: &mut Vec<String>,
@@ -56,7 +59,7 @@ fn push_path(
     Ok(())
 }
 
-/// The folder, if its path is absolute.
+/// Returns the folder, if its path is absolute.
 fn absolute(folder: Option<&str>) -> Option<&str>
     ensures { option_copied result ≡ option_and_then words.absolute (option_copied folder.entry) }
 {

@@ -1,11 +1,14 @@
-//! The Compose file that is there.
+//! The first Compose file of a user that exists.
 ghost use Rattle.std.specs.Prelude.{◌≡◌, map, option_map, IfOk, string_bytes};
 ghost use Rattle.compose_user.specs.Paths.{IsFirstFile, IsKnown};
 
 use compose_folder::{Folder, ReadOnce, Unread};
 use std::alloc::{AllocError, Global};
 
-/// The first of these paths at which a file can be read. O(bytes of the files), each of which is read once in a run.
+/// Returns the first of these paths at which a file can be read. O(bytes of the files), each of
+/// which is read once in a run.
+///
+/// Errors: `AllocError` if memory runs out.
 pub fn first_file<F: Folder>(
     files: &mut ReadOnce<F>,
     alloc: Global,
@@ -26,7 +29,7 @@ pub fn first_file<F: Folder>(
     Ok(None)
 }
 
-/// Whether a file can be read at this path.
+/// Returns whether a file can be read at this path.
 fn is_file<F: Folder>(
     files: &mut ReadOnce<F>,
     alloc: Global,

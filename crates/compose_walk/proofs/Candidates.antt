@@ -1,4 +1,5 @@
--- The differences of two tables are their candidates: which counterexample is least, and that a table follows where there is none.
+-- The differences of two tables are their candidates. Which counterexample is least, and that a table follows if there
+-- is none.
 use Rattle.std.proofs.Common.{◌≡◌, ◌≢◌, ◌⊎◌, ℕ, ◌+◌, ◌<◌, List, [], ◌∷◌, ◌++◌, Bool, true, false, not, ◌&&◌, length, refl, sym, ◌∙◌, ap, subst, inl, inr, arith, append-nil, append_assoc, length-append, lt-ltb, eqb-true}
 use Rattle.std.specs.Prelude.{Option, Some, None, ◌==◌, nat_lt}
 use Rattle.std.specs.List.{list_all}
@@ -137,7 +138,7 @@ module _ (names : KeysymNames) (fresh : List ℕ) (old new : List Definition) wh
       go again passes e = (let r = ap (λ x. pending_by x p j) e in from again [] r (here.rests r) (root_clear names fresh old new))
       go again cancels e = absurd (uncancelled_head old p j w u e)
 
-  -- where the tables have no candidate, the new table follows the old one
+  -- if the tables have no candidate, the new table follows the old one
   pub follows_without : ((q : List ℕ) (k : ℕ) → Candidate names fresh old new q k → ⊥) → Follows names fresh old new
   follows_without none w f u = agrees_on none [] w (root_clear names fresh old new) f u
 

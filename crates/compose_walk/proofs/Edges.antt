@@ -46,11 +46,11 @@ module _ (names : KeysymNames) (old new : List Definition) (sound : is_table old
       stood ∙ kept_edge names old new sound (node old i) i (take index (edges old (node old i))) k here (number_at_node old i in_range) dark
       ∙ ap (stands_at names old new i) (sym (taken_more (edges old (node old i)) index k at))
 
-  -- where the tables differ at the edge, nothing is written
+  -- if the tables differ at the edge, nothing is written
   pub stands_if_differs : is_some (difference_of a b) ≡ true → before ≡ stands_at names old new i (take (index + 1) (edges old (node old i)))
   stands_if_differs d = unwritten (λ _. agrees_push names old new sound (node old i) k here ∙ ap (λ c. c && not (differs_at names old new (node old i) k)) agree ∙ ap not (sym differ ∙ d))
 
-  -- nor where it leads to a leaf
+  -- nothing is written either if it leads to a leaf
   pub stands_at_leaf : ((n : NodeId) → t ≡ Node n → ⊥) → before ≡ stands_at names old new i (take (index + 1) (edges old (node old i)))
   stands_at_leaf other = go t refl leads_on
     where
@@ -64,11 +64,11 @@ module _ (names : KeysymNames) (old new : List Definition) (sound : is_table old
   to_node : (n : NodeId) → t ≡ Node n → Leads old (node old i) k (Some (Node n))
   to_node n e = subst (λ (y : Target). Leads old (node old i) k (Some y)) e leads_on
 
-  -- the number of the node to which the edge leads is below the count of the stands that are kept
+  -- the number of the node to which the edge leads is below the number of stored partners
   pub child_below : (n : NodeId) → t ≡ Node n → n.0 < length before
   child_below n e = let l : n.0 < length (nodes old) = (to_node n e).in_range in let s : length before ≡ length (nodes old) = ap length stood ∙ length-map (nodes old) _ in omega arith
 
-  -- where it leads to a node, and the tables agree, what stands there is written
+  -- if it leads to a node, and the tables agree, the node's partner is written
   pub stands_at_child : (n : NodeId) (s : Stand) → t ≡ Node n → is_some (difference_of a b) ≡ false → s.new_node.0 ≡ b.next.0 → s.parent.0 ≡ i → s.keysym ≡ k
       → set before n.0 (Some s) ≡ stands_at names old new i (take (index + 1) (edges old (node old i)))
   stands_at_child n s e d en ep ek =
@@ -81,7 +81,7 @@ module _ (names : KeysymNames) (old new : List Definition) (sound : is_table old
   same_key : (m : ℕ) → slice_get (edges old (node old i)) index ≡ Some m → k ≡ m
   same_key m h = let e : Some k ≡ Some m = sym at ∙ h in cc
 
-  -- the key is found where the tables differ, and not where they agree
+  -- the key is found if the tables differ, and not if they agree
   pub found_if_differs : is_some (difference_of a b) ≡ true → (xs : List Found) (f : Found) → f.depth ≡ length (node old i) → f.node ≡ i → f.keysym ≡ k → (m : ℕ)
       → slice_get (edges old (node old i)) index ≡ Some m
       → xs ++ f ∷ [] ≡ xs ++ map (found_at old (node old i)) (filter (differs_at names old new (node old i)) (m ∷ []))
@@ -93,7 +93,7 @@ module _ (names : KeysymNames) (old new : List Definition) (sound : is_table old
       is_found : f ≡ found_at old (node old i) k
       is_found z = record { depth = ed z; node = (en ∙ sym (number_at_node old i in_range)) z; keysym = ek z }
 
-  -- where the steps agree at the edge, it adds nothing to what is found
+  -- if the steps agree at the edge, it adds nothing to what is found
   pub found_unless_differs : is_some (difference_of a b) ≡ false → (xs : List Found) (m : ℕ) → slice_get (edges old (node old i)) index ≡ Some m
       → xs ≡ xs ++ map (found_at old (node old i)) (filter (differs_at names old new (node old i)) (m ∷ []))
   found_unless_differs d xs m h =

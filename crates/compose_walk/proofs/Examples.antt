@@ -90,11 +90,11 @@ breaks_off = refl
 breaks_kind : difference_at core grave_acute grave_d (0xfe50 ∷ []) 0xfe51 ≡ Some cancelled
 breaks_kind = refl
 
--- nothing is looked at after it
+-- nothing is checked after it
 not_behind : agrees core grave_acute grave_d (0xfe50 ∷ 0xfe51 ∷ []) ≡ false
 not_behind = refl
 
--- ---- a keysym that gives itself may go
+-- ---- a sequence of one keysym with that keysym's own text may be removed
 
 itself_goes : differing_edges core (record { sequence = 0x61 ∷ []; text = codes "a" } ∷ []) [] [] ≡ []
 unfolding encode_utf8

@@ -1,4 +1,4 @@
--- The first of all differences is the least counterexample, and where there is none the new table follows.
+-- The first of all differences is the least counterexample, and if there is none the new table follows.
 use Rattle.std.proofs.Common.{◌≡◌, ◌⊎◌, ℕ, List, [], ◌∷◌, ◌++◌, true, refl, sym, ◌∙◌, ap, inl, inr, Option, Some, None}
 use Rattle.std.specs.Prelude.{is_some}
 use Rattle.std.specs.List.{list_any}
@@ -13,7 +13,7 @@ use Rattle.compose_walk.specs.Pass.{difference_at, evidence}
 use Rattle.compose_walk.proofs.FirstOrder.{first_then}
 use Rattle.compose_walk.proofs.Candidates.{least_from, follows_without, candidate_is}
 
--- what stands in a rising list is its first element, or comes after it
+-- an element of a rising list is its first, or comes after it
 first_of : (ks : List ℕ) (x : Evidence) (xs : List Evidence) → differences_rise (x ∷ xs) ≡ true → list_any (λ y. same y.keys ks) (x ∷ xs) ≡ true → (x.keys ≡ ks) ⊎ (comes_first x.keys ks ≡ true)
 first_of ks x [] r h =
     elim (or_cases (same x.keys ks) (list_any (λ (y : Evidence). same y.keys ks) []) h) [
@@ -46,7 +46,7 @@ first_difference names fresh old new x xs t_old t_new are d = least_from names f
     (let kind = some_of (difference_at names old new q k) c.differs in
     first_of (q ++ k ∷ []) x xs d.rise (d.all (evidence names old new q k kind.0) (candidate_is names fresh old new t_old t_new are q k kind.0 c kind.1))))
 
--- where two tables have no difference, the new one follows the old one
+-- if two tables have no difference, the new one follows the old one
 pub no_difference : (names : KeysymNames) (fresh : List ℕ) (old new : List Definition) → is_table old ≡ true → is_table new ≡ true → AreFresh fresh old → AreDifferences names fresh old new []
     → Follows names fresh old new
 no_difference names fresh old new t_old t_new are d = follows_without names fresh old new (λ q k c.

@@ -246,7 +246,8 @@ module _ (names : KeysymNames) (fresh : List ℕ) (old new : List Definition) (t
 
   -- ---- one that was found
 
-  -- what was found is a place: an old node up to which the tables agree, and a key there, not ignored, at which they differ
+  -- what was found is a place: an old node up to which the tables agree, and a key there, not ignored, at which they
+  -- differ
   pub place_of : (f : Found) → IsFound f → IsPlace names old new f
   place_of f h = record {
     in_range = (let e : f.node ≡ number_of old h.before = ap (λ (g : Found). g.node) h.is in let l = number_below old h.before h.candidate.clear.reached.node in omega arith);
@@ -295,7 +296,7 @@ module _ (names : KeysymNames) (fresh : List ℕ) (old new : List Definition) (t
             | inr before ↦ inr (ap (λ s. comes_first s (q ++ j ∷ [])) keys ∙ before)
           ]
 
-  -- ---- where nothing is found
+  -- ---- if nothing is found
 
   follows_if_none : all_found names fresh old new (nodes old) ≡ [] → Follows names fresh old new
   follows_if_none e = follows_without names fresh old new (λ q j c. subst (λ (xs : List Found). Has (found_at old q j) xs) e (has_candidate q j c))
@@ -317,7 +318,7 @@ module _ (names : KeysymNames) (fresh : List ℕ) (old new : List Definition) (t
       go true e number later = ap₂ (λ m ps. (m, number_of new (pending new x)) ∷ ps) number later
       go false e number later = cc
 
-  -- where nothing is found, the new table follows, and the pairs of the stands simulate
+  -- if nothing is found, the new table follows, and the pairs simulate
   pub none_is_follower : all_found names fresh old new (nodes old) ≡ [] → (pairs : List (ℕ × ℕ)) → pairs ≡ stand_pairs 0 (map (stand names old new) (nodes old)) → IsFollower names fresh old new pairs
   none_is_follower e pairs is =
       let f = follows_if_none e in

@@ -137,7 +137,7 @@ set_index f h q (x ∷ xs) s i e = go (same q x) refl i (λ j. set_index f h q x
         other : same q x ≡ false → same x q ≡ false
         other n = elim (cases_Bool (same x q)) [ inl m ↦ absurd (let clash : true ≡ false = sym (same_from q x (sym (same_is x q m))) ∙ n in cc) | inr m ↦ m ]
 
--- a write at a node's number changes what stands at that node alone
+-- a write at a node's number changes the value of that node alone
 pub set_node : {Y : Type 0} (table : List Definition) (f h : List ℕ → Y) (q : List ℕ) → is_node table q ≡ true → ((r : List ℕ) → is_node table r ≡ true → same r q ≡ false → f r ≡ h r)
     → set (map f (nodes table)) (number_of table q) (h q) ≡ map h (nodes table)
 set_node table f h q i e = set_index f h q (nodes table) (nodes_sorted table) i e

@@ -1,4 +1,4 @@
--- How what stands with the old nodes changes from node to node.
+-- How the partners of the old nodes change from node to node.
 use Rattle.std.proofs.Common.{◌≡◌, ℕ, zero, suc, ◌+◌, ◌<◌, ◌≤◌, List, [], ◌∷◌, ◌++◌, Bool, true, false, cond, not, ◌&&◌, ◌||◌, length, get_or, set, map, take, replicate, refl, sym, ◌∙◌, ap, inl, inr, arith, append_assoc, append-nil, ◌-◌, eqb-true, eq-eqb, lt-ltb, Option, Some, None}
 use Rattle.std.specs.Prelude.{◌==◌, nat_lt, slice_get}
 use Rattle.std.specs.List.{filter}
@@ -74,7 +74,7 @@ module _ (names : KeysymNames) (old new : List Definition) (sound : is_table old
             | inr l ↦ absurd (let m = ltb-false i f l in let clash : true ≡ false = sym (eq-eqb f i (omega arith)) ∙ x in cc)
           ]
 
-  -- once each edge of a node was looked at, the next node is to come
+  -- once each edge of a node was visited, the next node comes
   pub node_done : (i : ℕ) → i < length (nodes old) → stands_at names old new i (edges old (node old i)) ≡ stands_at names old new (i + 1) []
   node_done i h = on_nodes old _ _ (λ q hq. ap (λ b. cond b (stand names old new q) None) (at q hq (is_empty q) refl))
     where
@@ -106,14 +106,14 @@ module _ (names : KeysymNames) (old new : List Definition) (sound : is_table old
       at q hq false e false em =
           ap (λ b. cond (is_empty q || b) (stand names old new q) None) (tests_move (number_of old (without_last q)) i false (λ x. (let clash : true ≡ false = sym x ∙ em in cc)))
 
-  -- after the last node each has its stand
+  -- after the last node each has its partner
   pub nodes_done : stands_at names old new (length (nodes old)) [] ≡ map (stand names old new) (nodes old)
   nodes_done = on_nodes old _ _ (λ q hq. ap (λ b. cond b (stand names old new q) None)
       (or_right (is_empty q) (nat_lt (number_of old (without_last q)) (length (nodes old)) || (number_of old (without_last q) == length (nodes old) && false))
       (or_left (nat_lt (number_of old (without_last q)) (length (nodes old))) (number_of old (without_last q) == length (nodes old) && false)
       (lt-ltb (number_of old (without_last q)) (length (nodes old)) (number_below old (without_last q) (prefix_node old q hq))))))
 
-  -- before the first one the root alone has its stand
+  -- before the first one the root alone has its partner
   pub nodes_begun : (s : Stand) → s.new_node.0 ≡ 0 → s.parent.0 ≡ 0 → s.keysym ≡ 0 → set (replicate (length (nodes old)) None) 0 (Some s) ≡ stands_at names old new 0 []
   nodes_begun s en ep ek =
       ap (λ xs. set xs 0 (Some s)) (sym (map_const None (nodes old))) ∙ ap (λ n. set (map (λ q. None) (nodes old)) n (Some s)) (sym (root_number old))
@@ -132,7 +132,7 @@ module _ (names : KeysymNames) (old new : List Definition) (sound : is_table old
           go false true e = refl
           go false false e = refl
 
-  -- what stands with a node is there when the node comes
+  -- a node's partner is known when the node comes
   pub stand_there : (i : ℕ) → i < length (nodes old) → get_or (stands_at names old new i []) i None ≡ stand names old new (node old i)
   stand_there i h =
       get_or-map (λ q. cond (is_done old i [] q) (stand names old new q) None) (nodes old) i [] None h ∙ ap (λ b. cond b (stand names old new (node old i)) None) (done (is_empty (node old i)) refl)
@@ -147,7 +147,7 @@ module _ (names : KeysymNames) (old new : List Definition) (sound : is_table old
           (or_left (nat_lt (number_of old (without_last (node old i))) i) (number_of old (without_last (node old i)) == i && false)
           (lt-ltb (number_of old (without_last (node old i))) i (omega arith)))
 
-  -- what a stand says of its node
+  -- what a partner implies for its node
   pub record Standing (p : List ℕ) (s : Stand) : Type 0 where
     pub agree : agrees names old new p ≡ true
     pub new_number : s.new_node.0 ≡ number_of new (pending new p)
@@ -156,7 +156,7 @@ module _ (names : KeysymNames) (old new : List Definition) (sound : is_table old
     pub parent : s.parent.0 ≡ number_of old (without_last p)
     pub keysym : s.keysym ≡ last_key p
 
-  -- the stand of an old node tells what is pending in the new table after it, and the node and the key that lead to it
+  -- the partner of an old node has what is pending in the new table after it, and the node and the key that lead to it
   pub standing : (p : List ℕ) (s : Stand) → stand names old new p ≡ Some s → Standing p s
   standing p s e = go (agrees names old new p) refl e
     where
@@ -179,7 +179,7 @@ module _ (names : KeysymNames) (old new : List Definition) (sound : is_table old
           }
       go false a h = cc
 
-  -- an old node without a stand is one up to which the tables do not agree
+  -- an old node without a partner is one up to which the tables do not agree
   pub dark : (p : List ℕ) → stand names old new p ≡ None → agrees names old new p ≡ false
   dark p e = go (agrees names old new p) e
     where
@@ -206,7 +206,7 @@ found_dark names old new p xs d = sym (append-nil xs) ∙ ap (λ b. xs ++ map (f
 pub filled : {X : Type 0} (x : X) (xs before : List X) (n m len : ℕ) → xs ≡ take n before ++ replicate (n - len) x → before ≡ [] → len ≡ 0 → n ≡ m → xs ≡ replicate m x
 filled x xs before n m len e b l h = e ∙ ap (λ ys. take n ys ++ replicate (n - len) x) b ∙ ap (λ ys. ys ++ replicate (n - len) x) (take_all n [] (omega arith)) ∙ ap (λ k. replicate k x) (omega arith)
 
--- what is read of a node's stand when the node comes
+-- the partner that is read when a node comes
 pub read_stand : (names : KeysymNames) (old new : List Definition) (sound : is_table old ≡ true) (i : ℕ) → i < length (nodes old) → (xs : List (Option Stand)) → xs ≡ stands_at names old new i []
     → (o : Option Stand) → o ≡ get_or xs i o → stand names old new (node old i) ≡ o
 read_stand names old new sound i h xs e o r =

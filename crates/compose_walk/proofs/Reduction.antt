@@ -1,4 +1,5 @@
--- Each counterexample stands for a difference that is no longer: an old node at which the tables agree so far, and a key at which they differ.
+-- For each counterexample there is a difference that is no longer: an old node at which the tables agree so far, and a
+-- key at which they differ.
 use Rattle.std.proofs.Common.{◌≡◌, ◌≢◌, ◌⊎◌, ℕ, ◌+◌, ◌<◌, List, [], ◌∷◌, ◌++◌, Bool, true, false, cond, not, ◌&&◌, length, refl, sym, ◌∙◌, ap, subst, inl, inr, arith, append-nil, append_assoc, length-append}
 use Rattle.std.specs.Prelude.{Option, Some, None, is_some}
 use Rattle.std.proofs.lemmas.Bool.{or_from, or_parts, or_left, or_right, not-true, not_from_false, not-false, cases_Bool}
@@ -23,7 +24,7 @@ rests_by : (u v : List ℕ) → is_empty u && not (is_empty v) ≡ false → u �
 rests_by [] v h e = empty_is v (not-false (is_empty v) h)
 rests_by (k ∷ u) v h e = cc
 
--- where no condition fails, the steps agree
+-- if no condition fails, the steps agree
 pub agreement : (a b : Step) → difference a b ≡ None → Agrees a b
 agreement a b h = go (is_cancel b.effect) (same b.text a.text) (is_empty a.pending && not (is_empty b.pending)) refl refl refl h
   where
@@ -39,7 +40,7 @@ rest_test : (u v : List ℕ) → (u ≡ [] → v ≡ []) → is_empty u && not (
 rest_test [] v r = ap (λ y. not (is_empty y)) (r refl)
 rest_test (k ∷ u) v r = refl
 
--- and where the steps agree, no condition fails
+-- and if the steps agree, no condition fails
 pub no_difference : (a b : Step) → Agrees a b → difference a b ≡ None
 no_difference a b h = rw (not-true (is_cancel b.effect) (no_cancel_test b.effect h.not_cancelled), same_from b.text a.text h.same_text, rest_test a.pending b.pending h.rests) refl
 
@@ -55,7 +56,8 @@ module _ (names : KeysymNames) (fresh : List ℕ) (old new : List Definition) wh
   pub root_clear : Clear []
   root_clear = record { reached = root_reached old; along = tt }
 
-  -- where the tables agree along a node, and at a key by which the old table goes on, they agree along the node with that key
+  -- if the tables agree along a node, and at a key by which the old table goes on, they agree along the node with that
+  -- key
   pub clear_more : (p : List ℕ) (k : ℕ) → Clear p → effect old p k ≡ extends → Agrees (step names old p k) (step names new (pending new p) k) → Clear (p ++ k ∷ [])
   clear_more p k c e a = record {
     reached = reached_more old p k c.reached e;
@@ -128,7 +130,7 @@ module _ (names : KeysymNames) (fresh : List ℕ) (old new : List Definition) wh
 
   -- ---- from a counterexample to a difference that is no longer
 
-  -- a difference with no more keys than q, w and k, and with these keys where it has as many
+  -- a difference with no more keys than q, w and k, and with these keys if it has as many
   abbrev pub Reduces : List ℕ → List ℕ → ℕ → Type 0
   Reduces q w k = (r : List ℕ) × Candidate r k × ((r ≡ q ++ w) ⊎ (length r < length q + length w))
 
@@ -137,7 +139,8 @@ module _ (names : KeysymNames) (fresh : List ℕ) (old new : List Definition) wh
   AlwaysReduces w k kind = (q : List ℕ) → Clear q → uncancelled_from old q (w ++ k ∷ []) ≡ true → AgreeAlong names old new q (pending new q) w
       → difference (step names old (pending_from old q w) k) (step names new (pending_from new (pending new q) w) k) ≡ Some kind → Reduces q w k
 
-  -- from the node p, over the keys w at which the tables agree, to the key k at which they differ: a difference with no more keys, and with those of p and w where it has as many
+  -- from the node p, over the keys w at which the tables agree, to the key k at which they differ: a difference with no
+  -- more keys, and with those of p and w if it has as many
   pub reduced : (p w : List ℕ) (k : ℕ) (kind : Kind) → Clear p → has_key fresh k ≡ false → uncancelled_from old p (w ++ k ∷ []) ≡ true → AgreeAlong names old new p (pending new p) w
       → difference (step names old (pending_from old p w) k) (step names new (pending_from new (pending new p) w) k) ≡ Some kind
       → Reduces p w k
@@ -147,7 +150,7 @@ module _ (names : KeysymNames) (fresh : List ℕ) (old new : List Definition) wh
       new_follows : (p : List ℕ) (j : ℕ) → pending new (p ++ j ∷ []) ≡ pending_after new (pending new p) j
       new_follows p j = pending_from-append new [] p (j ∷ [])
 
-      -- the same from where both tables are after the key j
+      -- the same, with both tables after the key j
       from : AlwaysReduces w k kind → (q : List ℕ) → pending_after old p j ≡ q → pending_after new (pending new p) j ≡ pending new q → Clear q → Reduces q w k
       from again q eo en cq =
           let uq : uncancelled_from old q (w ++ k ∷ []) ≡ true = subst (λ (y : List ℕ). uncancelled_from old y (w ++ k ∷ []) ≡ true) eo (uncancelled_rest old p j (w ++ k ∷ []) u) in

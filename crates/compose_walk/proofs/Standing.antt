@@ -1,4 +1,4 @@
--- How what stands with the old nodes changes from edge to edge.
+-- How the partners of the old nodes change from edge to edge.
 use Rattle.std.proofs.Common.{◌≡◌, ℕ, List, [], ◌∷◌, ◌++◌, Bool, true, false, cond, not, ◌&&◌, ◌||◌, set, refl, sym, ◌∙◌, ap, inl, inr, eqb-true, eq-eqb, Option, Some, None}
 use Rattle.std.specs.Prelude.{◌==◌, nat_lt, is_some}
 use Rattle.std.specs.Option.{option_map}
@@ -26,7 +26,7 @@ use Rattle.compose_walk.proofs.NodeNumbers.{on_nodes, set_node}
 
 -- ---- the steps of the program differ as the model's do
 
--- a node has the number 0 exactly where it is the root
+-- a node has the number 0 exactly if it is the root
 pub zero_test : (table : List Definition) (q : List ℕ) → is_node table q ≡ true → number_of table q == 0 ≡ is_empty q
 zero_test table [] h = eq-eqb (number_of table []) 0 (root_number table)
 zero_test table (k ∷ q) h = elim (cases_Bool (number_of table (k ∷ q) == 0)) [
@@ -113,7 +113,7 @@ module _ (names : KeysymNames) (old new : List Definition) where
       (agrees_from names old new (pending_from old u (k ∷ w)) (pending_from new v (k ∷ w)) x))
 
   module _ (t_old : is_table old ≡ true) where
-    -- the tables agree along one key more exactly where they agree so far and do not differ at it
+    -- the tables agree along one more key exactly if they agree so far and do not differ at it
     pub agrees_push : (p : List ℕ) (k : ℕ) → is_node old p ≡ true → agrees names old new (p ++ k ∷ []) ≡ agrees names old new p && not (differs_at names old new p k)
     agrees_push p k h =
         agrees_from-append [] [] p (k ∷ [])
@@ -133,7 +133,7 @@ module _ (names : KeysymNames) (old new : List Definition) where
     one_key : (ks : List ℕ) (k j : ℕ) → has_key (ks ++ k ∷ []) j ≡ has_key ks j || (j == k || false)
     one_key ks k j = list_any-append (λ i. j == i) ks (k ∷ [])
 
-    -- which edges were looked at, one key later: that of p and k as well, and no other one
+    -- the edges that were visited, one key later: that of p and k as well, and no other one
     done_other : (p : List ℕ) (i : ℕ) (ks : List ℕ) (k : ℕ) (q : List ℕ) → is_node old p ≡ true → number_of old p ≡ i → is_node old q ≡ true → same q (p ++ k ∷ []) ≡ false
         → is_done old i (ks ++ k ∷ []) q ≡ is_done old i ks q
     done_other p i ks k q hp e hq n =
@@ -163,7 +163,7 @@ module _ (names : KeysymNames) (old new : List Definition) where
         (ap (λ b. b && has_key (ks ++ k ∷ []) (last_key (p ++ k ∷ []))) (eq-eqb (number_of old (without_last (p ++ k ∷ []))) i (ap (number_of old) (prefix_push p k) ∙ e))
         ∙ ap (has_key (ks ++ k ∷ [])) (last_push p k) ∙ one_key ks k k ∙ or_right (has_key ks k) (k == k || false) (or_left (k == k) false (eq-eqb k k refl))))
 
-    -- nothing is written where the tables differ at the edge, or where it leads to no node
+    -- nothing is written if the tables differ at the edge, or if it leads to no node
     pub kept_edge : (p : List ℕ) (i : ℕ) (ks : List ℕ) (k : ℕ) → is_node old p ≡ true → number_of old p ≡ i → (is_node old (p ++ k ∷ []) ≡ true → agrees names old new (p ++ k ∷ []) ≡ false)
         → stands_at names old new i ks ≡ stands_at names old new i (ks ++ k ∷ [])
     kept_edge p i ks k hp e none = on_nodes old (entry i ks) (entry i (ks ++ k ∷ [])) at
@@ -181,7 +181,7 @@ module _ (names : KeysymNames) (old new : List Definition) where
           | inr m ↦ ap (λ b. cond b (stand names old new q) None) (sym (done_other p i ks k q hp e hq m))
         ]
 
-    -- where the tables agree at an edge to a node, what stands with that node is written
+    -- if the tables agree at an edge to a node, that node's partner is written
     pub written_edge : (p : List ℕ) (i : ℕ) (ks : List ℕ) (k : ℕ) (s : Stand) → is_node old p ≡ true → number_of old p ≡ i → is_node old (p ++ k ∷ []) ≡ true → agrees names old new p ≡ true
         → differs_at names old new p k ≡ false
         → s.new_node.0 ≡ number_of new (pending_after new (pending new p) k) → s.parent.0 ≡ i → s.keysym ≡ k

@@ -27,7 +27,7 @@ pub root_below : (table : List Definition) → 0 < length (nodes table)
 root_below table = let r = root_first table in let n : length (nodes table) ≡ suc (length r.0) = ap length r.1 in omega arith
 
 module _ (names : KeysymNames) (fresh : List ℕ) (old new : List Definition) (k : ℕ) where
-  -- a key that leads somewhere from the old root is no differing start
+  -- a key that has a target at the old root is not a differing start
   pub known_start : (t : Option Target) → t ≡ target_of old (node old 0) k → is_some t ≡ true → false ≡ is_differing_start names fresh old new k
   known_start None e s = cc
   known_start (Some t) e s =
@@ -45,7 +45,7 @@ module _ (names : KeysymNames) (fresh : List ℕ) (old new : List Definition) (k
           ap (λ p. has_edge old p k) (sym (node_zero old)) ∙ edge_extends old (node old 0) k
           ∙ or_from (is_extended old (node old 0 ++ k ∷ [])) (is_sequence old (node old 0 ++ k ∷ [])) l.extended l.sequence
 
-  -- a fresh keysym is no differing start
+  -- a fresh keysym is not a differing start
   pub fresh_start : has_key fresh k ≡ true → false ≡ is_differing_start names fresh old new k
   fresh_start h = sym (ap (λ b. not (has_edge old [] k) && (not b && differs_at names old new [] k)) h ∙ and_none (not (has_edge old [] k)))
     where
@@ -53,7 +53,8 @@ module _ (names : KeysymNames) (fresh : List ℕ) (old new : List Definition) (k
       and_none true = refl
       and_none false = refl
 
-  -- a keysym that is not fresh and leads nowhere from the old root is a differing start exactly where the steps at rest differ
+  -- a keysym that is not fresh and has no target at the old root is a differing start exactly if the steps at rest
+  -- differ
   pub other_start : target_of old (node old 0) k ≡ None → has_key fresh k ≡ false → (a b : KeyStep) → IsStep names old (node old 0) k a → IsStep names new (node new 0) k b
       → is_some (difference_of a b) ≡ is_differing_start names fresh old new k
   other_start e f a b sa sb =
@@ -84,7 +85,7 @@ module _ (names : KeysymNames) (fresh : List ℕ) (old new : List Definition) (i
       is : f ≡ found_at old [] k
       is i = record { depth = ed i; node = (en ∙ sym (root_number old)) i; keysym = ek i }
 
-  -- an edge of the new root that is no differing start adds nothing to those found so far
+  -- an edge of the new root that is not a differing start adds nothing to those found so far
   pub start_passed : is_differing_start names fresh old new k ≡ false → before ≡ map (found_at old []) (filter (is_differing_start names fresh old new) (take (index + 1) (edges new [])))
   start_passed d =
       found_more (found_at old []) (is_differing_start names fresh old new) (edges new []) index k [] before before at_root found

@@ -13,7 +13,7 @@ regrouped : (s keys word old new : List ℕ)
     ≡ s ++ (((line keys ++ line (codes "kind " ++ word)) ++ line (codes "old " ++ old)) ++ line (codes "new " ++ new))
 regrouped s keys word old new = simp append_assoc
 
--- what is pushed for a piece of evidence, part by part, is its four lines behind what was there
+-- what is pushed for a piece of evidence, part by part, is its four lines after what was there
 pub four_lines : (names : KeysymNames) (x : Evidence) (s a b c d e f g h word old new : List ℕ) → a ≡ s
     ++ keys_line names x.keys → b ≡ a ++ 10 ∷ codes "kind " → c ≡ b ++ word → word ≡ kind_word x.kind → d ≡ c ++ 10 ∷ codes "old "
     → e ≡ d ++ quote old → old ≡ x.old_text → f ≡ e ++ 10 ∷ codes "new " → g ≡ f ++ quote new → new ≡ x.new_text → h ≡ g ++ 10 ∷ [] → h ≡ s ++ explained names x

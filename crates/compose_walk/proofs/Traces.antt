@@ -47,12 +47,12 @@ node_short table p t h = elim (or_cases (same p []) (is_extended table p) (sym (
 -- ---- one key back
 
 module _ (names : KeysymNames) (old new : List Definition) (sound : is_table old ≡ true) (i : ℕ) (in_range : i < length (nodes old)) (agree : agrees names old new (node old i) ≡ true) where
-  -- its stand is there
+  -- its partner is there
   pub some_stand : (xs : List (Option Stand)) → xs ≡ map (stand names old new) (nodes old) → (o : Option Stand) → o ≡ get_or xs i o → o ≡ stand names old new (node old i)
   some_stand xs e o r =
       r ∙ ap (λ ys. get_or ys i o) e ∙ get_or-map (stand names old new) (nodes old) i [] o in_range
 
-  -- a node up to which the tables agree has a stand
+  -- a node up to which the tables agree has a partner
   pub is_there : is_some (stand names old new (node old i)) ≡ true
   is_there =
       ap
@@ -121,11 +121,12 @@ module _ (names : KeysymNames) (old new : List Definition) (sound : is_table old
 
 module _ (names : KeysymNames) (old new : List Definition) (p v : List ℕ) (k : ℕ) (hp : is_node old p ≡ true) (hv : is_node new v ≡ true) (together : v ≡ pending new p) (a b : KeyStep)
     (old_step : IsStep names old p k a) (new_step : IsStep names new v k b) where
-  -- where the tables differ at a key, the two steps of the program differ
+  -- if the tables differ at a key, the two steps of the program differ
   pub some_difference : differs_at names old new p k ≡ true → is_some (difference_of a b) ≡ true
   some_difference d = differs_alike names old new p v k a b hp hv together old_step new_step ∙ d
 
-  -- evidence with the node and the key as its keys, the kind in which the steps differ, and their texts is that of this place
+  -- evidence with the node and the key as its keys, the kind in which the steps differ, and their texts is that of this
+  -- place
   pub evidence_is : (x : Evidence) → x.keys ≡ p ++ k ∷ [] → ((found : Found_kind) → difference_of a b ≡ Some found → x.kind ≡ kind_of found) → x.old_text ≡ text_bytes a.text
       → x.new_text ≡ text_bytes b.text
       → (kind : Kind) → difference_at names old new p k ≡ Some kind → x ≡ evidence names old new p k kind

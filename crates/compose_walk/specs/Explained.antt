@@ -31,7 +31,7 @@ is_same_kind cancelled cancelled = true
 is_same_kind waiting waiting = true
 is_same_kind _ _ = false
 
--- how many are of this kind
+-- the number of differences of this kind
 abbrev pub count_of : Kind → List Evidence → ℕ
 count_of kind xs = length (filter (λ x. is_same_kind x.kind kind) xs)
 
@@ -39,14 +39,14 @@ count_of kind xs = length (filter (λ x. is_same_kind x.kind kind) xs)
 abbrev pub counted : ℕ → List ℕ → List ℕ
 counted n word = decimal n ++ 32 ∷ word
 
--- the word for so many differences
+-- the singular or the plural, as this number demands
 abbrev pub count_word : ℕ → List ℕ
 count_word n = if n == 1 then codes "difference" else codes "differences"
 
 abbrev pub kind_counted : Kind → List Evidence → List ℕ
 kind_counted kind xs = counted (count_of kind xs) (kind_word kind)
 
--- as `2 differences: 1 text, 1 cancelled, 0 waiting`
+-- such as `2 differences: 1 text, 1 cancelled, 0 waiting`
 abbrev pub count_line : List Evidence → List ℕ
 count_line xs =
     line (counted (length xs) (count_word (length xs)) ++ codes ": " ++ kind_counted text_differs xs ++ codes ", " ++ kind_counted cancelled xs ++ codes ", " ++ kind_counted waiting xs)
@@ -55,7 +55,7 @@ count_line xs =
 abbrev pub each_explained : KeysymNames → List Evidence → List ℕ
 each_explained names xs = flat_map (λ x. explained names x ++ line []) xs
 
--- and the line that counts them; or that the new table follows
+-- and the line that counts them; or `follows` if there is none
 abbrev pub all_explained : KeysymNames → List Evidence → List ℕ
 all_explained names [] = line (codes "follows")
 all_explained names (x ∷ xs) = each_explained names (x ∷ xs) ++ count_line (x ∷ xs)

@@ -1,4 +1,5 @@
--- What one pass over the nodes of the old table finds: up to which nodes the tables agree, and the keys at which they then differ. Words for private functions.
+-- What one pass over the nodes of the old table finds: up to which nodes the tables agree, and the keys at which they
+-- then differ. Definitions for private functions.
 use Rattle.std.specs.Prelude.{ℕ, Bool, true, not, ◌&&◌, if◌then◌else◌, List, [], ◌∷◌, ◌++◌, Option, is_some}
 use Rattle.std.specs.List.{filter}
 use Rattle.keysym_core.specs.Names.{KeysymNames}
@@ -24,17 +25,17 @@ agrees_from names old new u v (k ∷ w) =
 abbrev pub agrees : KeysymNames → List Definition → List Definition → List ℕ → Bool
 agrees names old new w = agrees_from names old new [] [] w
 
--- the edges of the old node p at which the tables differ, where they agree up to it
+-- the edges of the old node p at which the tables differ, if they agree up to it
 abbrev pub differing_edges : KeysymNames → List Definition → List Definition → List ℕ → List ℕ
 differing_edges names old new p = if agrees names old new p then filter (differs_at names old new p) (edges old p) else []
 
--- what begins in the new table alone, is not fresh, and differs
+-- it starts sequences in the new table alone, is not fresh, and differs
 abbrev pub is_differing_start : KeysymNames → List ℕ → List Definition → List Definition → ℕ → Bool
 is_differing_start names fresh old new k = not (has_edge old [] k) && (not (has_key fresh k) && differs_at names old new [] k)
 
 abbrev pub differing_starts : KeysymNames → List ℕ → List Definition → List Definition → List ℕ
 differing_starts names fresh old new = filter (is_differing_start names fresh old new) (edges new [])
 
--- the evidence that the key k after the node p is
+-- the evidence that the tables differ at the key k after the node p
 abbrev pub evidence : KeysymNames → List Definition → List Definition → List ℕ → ℕ → Kind → Evidence
 evidence names old new p k kind = record { keys = p ++ k ∷ []; kind = kind; old_text = (step names old p k).text; new_text = (step names new (pending new p) k).text }

@@ -1,4 +1,4 @@
--- What the pass keeps: for each old node what stands with it, and the keys that it found. Words for private functions.
+-- What the pass keeps: the partner of each old node, and the keys that it found. Definitions for private functions.
 use Rattle.std.specs.Prelude.{◌≡◌, ℕ, ◌+◌, ◌<◌, Bool, true, false, ◌&&◌, ◌||◌, ◌==◌, nat_lt, if◌then◌else◌, List, [], ◌∷◌, ◌++◌, length, map, flat_map, Option, Some, None, unwrap_or}
 use Rattle.keysym_core.specs.Keysym.{is_ignored}
 use Rattle.keysym_core.specs.Names.{KeysymNames}
@@ -22,7 +22,7 @@ last_key [] = 0
 last_key (k ∷ []) = k
 last_key (k ∷ j ∷ p) = last_key (j ∷ p)
 
--- what stands with the old node p, if the tables agree up to it
+-- the partner of the old node p, if the tables agree up to it
 abbrev pub stand : KeysymNames → List Definition → List Definition → List ℕ → Option Stand
 stand names old new p =
     if agrees names old new p then Some (record {
@@ -31,7 +31,8 @@ stand names old new p =
       keysym = last_key p;
     }) else None
 
--- the edge that leads to p was looked at: it is one of a node before the one with this number, or one of these keys at that node
+-- the edge that leads to p was visited: it is at a node before the one with this number, or is one of these keys at
+-- that node
 abbrev pub is_done : List Definition → ℕ → List ℕ → List ℕ → Bool
 is_done old i ks p = is_empty p || (nat_lt (number_of old (without_last p)) i || (number_of old (without_last p) == i && has_key ks (last_key p)))
 
@@ -42,11 +43,11 @@ stands_at names old new i ks = map (λ p. if is_done old i ks p then stand names
 abbrev pub found_at : List Definition → List ℕ → ℕ → Found
 found_at old p k = record { depth = length p; node = number_of old p; keysym = k }
 
--- those at the old node p
+-- the keys found at the old node p
 abbrev pub found_behind : KeysymNames → List Definition → List Definition → List ℕ → List Found
 found_behind names old new p = map (found_at old p) (differing_edges names old new p)
 
--- those among the new starts, and at these nodes
+-- the keys found among the new starts, and at these nodes
 abbrev pub all_found : KeysymNames → List ℕ → List Definition → List Definition → List (List ℕ) → List Found
 all_found names fresh old new ps = map (found_at old []) (differing_starts names fresh old new) ++ flat_map (found_behind names old new) ps
 
@@ -61,12 +62,12 @@ pub record IsPlace (names : KeysymNames) (old new : List Definition) (f : Found)
   pub differ : differs_at names old new (node old f.node) f.keysym ≡ true
   pub fed : is_ignored f.keysym ≡ false
 
--- the evidence that it is (where the tables do not differ, the kind says nothing)
+-- the evidence for it (if the tables do not differ, the kind is arbitrary)
 abbrev pub evidence_found : KeysymNames → List Definition → List Definition → Found → Evidence
 evidence_found names old new f =
     evidence names old new (node old f.node) f.keysym (unwrap_or (difference_at names old new (node old f.node) f.keysym) text_differs)
 
--- the nodes with a stand, numbered from n on, each with its new node
+-- the nodes with a partner, numbered from n on, each with its new node
 abbrev pub stand_pairs : ℕ → List (Option Stand) → List (ℕ × ℕ)
 stand_pairs n [] = []
 stand_pairs n (None ∷ xs) = stand_pairs (n + 1) xs

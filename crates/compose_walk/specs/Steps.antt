@@ -1,4 +1,4 @@
--- A step of the program and the model's step. Words for private functions.
+-- A step of the program and the model's step. Definitions for private functions.
 use Rattle.std.specs.Prelude.{◌≡◌, ℕ, not, ◌&&◌, ◌==◌, if◌then◌else◌, List, Option, Some, None}
 use Rattle.keysym_core.specs.Names.{KeysymNames}
 use Rattle.compose_model.specs.Table.{Definition, same}
@@ -14,7 +14,7 @@ abbrev pub text_bytes : KeyText → List ℕ
 text_bytes (Own own) = own.bytes
 text_bytes (Sequence text) = text.now
 
--- s is the step of the table at the key k where the node p is pending
+-- s is the step of the table at the key k when the node p is pending
 pub record IsStep (names : KeysymNames) (table : List Definition) (p : List ℕ) (k : ℕ) (s : KeyStep) : Type 0 where
   pub cancels : s.cancels ≡ is_cancel (step names table p k).effect
   pub text : text_bytes s.text ≡ (step names table p k).text

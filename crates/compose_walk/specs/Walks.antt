@@ -1,4 +1,4 @@
--- What a walk answers.
+-- The answer of a walk.
 use Rattle.std.specs.Prelude.{◌≡◌, ℕ, List}
 use Rattle.keysym_core.specs.Names.{KeysymNames}
 use Rattle.compose_model.specs.Table.{Definition}
@@ -8,7 +8,8 @@ use Rattle.compose_walk.specs.Evidence.{IsLeast}
 use Rattle.compose_walk.specs.declared.outcome.Walk.{Walk}
 use Rattle.compose_walk.specs.declared.outcome.Walk.TheVariants as walks
 
--- the new table follows, and these are the pairs of each old node and what is pending in the new table after it, which simulate
+-- the new table follows, and these are the pairs of each old node with what is pending in the new table after it; they
+-- simulate
 pub record IsFollower (names : KeysymNames) (fresh : List ℕ) (old new : List Definition) (pairs : List (ℕ × ℕ)) : Type 0 where
   pub follows : Follows names fresh old new
   pub pairs_are : pairs ≡ walked_pairs old new

@@ -5,7 +5,8 @@ ghost use Rattle.std.specs.Option.{option_copied};
 use crate::evidence::Counterexample;
 use std::marker::Model;
 
-/// All differences of two tables, the shortest first and those of one length in the order of their keys.
+/// All differences of two tables, the shortest first and those of the same length in the order of
+/// their keys.
 #[derive(Debug, Drop)]
 pub struct Differences {
     differences: Vec<Counterexample>,
@@ -21,35 +22,35 @@ impl Model for Differences {
 }
 
 impl Differences {
-    /// These differences. O(1).
+    /// Wraps these differences. O(1).
     pub(crate) fn new(differences: Vec<Counterexample>) -> Differences
         ensures { result ≡ differences.items }
     {
         Differences { differences }
     }
 
-    /// How many differences there are. O(1).
+    /// Returns the number of differences. O(1).
     pub fn count(&self) -> usize
         ensures { result ≡ length self.now }
     {
         self.differences.len()
     }
 
-    /// Whether there is none: the new table follows. O(1).
+    /// Whether there is no difference: the new table follows. O(1).
     pub fn is_empty(&self) -> bool
         ensures { IsTrue result ↔ (self.now ≡ []) }
     {
         self.differences.is_empty()
     }
 
-    /// The difference at this index, if there is one. O(1).
+    /// Returns the difference at this index, if there is one. O(1).
     pub fn get(&self, index: usize) -> Option<&Counterexample>
         ensures { option_copied result ≡ slice_get self.now index }
     {
         self.differences.get(index)
     }
 
-    /// The differences in order. O(1).
+    /// Returns the differences in order. O(1).
     pub fn as_slice(&self) -> &[Counterexample]
         ensures { result.now ≡ self.now }
     {

@@ -8,20 +8,24 @@ use std::marker::Model;
 /// How the tables differ at a key.
 #[derive(Clone, Copy, Debug, PartialEq, Eq, Drop)]
 pub enum Kind {
-    /// They commit other texts.
+    /// They commit different texts.
     Text,
     /// The new table cancels.
     Cancelled,
-    /// The old table rests, and something is pending in the new one.
+    /// The old table is at rest, and a key is pending in the new one.
     Waiting,
 }
 
-/// Keys at whose last one the tables differ first, and the texts that they commit there.
+/// Keys at whose last one the tables first differ, and the texts that they commit there.
 #[derive(Debug, Drop)]
 pub struct Counterexample {
+    /// The keys, from 1 to 32 of them. The tables differ at the last one.
     pub keys: ArrayVec<Keysym, 32>,
+    /// How the tables differ at the last key.
     pub kind: Kind,
+    /// The text that the old table commits at the last key, or nothing.
     pub old_text: ArrayString<255>,
+    /// The text that the new table commits at the last key, or nothing.
     pub new_text: ArrayString<255>,
 }
 

@@ -13,8 +13,9 @@ use keysym_core::{Keysym, Names};
 use std::alloc::{AllocError, Global};
 use std::fmt::Write;
 
-/// The four lines that tell a counterexample: the keys, how the tables differ at the last one, and the two texts.
-/// O(keys × look-up in the names + bytes of the texts).
+/// Returns a counterexample as four lines of text: the keys, how the tables differ at the last one,
+/// and the two texts. `Err(NoMemory)` if memory runs out. O(keys × look-up in the names + bytes of
+/// the texts).
 pub fn explain(
     alloc: Global,
     names: &Names,
@@ -28,9 +29,10 @@ pub fn explain(
     Ok(text)
 }
 
-/// All differences as text: four lines for each, with an empty line after them, and a last line that counts them, as
-/// `2 differences: 1 text, 1 cancelled, 0 waiting`. Where there is none, the one line `follows`.
-/// O(keys × look-up in the names + bytes of the texts).
+/// Returns all differences as text: four lines for each, with an empty line after them, and a last
+/// line that counts them, such as `2 differences: 1 text, 1 cancelled, 0 waiting`. If there is
+/// none, the only line is `follows`. `Err(NoMemory)` if memory runs out. O(keys × look-up in the
+/// names + bytes of the texts).
 pub fn explain_all(
     alloc: Global,
     names: &Names,
@@ -44,7 +46,7 @@ pub fn explain_all(
     Ok(text)
 }
 
-/// Appends all differences and their count to the text, or that there is none.
+/// Appends all differences and their count to the text, or the line that says that there is none.
 fn push_all(
     alloc: Global,
     text: &mut String,
@@ -97,7 +99,7 @@ fn push_count(text: &mut String, differences: &[Counterexample]) -> Result<(), A
     Ok(())
 }
 
-/// The word for so many differences.
+/// Returns `difference` or `differences`, as the count demands.
 fn count_word(count: usize) -> &'static str
     ensures { result.now ≡ count_word count }
 {
@@ -108,7 +110,7 @@ fn count_word(count: usize) -> &'static str
     }
 }
 
-/// How many of the differences are of this kind. O(n).
+/// Returns the number of differences of this kind. O(n).
 fn count_of(differences: &[Counterexample], kind: Kind) -> usize
     ensures { result ≡ count_of (kind_of kind) differences.now }
 {
@@ -175,7 +177,7 @@ fn push_printed(
     }
 }
 
-/// Appends the one text between quotes to the other one.
+/// Appends a text in quotes to the other one.
 fn push_quoted(alloc: Global, text: &mut String, inside: &str) -> Result<(), AllocError>
     ensures { IfOk result (λ _. string_bytes text.new ≡ string_bytes text.old ++ quote inside.now) }
 {
@@ -185,7 +187,7 @@ fn push_quoted(alloc: Global, text: &mut String, inside: &str) -> Result<(), All
     }
 }
 
-/// The word for a kind of difference.
+/// Returns the word for a kind of difference.
 fn word(kind: Kind) -> &'static str
     ensures { result.now ≡ kind_word (kind_of kind) }
 {

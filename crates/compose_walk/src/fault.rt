@@ -1,4 +1,4 @@
-//! Why no answer is made.
+//! Why a walk has no answer.
 use compose_fresh::CheckFault;
 use std::alloc::{AllocError, AllocFailed};
 use thiserror::Error;
@@ -6,10 +6,11 @@ use thiserror::Error;
 /// Why a walk has no answer.
 #[derive(Debug, PartialEq, Eq, Drop, Error)]
 pub enum MakeFault {
-    /// A growth was refused.
+    /// Memory ran out.
     #[error("1 NoMemory")]
     NoMemory,
-    /// The fresh keysyms do not rise, or one of them is ignored or stands in the old table.
+    /// The fresh keysyms are not in rising order, or one of them is ignored or occurs in the old
+    /// table.
     #[error("2 BadFresh: {0}")]
     BadFresh(CheckFault),
     /// There are more than 1,048,576 fresh keysyms.

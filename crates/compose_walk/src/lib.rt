@@ -1,8 +1,10 @@
-//! The walk through an old and a new compose table side by side: does the new one follow, and if not, where do they differ.
+//! The walk through an old and a new compose table side by side: does the new one follow, and if
+//! not, where do they differ?
 //!
-//! [`walk`] goes over pairs of nodes, shortest keys first. It gives the pairs that a certificate lists where the new table follows, and
-//! else a shortest list of keys at whose last one the tables differ, the first in order where several are equally short.
-//! [`differences`] gives every such list that has no other as a prefix; [`explain`] and [`explain_all`] print them.
+//! [`walk`] visits pairs of nodes, shortest keys first. If the new table follows, it returns the
+//! pairs that a certificate lists. Otherwise it returns a shortest list of keys at whose last one
+//! the tables differ, the first in order if several are equally short. [`differences`] returns
+//! every such list that has no other as a prefix; [`explain`] and [`explain_all`] print them.
 //!
 //! ```text
 //! differences(alloc, &old, &new, &names, &[])?    // old: <a> <b> : "x", new: <a> <b> : "y"
@@ -37,7 +39,8 @@ pub use pairs::Pairs;
 pub use step::{KeyStep, KeyText, difference, key_step};
 pub use walker::{differences, walk};
 
-/// Of all differences of two tables, in order, the first is the least counterexample; where there is none, the new table follows.
+/// The first of all differences of two tables, in order, is the least counterexample; if there is
+/// none, the new table follows.
 pub fn law_differences()
     ensures first { (names : KeysymNames) (fresh : List ℕ) (old new : List Definition)
         (x : Evidence) (xs : List Evidence) → IsTrue (is_table old) → IsTrue (is_table new)

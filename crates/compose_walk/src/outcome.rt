@@ -1,11 +1,12 @@
-//! What a walk gives.
+//! The result of a walk.
 use crate::evidence::Counterexample;
 use crate::pairs::Pairs;
 
-/// What a walk through an old and a new table gives.
+/// The result of a walk through an old and a new table.
 #[derive(Debug, Drop)]
 pub enum Walk {
-    /// The new table follows: each old node, in order, with the new node that is pending after its keys.
+    /// The new table follows: each old node, in order, with the new node that is pending after its
+    /// keys.
     Follows(Pairs),
     /// It does not: the least of the shortest counterexamples.
     Differs(Counterexample),

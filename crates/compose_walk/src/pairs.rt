@@ -3,7 +3,7 @@ ghost use Rattle.std.specs.Prelude.{◌≡◌, ◌<◌, ◌++◌, ◌∷◌, [],
 
 use std::marker::Model;
 
-/// Pairs of the number of an old node and that of a new one.
+/// Pairs of an old node's number and a new node's number.
 #[derive(Debug, Drop)]
 pub struct Pairs {
     pairs: Vec<(u32, u32)>,
@@ -18,21 +18,21 @@ impl Model for Pairs {
 }
 
 impl Pairs {
-    /// These pairs. O(1).
+    /// Wraps these pairs. O(1).
     pub fn new(pairs: Vec<(u32, u32)>) -> Pairs
         ensures { result ≡ pairs.items }
     {
         Pairs { pairs }
     }
 
-    /// The pairs. O(1).
+    /// Returns the pairs. O(1).
     pub fn as_slice(&self) -> &[(u32, u32)]
         ensures { result.now ≡ self.now }
     {
         self.pairs.as_slice()
     }
 
-    /// Gives the pairs back. O(1).
+    /// Returns the pairs as a vector. O(1).
     pub fn into_vec(self) -> Vec<(u32, u32)>
         ensures { result.items ≡ self }
     {

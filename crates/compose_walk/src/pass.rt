@@ -1,4 +1,5 @@
-//! One pass over the old nodes in the order of their numbers, with the new node that stands with each.
+//! One pass over the old nodes in the order of their numbers, with the new node that is paired with
+//! each.
 ghost use Rattle.std.specs.Prelude.{◌≡◌, ◌<◌, ◌+◌, ◌++◌, ◌∷◌, [], ℕ, List, Some, true, IsTrue, length, map, take, slice_get, OnOk, IfOk, IfErr};
 ghost use Rattle.std.specs.List.{filter};
 ghost use Rattle.std.specs.List.Sorted.{IsPermutation, IsSortedBy};
@@ -18,20 +19,26 @@ use compose_tree::{ComposeTable, NodeId, Target};
 use keysym_core::{Keysym, Names};
 use std::alloc::Global;
 
-/// What stands with an old node up to which the tables agree: the new node that is then pending, and the old node and the
-/// keysym that lead to it (of the root: the root, and any keysym).
+/// The partner of an old node up to which the tables agree: the new node that is then pending, and
+/// the old node and the keysym that lead to the old node (for the root: the root, and any keysym).
 #[derive(Clone, Copy)]
 pub struct Stand {
+    /// The new node that is pending after the old node's keys.
     pub new_node: NodeId,
+    /// The old node from which the keysym leads to this one.
     pub parent: NodeId,
+    /// The last keysym of the old node's keys.
     pub keysym: Keysym,
 }
 
-/// A key at which the tables differ first, typed at an old node with so many keysyms.
+/// A key at which the tables first differ, typed at an old node.
 #[derive(Clone, Copy)]
 pub struct Found {
+    /// The number of keysyms that lead to the old node.
     pub depth: u32,
+    /// The number of the old node, counted from 0.
     pub node: u32,
+    /// The key at which the tables differ.
     pub keysym: Keysym,
 }
 
@@ -50,15 +57,17 @@ impl Found {
     }
 }
 
-/// What the pass knows of each old node, and where the tables differ.
+/// What the pass knows of each old node, and the keys at which the tables differ.
 #[derive(Drop)]
 pub struct Pass {
+    /// For each old node, by its number, its partner, if the tables agree up to it.
     pub stands: Vec<Option<Stand>>,
+    /// The keys at which the tables differ.
     pub found: Vec<Found>,
 }
 
 impl Pass {
-    /// Looks at one edge of an old node, which stands with the new node.
+    /// Visits one edge of an old node, which is paired with the new node.
     fn take_edge<T: ComposeTable, U: ComposeTable>(
         &mut self,
         old: &T,
@@ -125,7 +134,8 @@ impl Pass {
         Ok(())
     }
 
-    /// Looks at each edge of an old node, which stands with the new node. O(edges of the node × log edges of the new node).
+    /// Visits each edge of an old node, which is paired with the new node. O(edges of the node ×
+    /// log edges of the new node).
     fn take_node<T: ComposeTable, U: ComposeTable>(
         &mut self,
         old: &T,
@@ -160,7 +170,8 @@ impl Pass {
         Ok(())
     }
 
-    /// The pass before the first node: the new starts that differ, and the roots side by side.
+    /// Begins the pass before the first node: with the new starts that differ, and with the roots
+    /// paired.
     fn begin<T: ComposeTable, U: ComposeTable>(
         alloc: Global,
         old: &T,
@@ -192,7 +203,8 @@ impl Pass {
         Ok(Pass { stands, found })
     }
 
-    /// The whole pass. O(edges × log edges); 16 bytes a node, and 12 a key that differs.
+    /// Makes the whole pass. `Err(NoMemory)` if memory runs out. O(edges × log edges); 16 bytes per
+    /// node, and 12 per key that differs.
     pub fn run<T: ComposeTable, U: ComposeTable>(
         alloc: Global,
         old: &T,
@@ -223,7 +235,8 @@ impl Pass {
         Ok(pass)
     }
 
-    /// Puts what was found in order: those with fewer keys first, and of as many the first in order. O(n log n).
+    /// Puts the found keys in order: those after fewer keys first, and of the same number those
+    /// that are first in order. O(n log n).
     pub fn sort_found(&mut self)
         ensures stands { self.new.stands.items ≡ self.old.stands.items }
         ensures same { IsPermutation self.old.found.items self.new.found.items }
@@ -234,7 +247,8 @@ impl Pass {
     }
 }
 
-/// What begins in the new table alone, is not fresh, and differs, in rising order. O(edges of the new root × log edges).
+/// Finds the keys that start sequences in the new table alone, are not fresh, and differ, in rising
+/// order. O(edges of the new root × log edges).
 fn find_new_starts<T: ComposeTable, U: ComposeTable>(
     alloc: Global,
     old: &T,
@@ -266,7 +280,8 @@ fn find_new_starts<T: ComposeTable, U: ComposeTable>(
     Ok(found)
 }
 
-/// Whether the edge of the new root begins what the old table does not have, is not fresh, and differs.
+/// Whether the edge of the new root starts sequences that the old table does not have, is not
+/// fresh, and differs.
 fn is_differing_start<T: ComposeTable, U: ComposeTable>(
     old: &T,
     new: &U,

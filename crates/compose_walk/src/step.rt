@@ -18,12 +18,14 @@ use keysym_core::{Keysym, Names};
 /// The text that a key commits: its own, or that of a sequence.
 #[derive(Clone, Copy)]
 pub enum KeyText<'t> {
+    /// The key's own text.
     Own(ArrayString<4>),
+    /// The text of a sequence that the key completes, or nothing.
     Sequence(&'t str),
 }
 
 impl KeyText<'_> {
-    /// The text.
+    /// Returns the text.
     pub fn as_str(&self) -> &str
         ensures { result.now ≡ text_bytes self.now }
     {
@@ -34,15 +36,19 @@ impl KeyText<'_> {
     }
 }
 
-/// What a key does to a table: whether it cancels, the text that it commits, and the node that is pending then.
+/// What a key does to a table: whether it cancels, the text that it commits, and the node that is
+/// pending afterwards.
 #[derive(Clone, Copy)]
 pub struct KeyStep<'t> {
+    /// Whether the key cancels a sequence.
     pub cancels: bool,
+    /// The text that the key commits.
     pub text: KeyText<'t>,
+    /// The node that is pending after the key; the root at rest.
     pub next: NodeId,
 }
 
-/// The text of the key itself. At the cost of one look-up in the names.
+/// Returns the text of the key itself. It costs one look-up in the names.
 pub fn own_text(names: &Names, key: Keysym) -> ArrayString<4>
     ensures text { result.bytes ≡ text names.now key }
     ensures short { length result.bytes ≤ 4 }
@@ -54,7 +60,8 @@ pub fn own_text(names: &Names, key: Keysym) -> ArrayString<4>
     own
 }
 
-/// What the key, which has this target there, does to the table at the node. O(1), and at the root a look-up in the names.
+/// Returns what the key does to the table at the node. `target` is where the key leads from the
+/// node, if it leads anywhere. O(1), and at the root a look-up in the names.
 pub fn key_step<'t, T: ComposeTable>(
     table: &'t T,
     names: &Names,
@@ -99,7 +106,7 @@ pub fn key_step<'t, T: ComposeTable>(
     }
 }
 
-/// How the steps of the two tables differ, if they do. O(bytes of the texts).
+/// Returns how the steps of the two tables differ, if they do. O(bytes of the texts).
 pub fn difference(old: &KeyStep<'_>, new: &KeyStep<'_>) -> Option<Kind>
     ensures { result ≡ difference_of old.now new.now }
 {

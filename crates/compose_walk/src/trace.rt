@@ -1,4 +1,4 @@
-//! From a key that the pass found to the evidence that it is.
+//! From a key that the pass found to the evidence for it.
 ghost use Rattle.std.specs.Prelude.{◌≡◌, ◌<◌, ◌≤◌, ◌++◌, ◌∷◌, [], Some, true, false, IsTrue, IsSome, IfOk, IfErr, length, map};
 ghost use Rattle.std.specs.List.{All};
 ghost use Rattle.keysym_core.specs.Keysym as keysyms;
@@ -21,7 +21,8 @@ use keysym_core::{Keysym, Names};
 use std::alloc::Global;
 
 impl Pass {
-    /// The evidence that a key is at which the tables differ. O(keys²), and a look-up among the edges of each table.
+    /// Returns the evidence that the tables differ at a key that was found. O(keys²), and a look-up
+    /// among the edges of each table.
     pub fn evidence<T: ComposeTable, U: ComposeTable>(
         &self,
         old: &T,
@@ -59,7 +60,8 @@ impl Pass {
         counterexample(keys, &old_step, &new_step)
     }
 
-    /// The evidence of each key that was found, in their order. O(found × (keys² + log edges)); 672 bytes each.
+    /// Collects the evidence for each key that was found, in their order. `Err(NoMemory)` if memory
+    /// runs out. O(found × (keys² + log edges)); 672 bytes each.
     pub fn all_evidence<T: ComposeTable, U: ComposeTable>(
         &self,
         alloc: Global,
@@ -88,7 +90,7 @@ impl Pass {
         Ok(differences)
     }
 
-    /// The keysyms that lead to the old node of the key, and the key. O(keys²).
+    /// Returns the keysyms that lead to the key's old node, and the key. O(keys²).
     fn keys_to<T: ComposeTable, U: ComposeTable>(
         &self,
         _old: &T,
@@ -119,7 +121,7 @@ impl Pass {
     }
 }
 
-/// The counterexample of these keys, at whose last one the tables take these steps.
+/// Makes a counterexample of these keys, at whose last one the tables take these steps.
 fn counterexample(
     keys: ArrayVec<Keysym, 32>,
     old_step: &KeyStep<'_>,

@@ -18,10 +18,12 @@ use compose_tree::ComposeTable;
 use keysym_core::{Keysym, Names};
 use std::alloc::Global;
 
-/// Walks through both tables, but for what begins with a fresh keysym.
+/// Walks through both tables, except for what begins with a fresh keysym. O(edges × log edges)
+/// time; 16 bytes per old node, 12 per key that differs, and 8 per pair.
 ///
-/// `BadFresh` and `TooManyFresh` come before any memory is taken. O(edges × log edges) time; 16 bytes an old node, 12 a key
-/// that differs, and 8 a pair.
+/// # Errors
+/// `BadFresh` if the keysyms are not fresh for the old table, and `TooManyFresh` if there are more
+/// than 1,048,576, both before any memory is taken. `NoMemory` if memory runs out.
 pub fn walk<T: ComposeTable, U: ComposeTable>(
     alloc: Global,
     old: &T,
@@ -44,11 +46,14 @@ pub fn walk<T: ComposeTable, U: ComposeTable>(
     walk_accepted(alloc, old, new, names, fresh)
 }
 
-/// All differences of the tables, but for what begins with a fresh keysym: the shortest first, and those of one length in the
-/// order of their keys.
+/// Finds all differences of the tables, except for what begins with a fresh keysym: the shortest
+/// first, and those of the same length in the order of their keys. O(edges × log edges +
+/// differences × (keys² + log edges + log differences)) time; 16 bytes per old node, and 684 per
+/// difference.
 ///
-/// `BadFresh` and `TooManyFresh` come before any memory is taken. O(edges × log edges + differences × (keys² + log edges +
-/// log differences)) time; 16 bytes an old node, and 684 a difference.
+/// # Errors
+/// `BadFresh` if the keysyms are not fresh for the old table, and `TooManyFresh` if there are more
+/// than 1,048,576, both before any memory is taken. `NoMemory` if memory runs out.
 pub fn differences<T: ComposeTable, U: ComposeTable>(
     alloc: Global,
     old: &T,
@@ -71,7 +76,11 @@ pub fn differences<T: ComposeTable, U: ComposeTable>(
     differences_accepted(alloc, old, new, names, fresh)
 }
 
-/// Refuses keysyms that are not fresh for the old table, or too many of them.
+/// Checks that the keysyms are fresh for the old table.
+///
+/// # Errors
+/// `BadFresh` if they are not: the first condition that is not met. `TooManyFresh` if there are
+/// more than 1,048,576.
 pub fn accept_fresh<T: ComposeTable>(old: &T, fresh: &[Keysym]) -> Result<(), MakeFault>
     ensures bad_fresh { (fault : CheckFault)
         → first_unmet (fresh_conditions (T.definitions old.now) fresh.now) ≡ Some fault
@@ -91,7 +100,7 @@ pub fn accept_fresh<T: ComposeTable>(old: &T, fresh: &[Keysym]) -> Result<(), Ma
     Ok(())
 }
 
-/// The walk, once the keysyms are known to be fresh.
+/// Walks, once the keysyms are known to be fresh.
 fn walk_accepted<T: ComposeTable, U: ComposeTable>(
     alloc: Global,
     old: &T,
@@ -114,7 +123,7 @@ fn walk_accepted<T: ComposeTable, U: ComposeTable>(
     Ok(Walk::Differs(pass.evidence(old, new, names, least)))
 }
 
-/// The differences, once the keysyms are known to be fresh.
+/// Finds the differences, once the keysyms are known to be fresh.
 fn differences_accepted<T: ComposeTable, U: ComposeTable>(
     alloc: Global,
     old: &T,
@@ -135,7 +144,7 @@ fn differences_accepted<T: ComposeTable, U: ComposeTable>(
     Ok(Differences::new(differences))
 }
 
-/// The pairs of the old nodes that have a new node with them. O(nodes).
+/// Collects the pairs of the old nodes that have a partner. O(nodes).
 fn pairs_of(alloc: Global, stands: &[Option<Stand>]) -> Result<Pairs, MakeFault>
     requires { length stands.now < 2 ^ 32 }
     ensures pairs { IfOk result (λ pairs. pairs ≡ stand_pairs 0 stands.now) }
@@ -150,7 +159,7 @@ fn pairs_of(alloc: Global, stands: &[Option<Stand>]) -> Result<Pairs, MakeFault>
     Ok(Pairs::new(pairs))
 }
 
-/// The index of the one with the fewest keys, and of these the first in order. O(n).
+/// Returns the index of the one with the fewest keys, and of several the first in order. O(n).
 fn least_of(found: &[Found]) -> usize
     requires { 0 < length found.now }
     ensures { IsFirstBest comes_sooner found.now (length found.now) result }

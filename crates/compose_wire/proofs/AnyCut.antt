@@ -1,4 +1,4 @@
--- A stream's requests do not depend on its pieces.
+-- The requests of a stream do not depend on its pieces.
 use Rattle.std.proofs.Common.{◌≡◌, ℕ, List, [], ◌∷◌, ◌++◌, sym, ◌∙◌, ap, append_assoc, append-nil}
 use Rattle.std.specs.List.{AllByRecursion}
 use Rattle.compose_wire.specs.Messages.{Fits}
@@ -11,7 +11,7 @@ all_fit [] held held' l = tt
 all_fit (takes piece ∷ turns) held held' l = all_fit turns (held ++ piece) held' l
 all_fit (gives q ∷ turns) held held' l = (l.0, all_fit turns l.1.0 held' l.1.2)
 
--- what was held and taken in is what was given out and is held
+-- the bytes held and received are those returned and held
 conserved : (turns : List Turn) (held held' : List ℕ) → Leads held turns held' → held ++ stream_of turns ≡ frames (requests_of turns) ++ held'
 conserved [] held held' l = append-nil held ∙ l
 conserved (takes piece ∷ turns) held held' l = sym (append_assoc held piece (stream_of turns)) ∙ conserved turns (held ++ piece) held' l
@@ -19,7 +19,8 @@ conserved (gives q ∷ turns) held held' l =
     ap (λ h. h ++ stream_of turns) l.1.1 ∙ append_assoc (frame q) l.1.0 (stream_of turns)
     ∙ ap (λ x. frame q ++ x) (conserved turns l.1.0 held' l.1.2) ∙ sym (append_assoc (frame q) (frames (requests_of turns)) held')
 
--- one stream gives the same requests, and leaves the same bytes, however it is cut, once each has given out all that are whole
+-- the same stream leads to the same requests, and leaves the same bytes, however it is cut, once each side has returned
+-- all that are whole
 pub any_cut : (turns turns' : List Turn) (held held' : List ℕ) → Leads [] turns held → Leads [] turns' held' → stream_of turns ≡ stream_of turns'
     → (BeginsWithFrame held → ⊥) → (BeginsWithFrame held' → ⊥) → (requests_of turns ≡ requests_of turns') × (held ≡ held')
 any_cut turns turns' held held' l l' e n n' =

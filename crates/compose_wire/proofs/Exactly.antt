@@ -1,4 +1,4 @@
--- What is given out, read from the held bytes.
+-- What is returned depends only on the held bytes.
 use Rattle.std.proofs.Common.{◌≡◌, ℕ, List, ◌++◌, refl, sym, ◌∙◌, ap, subst}
 use Rattle.std.specs.Prelude.{Option, Some, None, Result, Ok, Err}
 use Rattle.compose_wire.specs.Messages.{Request as RequestValue, Fits}
@@ -11,11 +11,11 @@ use Rattle.compose_wire.proofs.OneFrame.{one_frame}
 use Rattle.compose_wire.proofs.NextFrame.{no_fault}
 
 module _ (held held' : List ℕ) where
-  -- a frame that stands is no fault
+  -- a whole frame is no fault
   frame_or_fault : (q : RequestValue) (more : List ℕ) → Fits q → held ≡ frame q ++ more → (fault : Fault) → fault_at held ≡ Some fault → ⊥
   frame_or_fault q more f e fault w = let n : None ≡ Some fault = sym (no_fault q more f) ∙ ap fault_at (sym e) ∙ w in cc
 
-  -- held bytes that begin with a frame give its request, or nothing where a load wants memory
+  -- if the held bytes begin with a frame, its request is returned, or an error if a load needs memory
   pub gives_request : (r : Result (Option Request) WireFault) → Gives r held held' → (q : RequestValue) (more : List ℕ) → Fits q → held ≡ frame q ++ more → GivesRequest q more r held'
   gives_request (Ok (Some p)) so q more f e = one_frame _ q held' more so.0 f (sym so.1 ∙ e)
   gives_request (Ok None) so q more f e = absurd (so.0.no_frame (q, more, f, e))
@@ -26,7 +26,7 @@ module _ (held held' : List ℕ) where
       let same = one_frame so.0.0 q so.0.1 more so.0.2 f (sym so.0.4 ∙ e) in
       (subst (λ (p : RequestValue). IsLoaded p.body) same.0 so.0.3, so.1 ∙ e)
 
-  -- held bytes that begin with a fault give that fault
+  -- if the held bytes begin with a fault, that fault is returned
   pub gives_fault : (r : Result (Option Request) WireFault) → Gives r held held' → (fault : Fault) → fault_at held ≡ Some fault → r ≡ Err (wire_fault fault)
   gives_fault (Ok (Some p)) so fault w = absurd (frame_or_fault _ held' so.0 so.1 fault w)
   gives_fault (Ok None) so fault w = let n : None ≡ Some fault = sym so.0.no_fault ∙ w in cc
@@ -35,7 +35,7 @@ module _ (held held' : List ℕ) where
   gives_fault (Err TooLong) so fault w = let n : Some _ ≡ Some fault = sym so.0 ∙ w in cc
   gives_fault (Err NoMemory) so fault w = absurd (frame_or_fault so.0.0 so.0.1 so.0.2 so.0.4 fault w)
 
-  -- held bytes that are less than a frame, and have no fault, give nothing
+  -- if the held bytes are less than a frame and have no fault, nothing is returned
   pub gives_none : (r : Result (Option Request) WireFault) → Gives r held held' → IsBegun held → r ≡ Ok None
   gives_none (Ok (Some p)) so b = absurd (b.no_frame (_, held', so.0, so.1))
   gives_none (Ok None) so b = refl

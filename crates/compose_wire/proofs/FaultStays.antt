@@ -1,4 +1,4 @@
--- A fault stays where more bytes come.
+-- A fault stays if more bytes come.
 use Rattle.std.proofs.Common.{◌≡◌, ℕ, ◌≤◌, List, [], ◌∷◌, ◌++◌, Bool, true, false, cond, not, length, take, drop, inl, inr, sym, ◌∙◌, ap, arith, length-append, length-drop}
 use Rattle.std.specs.Prelude.{Option, Some, None, nat_lt}
 use Rattle.std.specs.Int.{from_be_bytes, w32}
@@ -7,17 +7,17 @@ use Rattle.std.proofs.lemmas.List.{take-append-le, drop-append-le}
 use Rattle.compose_text.specs.Numbers.{is_between}
 use Rattle.compose_wire.specs.Frames.{Fault, fault_at, length_fault, unknown_kind}
 
--- the fault of a kind and the bytes behind it, by the two tests
+-- the fault of a kind and the bytes after it, by the two tests
 told : ℕ → List ℕ → Bool → Bool → Option Fault
 told kind rest known short = cond (not known) (Some unknown_kind) (cond short None (length_fault kind (from_be_bytes w32 (take 4 (drop 4 rest)))))
 
--- four bytes that stand are not changed by those that follow
+-- four bytes are not changed by those that follow
 length_stays : (rest more : List ℕ) → 8 ≤ length rest → take 4 (drop 4 (rest ++ more)) ≡ take 4 (drop 4 rest)
 length_stays rest more l =
     let long : 4 ≤ length (drop 4 rest) = omega (arith, length-drop 4 rest) in
     ap (take 4) (drop-append-le 4 rest more (omega arith)) ∙ take-append-le 4 (drop 4 rest) more long
 
--- the fault that bytes begin with stays where more bytes come
+-- a fault at the beginning of bytes stays if more bytes come
 pub fault_stays : (held more : List ℕ) (fault : Fault) → fault_at held ≡ Some fault → fault_at (held ++ more) ≡ Some fault
 unfolding told
 fault_stays [] more fault e = cc

@@ -1,4 +1,4 @@
--- The request that bytes begin with.
+-- The request at the beginning of the bytes.
 use Rattle.std.proofs.Common.{◌≡◌, ℕ, ◌+◌, ◌*◌, ◌≤◌, List, [], ◌∷◌, ◌++◌, length, take, drop, get_or, refl, sym, ◌∙◌, ap, ap₂, subst, arith}
 use Rattle.std.specs.Int.{to_be_bytes, from_be_bytes, w32}
 use Rattle.std.proofs.Math.Seq.{take-append_seam, drop-append_seam}
@@ -9,7 +9,7 @@ use Rattle.std.specs.Prelude.{Some, Ok}
 use Rattle.compose_wire.specs.Feeding.{IsSize, body_at, request_at, IsLoaded, BeginsWithLoad}
 use Rattle.compose_wire.proofs.OneFrame.{body_again, payload_fits}
 
--- what a frame begins with is read from it again
+-- the request read from bytes that begin with a frame, and its frame
 pub record IsRead (held : List ℕ) : Type 0 where
   pub fits : Fits (request_at held)
   pub is : held ≡ frame (request_at held) ++ drop (9 + size_said held) held
@@ -38,11 +38,11 @@ module _ (q : Request) (more : List ℕ) (f : Fits q) where
     is = ap₂ (λ (r : Request) (x : List ℕ). frame r ++ x) (sym request_again) (sym rest_again);
   }
 
--- the request with whose frame held bytes begin is the one that is read of them
+-- if held bytes begin with the frame of a request, that request is read from them
 pub is_read : (held : List ℕ) → BeginsWithFrame held → IsRead held
 is_read held b = subst (λ (h : List ℕ). IsRead h) (sym b.3) (read_again b.0 b.1 b.2)
 
--- the four bytes behind the kind are the session
+-- the four bytes after the kind are the session
 pub session_read : (h : List ℕ) → 9 ≤ length h → get_or h 1 0 * 16777216 + get_or h 2 0 * 65536 + get_or h 3 0 * 256 + get_or h 4 0 ≡ from_be_bytes w32 (take 4 (drop 1 h))
 session_read [] l = absurd (omega arith)
 session_read (k ∷ []) l = absurd (omega arith)
@@ -64,7 +64,7 @@ module _ (h : List ℕ) (n session : ℕ) (body : Body) (sized : IsSize (Ok (Som
         let same_body : body ≡ body_at (get_or h 0 0) (take (size_said h) (drop 9 h)) = says ∙ ap (λ m. body_at (get_or h 0 0) (take m (drop 9 h))) sized.1 in
         λ i. record { session = same_session i; body = same_body i }
 
-    -- what is read behind the size of a whole frame is its request, and the bytes begin with that frame
+    -- the session and the body that are read from a whole frame are its request, and the bytes begin with that frame
     pub first_stands : Fits (record { session = session; body = body }) × (h ≡ frame (record { session = session; body = body }) ++ drop (9 + n) h) × (9 + n ≤ length h)
     first_stands =
         let r = is_read h sized.0 in (
@@ -73,7 +73,7 @@ module _ (h : List ℕ) (n session : ℕ) (body : Body) (sized : IsSize (Ok (Som
           sized.2,
         )
 
--- where memory is wanted for the payload, a load stands
+-- if memory is needed for the payload, the bytes begin with a load
 pub load_stands : (h : List ℕ) (n : ℕ) → IsSize (Ok (Some n)) h → IsLoaded (body_at (get_or h 0 0) (take n (drop 9 h))) → BeginsWithLoad h
 load_stands h n sized loaded =
     let r = is_read h sized.0 in (

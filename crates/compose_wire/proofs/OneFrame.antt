@@ -1,4 +1,4 @@
--- A frame's bytes say which request it is, and where it ends.
+-- The bytes of a frame determine its request and where it ends.
 use Rattle.std.proofs.Common.{◌≡◌, ℕ, ◌<◌, ◌^◌, List, [], ◌∷◌, ◌++◌, length, refl, sym, ◌∙◌, ap, ap₂, arith}
 use Rattle.std.specs.Int.{to_be_bytes, from_be_bytes, w32}
 use Rattle.std.proofs.lemmas.Nat.{from_be_bytes-to_be_bytes_4}
@@ -26,7 +26,7 @@ payload_fits close f = omega arith
 payload_fits (load rule bytes) f = let l = f.0 in omega arith
 payload_fits ask f = omega arith
 
--- lists as long, and what follows them
+-- lists of the same length, and what follows them
 pub parted : (a b x y : List ℕ) → length a ≡ length b → a ++ x ≡ b ++ y → (a ≡ b) × (x ≡ y)
 parted [] [] x y l e = (refl, e)
 parted [] (j ∷ b) x y l e = absurd (omega arith)
@@ -37,7 +37,7 @@ parted (i ∷ a) (j ∷ b) x y l e =
     let r = parted a b x y (omega arith) tails in
     (ap₂ (λ h t. h ∷ t) heads r.0, r.1)
 
--- bytes begin with the frame of at most one request, and are the same behind it
+-- bytes begin with the frame of at most one request, and what follows it is the same
 pub one_frame : (q r : Request) (x y : List ℕ) → Fits q → Fits r → frame q ++ x ≡ frame r ++ y → (q ≡ r) × (x ≡ y)
 one_frame q r x y f g e =
     let kinds : kind_of q.body ≡ kind_of r.body = cc in

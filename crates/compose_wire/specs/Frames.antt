@@ -19,13 +19,13 @@ kind_of (load Refuse bytes) = 5
 kind_of ask = 6
 kind_of (load Longest bytes) = 7
 
--- a key's keysym in four bytes, what a load carries, and else nothing
+-- a key's keysym in four bytes, the payload of a load, or else nothing
 abbrev pub payload : Body → List ℕ
 payload (key k) = to_be_bytes w32 k
 payload (load rule bytes) = bytes
 payload _ = []
 
--- a kind, a session, a length and so many bytes
+-- a kind, a session, the number of the bytes, and the bytes
 abbrev pub frame_of : ℕ → ℕ → List ℕ → List ℕ
 frame_of kind session bytes = kind ∷ to_be_bytes w32 session ++ to_be_bytes w32 (length bytes) ++ bytes
 
@@ -38,19 +38,20 @@ frames qs = flat_map frame qs
 
 -- ---- faults
 
--- what can be wrong with the next frame
+-- the faults of a frame
 pub data Fault : Type 0 where
   unknown_kind : Fault
   bad_length : Fault
   too_long : Fault
 
--- a load may have up to the greatest payload; a key has four bytes, and the others have none
+-- a load may have up to the largest payload; a key has four bytes, and the others have none
 abbrev pub length_fault : ℕ → ℕ → Option Fault
 length_fault kind n =
     if kind == 5 || kind == 7 then (if nat_lt max_payload n then Some too_long else None) else
     if n == (if kind == 2 then 4 else 0) then None else Some bad_length
 
--- the fault that the bytes begin with: an unknown kind as soon as it stands, a wrong length as soon as the nine bytes of the head stand
+-- the fault at the beginning of the bytes: an unknown kind from the first byte on, a wrong length from the nine bytes
+-- of the head on
 abbrev pub fault_at : List ℕ → Option Fault
 fault_at [] = None
 fault_at (kind ∷ rest) =
@@ -76,8 +77,8 @@ answer_kind (loaded count) = 0x85
 answer_kind (state status pending) = 0x86
 answer_kind (refused why) = 0xff
 
--- the status, whether the key was accepted, and the text; the count in eight bytes; the status, the number of pending keysyms and each in
--- four bytes; the code in two bytes; and else nothing
+-- the status, whether the key was accepted, and the text; the count in eight bytes; the status, the number of pending
+-- keysyms, and each in four bytes; the code in two bytes; or else nothing
 abbrev pub answer_payload : Answer → List ℕ
 answer_payload (fed status accepted text) = status_byte status ∷ (if accepted then 1 else 0) ∷ text
 answer_payload (loaded count) = to_be_bytes w64 count
@@ -89,21 +90,21 @@ answer_payload _ = []
 abbrev pub reply_bytes : Reply → List ℕ
 reply_bytes r = frame_of (answer_kind r.answer) r.session (answer_payload r.answer)
 
--- ---- what the bytes on a stream begin with
+-- ---- the beginning of the bytes of a stream
 
 -- the bytes begin with the frame of some request
 abbrev pub BeginsWithFrame : List ℕ → Type 0
 BeginsWithFrame bytes = (q : Request) × (more : List ℕ) × Fits q × (bytes ≡ frame q ++ more)
 
--- the bytes, if there are any, are less than a frame, and begin with no fault
+-- the bytes are less than a frame, perhaps none, and begin with no fault
 pub record IsBegun (bytes : List ℕ) : Type 0 where
   pub no_fault : fault_at bytes ≡ None
   pub no_frame : BeginsWithFrame bytes → ⊥
 
--- how many bytes of payload the head of a frame says
+-- the length of the payload by the head of a frame
 abbrev pub size_said : List ℕ → ℕ
 size_said bytes = from_be_bytes w32 (take 4 (drop 5 bytes))
 
--- the greatest frame
+-- the length of the largest frame
 abbrev pub max_frame : ℕ
 max_frame = 8388617

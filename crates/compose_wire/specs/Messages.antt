@@ -4,22 +4,22 @@ use Rattle.std.specs.List.{AllByRecursion}
 use Rattle.compose_model.specs.declared.Status.{Status}
 use Rattle.compose_model.specs.declared.Rule.{Rule}
 
--- what a request asks
+-- what a request asks for
 pub data Body : Type 0 where
   open_session : Body
   key : ℕ → Body
   reset : Body
   close : Body
-  -- what is done with overlaps, and the payload
+  -- the rule for overlaps, and the payload
   load : Rule → List ℕ → Body
   ask : Body
 
--- the session of a load is repeated, and not looked at
+-- the session of a load is repeated in its reply, and else ignored
 pub record Request : Type 0 where
   pub session : ℕ
   pub body : Body
 
--- why a request is refused; the number is its code
+-- why a request is refused
 pub data Refusal : Type 0 where
   session_taken : Refusal
   no_session : Refusal
@@ -32,7 +32,7 @@ pub data Refusal : Type 0 where
   no_memory : Refusal
   malformed : Refusal
 
--- the number that a reply carries
+-- the number of a refusal in a reply
 abbrev pub code : Refusal → ℕ
 code session_taken = 1
 code no_session = 2
@@ -45,16 +45,16 @@ code verdict_no = 8
 code no_memory = 9
 code malformed = 10
 
--- what a reply says
+-- the content of a reply
 pub data Answer : Type 0 where
   opened : Answer
   -- the status, whether the key was accepted, and the text
   fed : Status → Bool → List ℕ → Answer
   was_reset : Answer
   closed : Answer
-  -- how many loads were accepted
+  -- the number of loads that were accepted
   loaded : ℕ → Answer
-  -- the status and what is pending
+  -- the status and the pending keysyms
   state : Status → List ℕ → Answer
   refused : Refusal → Answer
 
@@ -63,17 +63,17 @@ pub record Reply : Type 0 where
   pub session : ℕ
   pub answer : Answer
 
--- ---- what fits a frame
+-- ---- what fits into a frame
 
--- the greatest payload
+-- the largest payload
 abbrev pub max_payload : ℕ
 max_payload = 8388608
 
--- numbers of eight bits
+-- numbers below 256
 abbrev pub AreBytes : List ℕ → Type 0
 AreBytes bs = AllByRecursion (λ b. b < 2 ^ 8) bs
 
--- the keysym fits four bytes, and what is loaded is no more than the greatest payload
+-- the keysym fits into four bytes, and a payload is not too large
 abbrev pub BodyFits : Body → Type 0
 BodyFits (key k) = k < 2 ^ 32
 BodyFits (load rule bytes) = (length bytes ≤ max_payload) × AreBytes bytes

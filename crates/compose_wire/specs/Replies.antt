@@ -1,4 +1,4 @@
--- The program's replies: which value each says, and its bytes (this project's protocol).
+-- The program's replies: the value of each, and its bytes (this project's protocol).
 use Rattle.std.specs.Prelude.{◌≡◌, ℕ, if◌then◌else◌, List, [], ◌∷◌, length, flat_map, ⊤}
 use Rattle.std.specs.Int.{to_be_bytes, w16, w32, w64}
 use Rattle.compose_wire.specs.Messages.{code, Answer as AnswerValue, opened, fed, was_reset, closed, loaded, state, refused, Reply as ReplyValue}
@@ -7,7 +7,7 @@ use Rattle.compose_wire.specs.declared.reply.Answer.{Answer}
 use Rattle.compose_wire.specs.declared.reply.Answer.TheVariants.{Opened, Fed, WasReset, Closed, Loaded, State, Refused}
 use Rattle.compose_wire.specs.declared.reply.Reply.{Reply}
 
--- the program's answer says this one; a refusal goes by its code
+-- the value of the program's answer; a refusal is given by its code
 abbrev pub SaysAnswer : Answer → AnswerValue → Type 0
 SaysAnswer Opened opened = ⊤
 SaysAnswer (Fed status accepted text) (fed status' accepted' bytes) = (status ≡ status') × (accepted ≡ accepted') × (text.bytes ≡ bytes)
@@ -18,7 +18,7 @@ SaysAnswer (State status pending) (state status' keysyms) = (status ≡ status')
 SaysAnswer (Refused number) (refused why) = number ≡ code why
 SaysAnswer _ _ = ⊥
 
--- the program's reply says this one
+-- the value of the program's reply
 abbrev pub SaysReply : Reply → ReplyValue → Type 0
 SaysReply reply value = (reply.session ≡ value.session) × SaysAnswer reply.answer value.answer
 

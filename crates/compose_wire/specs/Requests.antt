@@ -5,7 +5,7 @@ use Rattle.compose_wire.specs.declared.request.Body.{Body}
 use Rattle.compose_wire.specs.declared.request.Body.TheVariants.{Open, Key, Reset, Close, Load, LoadLongest, Ask}
 use Rattle.compose_wire.specs.declared.request.Request.{Request}
 
--- a load refuses overlaps, and the longest rule has a request of its own
+-- an ordinary load refuses overlaps; the rule that takes the longest has a request of its own
 abbrev pub body_of : Body → BodyValue
 body_of Open = open_session
 body_of (Key k) = key k

@@ -1,23 +1,23 @@
-//! Why no request is given out.
+//! Why a feeder fails.
 ghost use Rattle.std.specs.Prelude.{◌≡◌};
 ghost use Rattle.compose_wire.specs.declared.fault.WireFault.TheVariants.{NoMemory};
 
 use std::alloc::AllocError;
 use thiserror::Error;
 
-/// Why a feeder takes no piece, or gives out no request.
+/// Why a feeder can't take a piece or return a request.
 #[derive(Clone, Copy, Debug, PartialEq, Eq, Drop, Error)]
 pub enum WireFault {
-    /// The next frame's first byte is no request's kind.
+    /// The first byte of the next frame is not the kind of a request.
     #[error("1 UnknownKind")]
     UnknownKind,
-    /// The next frame's length is not its kind's.
+    /// The length of the next frame doesn't fit its kind.
     #[error("2 BadLength")]
     BadLength,
-    /// The next frame is a load of more than 8,388,608 bytes.
+    /// The next frame is a load with a payload of more than 8,388,608 bytes.
     #[error("3 TooLong")]
     TooLong,
-    /// A growth of the memory was refused.
+    /// A memory allocation failed.
     #[error("4 NoMemory")]
     NoMemory,
 }

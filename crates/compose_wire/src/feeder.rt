@@ -1,4 +1,4 @@
-//! What holds the bytes of a stream until a whole frame stands.
+//! A buffer for the bytes of a stream, which are returned as requests, a whole frame at a time.
 ghost use Rattle.std.specs.Prelude.{◌≡◌, ◌+◌, ◌≤◌, ◌++◌, ℕ, List, [], length, drop, vec_len, Some, None, Ok, Err, OnOk, OnErr, IsOk, IsOkUnless};
 ghost use Rattle.compose_wire.specs.Messages as words;
 ghost use Rattle.compose_wire.specs.Messages.{Fits};
@@ -11,15 +11,16 @@ use crate::request::Request;
 use std::alloc::Global;
 use std::marker::Model;
 
-/// The room that a buffer may keep for nothing is four times this.
+/// A buffer is not made smaller if it has at most four times this many bytes.
 const SPARE: usize = 16_384;
 
-/// The bytes of a stream that were taken in and not yet given out as requests.
+/// The bytes of a stream that were received and not yet returned as requests.
 ///
-/// They are kept in one buffer, after those that were given out and are not yet dropped; there are never more of these than are held.
-/// When half of the buffer is given out, the rest moves to the beginning, and a buffer more than four times as large as the rest (or as
-/// 16 KiB) is made smaller, to twice that. So each byte is moved a bounded number of times on the average, however small the pieces
-/// are, and the memory that a large load took is given back once it is answered.
+/// They are kept in one buffer, after bytes that were returned but not yet dropped; there are never
+/// more of these than of the others. When half of the buffer was returned, the rest moves to the
+/// beginning, and a buffer more than four times as large as the rest (or as 16 KiB) shrinks to
+/// twice that. So each byte is moved a bounded number of times on average, however small the pieces
+/// are, and the memory of a large load is freed once it was returned.
 #[derive(Debug, Drop)]
 pub struct Feeder {
     buffer: Vec<u8>,
@@ -37,7 +38,7 @@ impl Model for Feeder {
 }
 
 impl Feeder {
-    /// A feeder that holds nothing, without memory yet. O(1).
+    /// Returns an empty feeder, which has no memory yet. O(1).
     pub fn new(alloc: Global) -> Feeder
         ensures { result ≡ [] }
     {
@@ -47,10 +48,11 @@ impl Feeder {
         }
     }
 
-    /// Puts the whole piece behind the held bytes.
+    /// Appends the whole piece to the buffered bytes.
     ///
-    /// NoMemory where the growth that it wants is refused; then nothing changes. Linear in the piece, the growths of the buffer
-    /// spread over the bytes taken in.
+    /// Linear in the piece; the cost of growing the buffer is spread over the bytes received.
+    ///
+    /// Errors: `NoMemory` if the buffer can't grow; nothing changes then.
     pub fn feed(&mut self, piece: &[u8]) -> Result<(), WireFault>
         ensures ok { OnOk result (self.new ≡ self.old ++ piece.now) }
         ensures err { OnErr result (self.new ≡ self.old) }
@@ -61,12 +63,16 @@ impl Feeder {
         Ok(())
     }
 
-    /// The request whose frame the held bytes begin with, which is taken away.
+    /// Returns the request with whose frame the buffered bytes begin, and removes it; `None` if
+    /// there is less than a whole frame.
     ///
-    /// None where less than a frame is held. A fault where the held bytes begin with it: nothing changes, and each further call
-    /// answers the same. NoMemory where there is none for a load's payload: nothing changes, and a later call may give the request.
-    /// A load takes one allocation of its payload's size and time linear in it; all others want no memory, and O(1) on the average.
-    /// After any request the buffer may be made smaller; where that is refused, it stays as large as it is.
+    /// A load takes one allocation of its payload's size, and time linear in it; all other requests
+    /// need no memory, and O(1) time on average. After any request the buffer may shrink; if that
+    /// fails, it stays as large as it is.
+    ///
+    /// Errors: `UnknownKind`, `BadLength` or `TooLong` if the buffered bytes begin with such a
+    /// fault; nothing changes, and each further call returns the same. `NoMemory` if there is no
+    /// memory for a load's payload; nothing changes, and a later call may return the request.
     pub fn next_request(&mut self, alloc: Global) -> Result<Option<Request>, WireFault>
         ensures so { Gives result self.old self.new }
         ensures request { (q : words.Request) (more : List ℕ) → Fits q
@@ -78,7 +84,7 @@ impl Feeder {
         self.take_first(alloc)
     }
 
-    /// Takes the frame away that the held bytes begin with.
+    /// Removes the frame with which the buffered bytes begin.
     fn take_first(&mut self, alloc: Global) -> Result<Option<Request>, WireFault>
         ensures { Gives result self.old self.new }
     {
@@ -89,7 +95,7 @@ impl Feeder {
         Ok(Some(request))
     }
 
-    /// How many bytes are held. O(1).
+    /// Returns the number of buffered bytes. O(1).
     pub fn held(&self) -> usize
         ensures { result ≡ length self.now }
     {
@@ -97,7 +103,8 @@ impl Feeder {
     }
 }
 
-/// Drops the bytes before the start where they are at least half of all, and gives the index at which the others begin now.
+/// Drops the bytes before `start` if they are at least half of all. Returns the index at which the
+/// others begin now.
 ///
 /// It moves no more bytes than it drops.
 fn drop_given(buffer: &mut Vec<u8>, start: usize) -> usize
@@ -117,7 +124,7 @@ fn drop_given(buffer: &mut Vec<u8>, start: usize) -> usize
     0
 }
 
-/// Moves the bytes behind the first ones to the beginning.
+/// Moves the bytes after the first `count` ones to the beginning.
 fn remove_prefix(buffer: &mut Vec<u8>, count: usize)
     requires { count ≤ vec_len buffer.old }
     ensures { buffer.new.items ≡ drop count buffer.old.items }

@@ -1,4 +1,4 @@
-//! The frame that bytes begin with.
+//! The frame at the beginning of the bytes.
 ghost use Rattle.std.specs.Prelude.{◌≡◌, ◌≢◌, [], length, option_map, IfOk, OnErr};
 ghost use Rattle.compose_text.specs.Numbers.{is_between};
 ghost use Rattle.compose_wire.specs.Frames as frames;
@@ -9,21 +9,21 @@ use crate::fault::WireFault;
 use crate::request::{Body, Payload, Request};
 use std::alloc::{AllocError, Global};
 
-/// The bytes of a frame before its payload: the kind, the session and the length.
+/// The length of a frame's head in bytes: the kind, the session and the length of the payload.
 pub(crate) const HEAD: usize = 9;
 
-/// The greatest payload of a load.
+/// The largest payload of a load, in bytes.
 const MAX_PAYLOAD: u32 = 8_388_608;
 
-/// Whether a request has this kind. O(1).
+/// Returns whether requests of this kind exist. O(1).
 fn is_kind(kind: u8) -> bool
     ensures { result ≡ is_between 1 7 kind }
 {
     matches!(kind, 1..=7)
 }
 
-/// The fault of a length that is not its kind's: 5 and 7 are loads of up to the greatest payload, 2 is a key of four bytes, and the
-/// others have no payload. O(1).
+/// Returns the fault of a length that doesn't fit its kind: 5 and 7 are loads of up to the largest
+/// payload, 2 is a key of four bytes, and the others have no payload. O(1).
 fn length_fault(kind: u8, size: u32) -> Option<WireFault>
     ensures { result ≡ option_map wire_fault (frames.length_fault kind size) }
 {
@@ -37,10 +37,11 @@ fn length_fault(kind: u8, size: u32) -> Option<WireFault>
     Some(WireFault::BadLength)
 }
 
-/// The length of the payload, where the bytes begin with a whole frame.
+/// Returns the length of the payload, if the bytes begin with a whole frame, or `None` if they have
+/// less than a frame.
 ///
-/// None where less than a frame stands; an unknown kind is a fault as soon as it stands, and a wrong length as soon as the head does.
-/// O(1).
+/// O(1). Errors: `UnknownKind` from the first byte on, `BadLength` or `TooLong` from the end of the
+/// head on.
 pub(crate) fn payload_size(held: &[u8]) -> Result<Option<usize>, WireFault>
     ensures { IsSize result held.now }
 {
@@ -63,7 +64,7 @@ pub(crate) fn payload_size(held: &[u8]) -> Result<Option<usize>, WireFault>
     Ok(Some(size as usize))
 }
 
-/// A copy of a load's payload, in one allocation of its size. Linear.
+/// Returns a copy of a load's payload, in one allocation of its size. Linear.
 fn copied(alloc: Global, bytes: &[u8]) -> Result<Payload, AllocError>
     ensures ok { IfOk result (λ payload. payload ≡ bytes.now) }
     ensures err { OnErr result (bytes.now ≢ []) }
@@ -73,7 +74,7 @@ fn copied(alloc: Global, bytes: &[u8]) -> Result<Payload, AllocError>
     Ok(Payload::new(copy))
 }
 
-/// The body of a request of this kind with this payload.
+/// Returns the body of a request of this kind with this payload.
 fn read_body(alloc: Global, kind: u8, payload: &[u8]) -> Result<Body, AllocError>
     requires { kind ≡ 2 → length payload.now ≡ 4 }
     ensures ok { IfOk result (λ body. body_of body ≡ body_at kind payload.now) }
@@ -93,7 +94,8 @@ fn read_body(alloc: Global, kind: u8, payload: &[u8]) -> Result<Body, AllocError
     }
 }
 
-/// The request that the bytes begin with, and how many bytes its frame has. Linear in the payload of a load, else O(1).
+/// Returns the request at the beginning of the bytes, and the number of bytes of its frame. Linear
+/// in the payload of a load, else O(1).
 pub(crate) fn first_request(
     alloc: Global,
     held: &[u8],

@@ -1,9 +1,10 @@
 //! Requests to the typing service and its replies, as frames on a stream of bytes.
 //!
-//! A frame is a kind (one byte), a session (four bytes), the length of a payload (four bytes) and the payload, all numbers
-//! big-endian. A socket cuts a stream where it likes, and a client may send anything. So a `Feeder` takes pieces of any size and
-//! gives out each request once its whole frame is held, and a fault as soon as the bytes begin with it; what is given out does not
-//! depend on the pieces (`law_any_cut`). `put_reply` gives the bytes of a reply.
+//! A frame is a kind (one byte), a session (four bytes), the length of a payload (four bytes) and
+//! the payload; all numbers are big-endian. A socket splits a stream at any point, and a client may
+//! send anything. So a [`Feeder`] takes pieces of any size, and returns each request once its whole
+//! frame has arrived, and a fault as soon as the bytes begin with it. The requests do not depend on
+//! the pieces ([`law_any_cut`]). [`put_reply`] returns the bytes of a reply.
 //!
 //! ```text
 //! 01 00000007 00000000            open session 7

@@ -1,4 +1,4 @@
-//! Replies of the typing service, and their bytes.
+//! Replies of the typing service as bytes.
 ghost use Rattle.std.specs.Prelude.{◌≡◌, ◌+◌, ◌*◌, ◌≤◌, ◌++◌, ◌∷◌, length, flat_map, if◌then◌else◌};
 ghost use Rattle.std.specs.Int.{to_be_bytes, w32};
 ghost use Rattle.compose_wire.specs.Messages as words;
@@ -10,33 +10,37 @@ use arrayvec::{ArrayString, ArrayVec};
 use compose_model::Status;
 use keysym_core::Keysym;
 
-/// What a reply says.
+/// The content of a reply.
 #[derive(Debug, PartialEq, Eq, Drop)]
 pub enum Answer {
-    /// The session is open.
+    /// The session was opened.
     Opened,
-    /// The status, whether the key was accepted, and the text that it gave.
+    /// The key was fed: the status after it, whether it was accepted, and the text that it
+    /// committed.
     Fed(Status, bool, ArrayString<255>),
-    /// The session is at rest.
+    /// The session was reset.
     WasReset,
-    /// The session is closed.
+    /// The session was closed.
     Closed,
-    /// How many loads were accepted since the start, this one included.
+    /// The load was accepted: the number of loads that were accepted since the start, with this
+    /// one.
     Loaded(u64),
-    /// The status and the keysyms that are pending.
+    /// The state of the session: its status and its pending keysyms, the oldest first.
     State(Status, ArrayVec<Keysym, 31>),
-    /// The code of the refusal.
+    /// The request was refused, for the reason with this code.
     Refused(u16),
 }
 
-/// A reply: the session of its request, and what is said.
+/// A reply: the session of its request, and the answer.
 #[derive(Debug, PartialEq, Eq, Drop)]
 pub struct Reply {
+    /// The session number of the request.
     pub session: u32,
+    /// The answer to the request.
     pub answer: Answer,
 }
 
-/// The byte of a status.
+/// Returns the byte of a status.
 fn status_byte(status: Status) -> u8
     ensures { result ≡ frames.status_byte status }
 {
@@ -48,7 +52,7 @@ fn status_byte(status: Status) -> u8
     }
 }
 
-/// The head of a frame: its kind, its session and the length of its payload.
+/// Returns the head of a frame: its kind, its session and the length of its payload.
 fn head(kind: u8, session: u32, size: u32) -> ArrayVec<u8, 272>
     ensures bytes { result.items ≡ kind ∷ to_be_bytes w32 session ++ to_be_bytes w32 size }
     ensures length { length result.items ≡ 9 }
@@ -60,7 +64,7 @@ fn head(kind: u8, session: u32, size: u32) -> ArrayVec<u8, 272>
     bytes
 }
 
-/// Puts some bytes behind those of a frame.
+/// Appends bytes to those of a frame.
 fn append(bytes: &mut ArrayVec<u8, 272>, more: &[u8])
     requires { length bytes.old.items + length more.now ≤ 272 }
     ensures { bytes.new.items ≡ bytes.old.items ++ more.now }
@@ -68,7 +72,7 @@ fn append(bytes: &mut ArrayVec<u8, 272>, more: &[u8])
     bytes.try_extend_from_slice(more).unwrap();
 }
 
-/// Puts keysyms behind the bytes of a frame, each in four bytes.
+/// Appends keysyms to the bytes of a frame, each in four bytes.
 fn append_keysyms(bytes: &mut ArrayVec<u8, 272>, keysyms: &[Keysym])
     requires { length bytes.old.items + 4 * length keysyms.now ≤ 272 }
     ensures { bytes.new.items ≡ bytes.old.items ++ flat_map (to_be_bytes w32) keysyms.now }
@@ -78,7 +82,7 @@ fn append_keysyms(bytes: &mut ArrayVec<u8, 272>, keysyms: &[Keysym])
     }
 }
 
-/// A frame of some kind with this payload.
+/// Returns a frame of this kind with this payload.
 fn with_payload(kind: u8, session: u32, payload: &[u8]) -> ArrayVec<u8, 272>
     requires { length payload.now ≤ 263 }
     ensures { result.items ≡ frame_of kind session payload.now }
@@ -88,7 +92,7 @@ fn with_payload(kind: u8, session: u32, payload: &[u8]) -> ArrayVec<u8, 272>
     bytes
 }
 
-/// The frame of a reply to a key.
+/// Returns the frame of the reply to a key.
 fn fed(session: u32, status: Status, accepted: bool, text: &str) -> ArrayVec<u8, 272>
     requires { length text.now ≤ 255 }
     ensures { result.items
@@ -102,7 +106,7 @@ fn fed(session: u32, status: Status, accepted: bool, text: &str) -> ArrayVec<u8,
     bytes
 }
 
-/// The frame of a reply to the question where a session stands.
+/// Returns the frame of the reply with the state of a session.
 fn state(session: u32, status: Status, pending: &[Keysym]) -> ArrayVec<u8, 272>
     requires { length pending.now ≤ 31 }
     ensures { result.items
@@ -117,9 +121,10 @@ fn state(session: u32, status: Status, pending: &[Keysym]) -> ArrayVec<u8, 272>
     bytes
 }
 
-/// The frame of a reply: its kind, its session, the length of its payload and the payload, all numbers big-endian.
+/// Returns the frame of a reply: its kind, its session, the length of its payload and the payload;
+/// all numbers are big-endian.
 ///
-/// Takes no memory; linear in the text or the pending keysyms.
+/// Allocates nothing; linear in the text or the pending keysyms.
 pub fn put_reply(reply: &Reply) -> ArrayVec<u8, 272>
     ensures bytes { result.items ≡ bytes_of reply.now }
     ensures value { (value : words.Reply) → SaysReply reply.now value

@@ -5,7 +5,7 @@ ghost use Rattle.std.specs.Cmp.Lexicographic.{pointwise, nat_list_eq_equiv};
 
 use std::marker::Model;
 
-/// The bytes that a load carries, at most 8,388,608 where a frame carried them.
+/// The bytes that a load carries, at most 8,388,608 if they came in a frame.
 #[derive(Debug, Drop)]
 pub struct Payload {
     bytes: Vec<u8>,
@@ -20,21 +20,21 @@ impl Model for Payload {
 }
 
 impl Payload {
-    /// A payload of these bytes. O(1), takes no memory.
+    /// Makes a payload of these bytes. O(1), allocates nothing.
     pub fn new(bytes: Vec<u8>) -> Payload
         ensures { result ≡ bytes.items }
     {
         Payload { bytes }
     }
 
-    /// Its bytes. O(1).
+    /// Returns its bytes. O(1).
     pub fn as_slice(&self) -> &[u8]
         ensures { result.now ≡ self.now }
     {
         self.bytes.as_slice()
     }
 
-    /// Its bytes, given back. O(1), takes no memory.
+    /// Returns its bytes as a vector. O(1), allocates nothing.
     pub fn into_vec(self) -> Vec<u8>
         ensures { result.items ≡ self }
     {
@@ -57,28 +57,30 @@ impl Eq for Payload {
     ghost laws = { nat_list_eq_equiv };
 }
 
-/// What a request asks.
+/// What a request asks for.
 #[derive(Debug, PartialEq, Eq, Drop)]
 pub enum Body {
     /// Opens the session.
     Open,
-    /// Types a key in the session; the number may be above the greatest keysym.
+    /// Feeds a key to the session; the number may be above the largest keysym.
     Key(u32),
-    /// Puts the session to rest.
+    /// Resets the session.
     Reset,
     /// Closes the session.
     Close,
-    /// Loads a table that refuses a sequence which is a prefix of another one.
+    /// Loads a table in which no sequence may be a prefix of another one.
     Load(Payload),
     /// Loads a table in which the longer of two such sequences counts.
     LoadLongest(Payload),
-    /// Asks where the session stands.
+    /// Asks for the state of the session.
     Ask,
 }
 
-/// A request: a session, which a load does not look at, and what is asked.
+/// A request: a session, and what is asked for.
 #[derive(Debug, PartialEq, Eq, Drop)]
 pub struct Request {
+    /// The session number, chosen by the client; a load ignores it.
     pub session: u32,
+    /// What is asked for.
     pub body: Body,
 }

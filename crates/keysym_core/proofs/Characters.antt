@@ -1,4 +1,4 @@
--- The rows of characters: one more row, and the rows that count.
+-- The rows of characters: one more row, and the rows that are used for texts.
 use Rattle.std.proofs.Common.{◌≡◌, ◌≤◌, ℕ, Bool, true, false, cond, not, ◌&&◌, ◌||◌, ◌==◌, List, [], ◌∷◌, ◌++◌, Option, Some, None, nat_eq, refl, sym, ap, ◌∙◌, subst, eqb-true, filter, arith}
 use Rattle.std.proofs.lemmas.Bool.{true≢false, and_parts}
 use Rattle.std.proofs.lemmas.Bool.Decides.{nat_tests}
@@ -15,17 +15,17 @@ use Rattle.std.specs.Prelude.{is_some}
 use Rattle.indexmap.proofs.CallerLemmas.{insert_entry-new}
 use Rattle.indexmap.specs.IndexMap.{IndexMap, insert_entry}
 
--- a row behind the others gives its character where they give none
+-- a row after the others assigns its character, if none of them assigns one
 first_character-push : (k : ℕ) (rows : List CharacterRow) (row : CharacterRow)
     → first_character (rows ++ row ∷ []) k ≡ option_or (first_character rows k) (cond (nat_eq k row.value) (Some row.character) None)
 first_character-push k [] row = refl
 first_character-push k (r ∷ rows) row = pushed (nat_eq k r.value) r.character (first_character rows k) (first_character (rows ++ row ∷ []) k) _ (first_character-push k rows row)
 
--- equality of numbers the other way round
+-- equality of numbers with the sides exchanged
 flipped : (a b : ℕ) (t : Bool) → nat_eq a b ≡ t → (b == a) ≡ t
 flipped a b t e = grind (arith, nat_tests)
 
--- tests put together
+-- the conjunction of two tests
 chosen : (x y b : Bool) → y ≡ b → cond b x false ≡ (x && y)
 chosen true y true e = sym e
 chosen true y false e = sym e
@@ -50,7 +50,7 @@ and-yes : (a : Bool) → (a && true) ≡ a
 and-yes true = refl
 and-yes false = refl
 
--- one more row, behind rows that give its keysym nothing
+-- one more row, after rows that assign no character to its keysym
 gives-push : (c k : ℕ) (rows : List CharacterRow) (row : CharacterRow) → first_character rows row.value ≡ None
     → gives (rows ++ row ∷ []) c k ≡ (gives rows c k || is_entry c k row)
 gives-push c k rows row new = ap (λ o. option_map_or (λ d. d == c) o false) (first_character-push k rows row) ∙ by (first_character rows k) refl (nat_eq k row.value) refl
@@ -62,13 +62,13 @@ gives-push c k rows row new = ap (λ o. option_map_or (λ d. d == c) o false) (f
     by (Some d) e true same = absurd (none_is_not_some (sym new ∙ ap (first_character rows) (sym (eqb-true k row.value same)) ∙ e))
     by (Some d) e false same = unmoved (d == c) (row.character == c) (row.value == k) (flipped k row.value false same)
 
--- a row with a value that no row has yet is no second one of it
+-- if no row has the value of a new row yet, still no two rows have the same value
 pub each_first-push : (rows : List CharacterRow) (row : CharacterRow) → first_character rows row.value ≡ None → IsEachFirst rows → IsEachFirst (rows ++ row ∷ [])
 each_first-push rows row new each = λ c k.
     list_any-append (is_entry c k) rows (row ∷ []) ∙ or-none (list_any (is_entry c k) rows) (is_entry c k row)
     ∙ ap (λ b. b || is_entry c k row) (each c k) ∙ sym (gives-push c k rows row new)
 
--- keysyms, and one more
+-- if all values are keysyms, so are they with one more
 pub keysyms-push : (rows : List CharacterRow) (row : CharacterRow) → row.value ≤ max_keysym → AreKeysyms rows → AreKeysyms (rows ++ row ∷ [])
 keysyms-push rows row fits all = λ c k there.
     by c k (list_any (is_entry c k) rows) refl (is_entry c k row) refl (sym (or-none (list_any (is_entry c k) rows) (is_entry c k row)) ∙ sym (list_any-append (is_entry c k) rows (row ∷ [])) ∙ there)
@@ -89,7 +89,7 @@ table_with_character {indexes} {names} {characters} {after} row table new fits e
   keysyms = subst AreKeysyms (sym e) (keysyms-push characters row fits table.keysyms);
 }
 
--- a row that is found counts as its keysym does
+-- a row that is found is used for texts exactly if its keysym's text is not fixed
 list_any-counts : (c k : ℕ) (rows : List CharacterRow) → list_any (is_entry c k) (filter counts rows) ≡ (not (is_fixed k) && list_any (is_entry c k) rows)
 list_any-counts c k [] = and-none (not (is_fixed k))
 list_any-counts c k (row ∷ rows) = by (counts row) refl (is_entry c k row) refl (list_any-counts c k rows)
@@ -110,22 +110,22 @@ list_any-counts c k (row ∷ rows) = by (counts row) refl (is_entry c k row) ref
         ap (λ b. b || list_any (is_entry c k) (filter counts rows)) entry ∙ others ∙ sym (ap (λ b. not (is_fixed k) && (b || list_any (is_entry c k) rows)) entry)
     by false counting false entry others = others ∙ sym (ap (λ b. not (is_fixed k) && (b || list_any (is_entry c k) rows)) entry)
 
--- the rows that count, of rows that are each the first of their value
+-- the rows that are used for texts, among rows of which no two have the same value
 pub counting_rows-count : (rows : List CharacterRow) → IsEachFirst rows → HasCountingRows (filter counts rows) rows
 counting_rows-count rows each = λ c k. list_any-counts c k rows ∙ ap (λ b. not (is_fixed k) && b) (each c k)
 
--- and they are keysyms
+-- and their values are keysyms
 pub counting_rows-keysyms : (rows : List CharacterRow) → AreKeysyms rows → AreKeysyms (filter counts rows)
 counting_rows-keysyms rows all = λ c k there. all c k (and_parts (not (is_fixed k)) (list_any (is_entry c k) rows) (sym (list_any-counts c k rows) ∙ there)).1
 
--- a character that a map takes for a keysym without one is a row behind the others
+-- a character that is inserted in a map, for a keysym without one, is a row after the others
 pub character_rows-insert : {S : Type 0} (m : IndexMap ℕ ℕ S) (row : CharacterRow) → first_character (character_rows m.entries) row.value ≡ None
     → character_rows (insert_entry nat_eq m.entries row.value row.character) ≡ character_rows m.entries ++ row ∷ []
 character_rows-insert m row new =
     ap character_rows (insert_entry-new nat_eq m row.value row.character (first_character-character_rows row.value m.entries ∙ new))
     ∙ map-append (λ e. record { value = e.0; character = e.1 }) m.entries ((row.value, row.character) ∷ [])
 
--- rows that give k nothing take its character, and others stay
+-- rows that assign no character to k get a row for it at the end
 pub with_character-new : (rows : List CharacterRow) (k c : ℕ) → first_character rows k ≡ None → with_character rows k c ≡ rows ++ record { value = k; character = c } ∷ []
 with_character-new rows k c new = ap (λ o. cond (is_some o) rows (rows ++ record { value = k; character = c } ∷ [])) new
 

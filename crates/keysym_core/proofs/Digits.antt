@@ -33,23 +33,23 @@ pub length-digits-le : (k n : ℕ) (upper : Bool) → n < 16 ^ (k + 1) → k < 6
 unfolding digits
 length-digits-le k n upper small more = omega (arith, short_digits k 64 upper n [] small more)
 
--- zeros before digits change no number
+-- leading zeros do not change the number
 pub digits_value-zeros : (count : ℕ) (ds : List ℕ) → digits_value 16 (replicate count 48 ++ ds) ≡ digits_value 16 ds
 digits_value-zeros zero ds = refl
 digits_value-zeros (suc count) ds = digits_value-zeros count ds
 
--- and are digits
+-- and they are digits
 pub all_digits-zeros : (count : ℕ) (ds : List ℕ) → AllDigits 16 ds → AllDigits 16 (replicate count 48 ++ ds)
 all_digits-zeros zero ds h = h
 all_digits-zeros (suc count) ds h = (omega arith, all_digits-zeros count ds h)
 
--- at most n digits padded to four are from four to n, where n is at least four
+-- at most n digits padded to four are from four to n, if n is at least four
 pub length-at_least_four : (ds : List ℕ) (n : ℕ) → length ds ≤ n → 4 ≤ n → (4 ≤ length (at_least_four ds)) × (length (at_least_four ds) ≤ n)
 length-at_least_four ds n few room =
     let all : length (at_least_four ds) ≡ 4 - length ds + length ds = length-append (replicate (4 - length ds) 48) ds ∙ ap (λ m. m + length ds) (length-replicate (4 - length ds) 48) in
     (omega (arith, all), omega (arith, all))
 
--- what `{:04X}` writes
+-- the output of `{:04X}`
 pub padded-at_least_four : (ds : List ℕ) → padded_integral (format_spec 32 0 4 4 (2 ^ 64 - 1)) false [] ds ≡ at_least_four ds
 unfolding padded_integral char_count
 padded-at_least_four ds = rw (append-nil ds) (simp unary_clauses refl)

@@ -1,4 +1,4 @@
--- Values that the definitions give, from keysymdef.h and the examples of the documents.
+-- Values of the definitions, from keysymdef.h and the examples of the documents.
 use Rattle.std.proofs.Common.{◌≡◌, [], ◌∷◌, refl, true, false, inl, inr}
 use Rattle.std.specs.Prelude.{Some, None, codes}
 use Rattle.std.specs.Char.{encode_utf8}
@@ -171,7 +171,7 @@ too_many_digits = character_said (codes " U+0000062 */")
 control_is_no_character : NotesCharacter (codes " U+007F */") None
 control_is_no_character = character_said (codes " U+007F */")
 
--- ---- lines in their place
+-- ---- lines in order
 
 conflict : with_line few 1 (codes "#define XK_space 0x0021") ≡ Err (NameConflict 1)
 unfolding is_utf8 chars encode_utf8

@@ -20,12 +20,12 @@ use Rattle.keysym_core.proofs.Digits.{length-digits-le, digits_value-zeros, all_
 pub keysym-unicode : (c : ℕ) → 0x100 ≤ c → c ≤ 0x10ffff → is_surrogate c ≡ false → keysym_of_character c ≡ Some (c + 0x01000000)
 keysym-unicode c low high scalar = grind (arith, nat_tests)
 
--- what isn't so
+-- a negation that is true
 pub not-true : (b : Bool) → not b ≡ true → b ≡ false
 not-true false e = refl
 not-true true e = absurd (true≢false (sym e))
 
--- so many digits
+-- a number of digits in this range
 digits_test : (low high : ℕ) (ds : List ℕ) → low ≤ length ds → length ds ≤ high → AllDigits 16 ds → is_hexadecimal low high ds ≡ true
 digits_test low high ds few many all = search (rules, le-leb low (length ds) few, le-leb (length ds) high many, list_all-from_all_digits ds all)
 
@@ -71,7 +71,7 @@ form_of-reads k fits = by (has_character_form k) refl
     by true e = character_form-reads k e
     by false e = number_form-reads k fits
 
--- so a text that has the bytes of the form is read back
+-- so a text with the bytes of the form is read back
 pub written-reads : {E : Type 0} (written : Result (String Global) E) (k : ℕ) → k ≤ max_keysym → IfOk written (λ text. string_bytes text ≡ form_of k)
     → IfOk written (λ text. form_value (string_bytes text) ≡ Some k)
 written-reads (Ok text) k fits same = ap form_value same ∙ form_of-reads k fits

@@ -1,4 +1,4 @@
--- The character of a comment: what the grammar says is what is read.
+-- The character of a comment: what is read is what the grammar defines.
 use Rattle.std.proofs.Common.{◌≡◌, ◌⊎◌, inl, inr, ℕ, List, [], ◌∷◌, ◌++◌, length, drop, Bool, true, false, cond, not, ◌&&◌, Option, Some, None, refl, sym, ◌∙◌, ap, append_assoc, eqb-true}
 use Rattle.std.specs.Prelude.{◌==◌, IsTrue, codes}
 use Rattle.std.specs.List.{list_all}
@@ -18,9 +18,9 @@ graphic_some c h = ap (λ t. cond t (Some c) None) h
 graphic_none : (c : ℕ) → not (is_graphic c) ≡ true → graphic_character c ≡ None
 graphic_none c h = ap (λ t. cond t (Some c) None) (not-true (is_graphic c) h)
 
--- ---- what is noted is read
+-- ---- a number by the grammar is read
 
--- four to six digits behind `U+`, where those bytes begin so
+-- four to six digits after `U+`, if the bytes begin with that
 abbrev number_if : Bool → List ℕ → Option ℕ
 number_if begun digits = cond (begun && is_hexadecimal 4 6 digits) (graphic_character (hexadecimal digits)) None
 
@@ -35,7 +35,7 @@ number_read digits others h stops =
 in_order : (a b c d e : List ℕ) → a ++ b ++ c ++ d ++ e ≡ a ++ (b ++ (c ++ (d ++ e)))
 in_order a b c d e = simp append_assoc
 
--- behind the blanks
+-- after the blanks
 behind_blanks : (text blanks rest : List ℕ) → text ≡ blanks ++ rest → list_all is_blank blanks ≡ true → begins is_blank rest ≡ false → noted_character text ≡ numbered_character (unparenthesized rest)
 behind_blanks text blanks rest e all stops = ap noted_character e ∙ ap (λ t. numbered_character (unparenthesized t)) (behind_all is_blank blanks rest all stops)
 
@@ -50,7 +50,7 @@ noted_read text number n =
       | inr o ↦ behind_blanks text n.blanks (codes "(" ++ prefix) (e ∙ ap (λ t. n.blanks ++ (t ++ prefix)) o) n.are_blanks refl ∙ read
     ]
 
--- ---- what is read is noted
+-- ---- what is read is a number by the grammar
 
 abbrev Opened : List ℕ → List ℕ → Type 0
 Opened bytes rest = (opening : List ℕ) × ((opening ≡ []) ⊎ (opening ≡ codes "(")) × (bytes ≡ opening ++ rest)
@@ -107,7 +107,7 @@ no_character n e = go (is_graphic n) refl
     go false g = refl
     go true g = let s = graphic_some n g in cc
 
--- the character that is read of a comment's text is the one that the text notes
+-- the character that is read from the text of a comment is its character by the grammar
 pub character_said : (text : List ℕ) → NotesCharacter text (noted_character text)
 character_said text = go (noted_character text) refl
   where
@@ -119,7 +119,7 @@ not_both : (t : Bool) → t ≡ true → not t ≡ true → ⊥
 not_both true e n = cc
 not_both false e n = cc
 
--- the character that a comment's text notes is the one that is read of it
+-- the character of a comment's text by the grammar is read from it
 pub character_read : (text : List ℕ) (character : Option ℕ) → NotesCharacter text character → noted_character text ≡ character
 character_read text (Some c) n = noted_read text c n.0 ∙ graphic_some c n.1
 character_read text None n = go (noted_character text) refl

@@ -1,4 +1,4 @@
--- What a line of the grammar defines is read of it.
+-- What a line defines by the grammar is read from it.
 use Rattle.std.proofs.Common.{◌≡◌, inl, inr, ℕ, List, [], ◌∷◌, ◌++◌, length, drop, Bool, true, false, cond, ◌&&◌, ◌||◌, Option, Some, None, refl, sym, ◌∙◌, ap, subst, arith, append_assoc, eqb-true}
 use Rattle.std.specs.Prelude.{◌==◌, nat_lt, codes, unwrap_or}
 use Rattle.std.specs.List.{list_all}
@@ -15,7 +15,7 @@ use Rattle.keysym_core.proofs.HeaderComments.{character_read}
 
 -- ---- first bytes
 
--- behind blanks that no such byte is among, the bytes begin like what follows
+-- blanks before bytes that do not begin with such a byte do not begin with one either, since no blank is such a byte
 blanks_first : (p : ℕ → Bool) (blanks rest : List ℕ) → ((b : ℕ) → is_blank b ≡ true → p b ≡ false) → list_all is_blank blanks ≡ true → begins p rest ≡ false → begins p (blanks ++ rest) ≡ false
 blanks_first p [] rest apart all stops = stops
 blanks_first p (b ∷ blanks) rest apart all stops = apart b (and_parts (is_blank b) (list_all is_blank blanks) all).0
@@ -36,7 +36,7 @@ blank_no_name b h = blank_cases (λ b. is_name_byte b ≡ false) b h refl refl r
 blank_no_digit : (b : ℕ) → is_blank b ≡ true → is_hexadecimal_digit b ≡ false
 blank_no_digit b h = blank_cases (λ b. is_hexadecimal_digit b ≡ false) b h refl refl refl
 
--- one byte or more
+-- at least one byte
 not_zero : (p : ℕ → Bool) (bytes : List ℕ) → are_some p bytes ≡ true → (length bytes == 0) ≡ false
 not_zero p [] h = cc
 not_zero p (b ∷ bytes) h = grind (arith, nat_tests)
@@ -66,7 +66,7 @@ noted (Some text) character n = character_read text character n
 abbrev entry_with : List ℕ → List ℕ → List ℕ → Entry
 entry_with name digits text = record { name = name; value = hexadecimal digits; character = noted_character text }
 
--- the entry, where the bytes begin with `0x` and these are its digits and what follows them
+-- the entry, if the bytes begin with `0x`, and these are the digits and what follows them
 abbrev valued_if : Bool → List ℕ → List ℕ → List ℕ → Option Entry
 valued_if begun name digits rest = cond (begun && is_hexadecimal 1 8 digits) (option_map (entry_with name digits) (comment_text (behind_run is_blank rest))) None
 
@@ -83,7 +83,7 @@ value_read name digits blanks end number all stops ends =
 
 -- ---- the name
 
--- the entry of a name and a number, where neither the name nor the blanks between them are missing
+-- the entry of a name and a number, if neither the name nor the blanks between them are missing
 abbrev named_if : ℕ → ℕ → List ℕ → List ℕ → Option Entry
 named_if n m name number = cond (n == 0 || m == 0) None (valued name number)
 
@@ -112,7 +112,7 @@ define_read bytes = ap (λ t. cond t (entry_of (drop (length define) (define ++ 
 pub in_order : (a b c d e f g : List ℕ) → a ++ b ++ c ++ d ++ e ++ f ++ g ≡ a ++ (b ++ (c ++ (d ++ (e ++ (f ++ g)))))
 in_order a b c d e f g = simp append_assoc
 
--- an entry that the grammar finds in a line is read of it
+-- an entry that the grammar finds in a line is read from it
 pub line_read : (line : List ℕ) (entry : Entry) → DefinesEntry line entry → entry_said line ≡ Some entry
 line_read line entry d =
     let end = comment_bytes d.comment in

@@ -1,4 +1,4 @@
--- Runs of bytes at the beginning: what is skipped, and what is taken.
+-- Runs of bytes at the beginning: those that are skipped, and those that are kept.
 use Rattle.std.proofs.Common.{◌≡◌, ℕ, suc, ◌+◌, List, [], ◌∷◌, ◌++◌, length, take, drop, Bool, true, false, cond, not, Option, Some, None, refl, sym, ◌∙◌, ap, one-add, take-append-drop}
 use Rattle.std.specs.List.{list_all}
 use Rattle.std.specs.Cmp.Lexicographic.{bytes_decides}
@@ -7,9 +7,9 @@ use Rattle.std.proofs.lemmas.Bool.{and_parts, and_from}
 use Rattle.keysym_core.specs.Header.{run, run_length, behind_run, begins_with}
 use Rattle.compose_text.specs.Bytes.{begins}
 
--- ---- bytes that pass, before one that doesn't
+-- ---- bytes that pass the test, before one that does not
 
--- bytes that all pass, before one that doesn't, are as long as the run
+-- if all these bytes pass the test, and the next does not, the run is as long as they are
 pub run_length-all : (p : ℕ → Bool) (prefix rest : List ℕ) → list_all p prefix ≡ true → begins p rest ≡ false → run_length p (prefix ++ rest) ≡ length prefix
 run_length-all p [] [] all stops = refl
 run_length-all p [] (b ∷ rest) all stops = ap (λ t. cond (not (not t)) (1 + run_length p rest) 0) stops
@@ -17,11 +17,11 @@ run_length-all p (b ∷ prefix) rest all stops =
     let parts = and_parts (p b) (list_all p prefix) all in
     ap (λ t. cond (not (not t)) (1 + run_length p (prefix ++ rest)) 0) parts.0 ∙ ap (λ n. 1 + n) (run_length-all p prefix rest parts.1 stops) ∙ one-add (length prefix)
 
--- bytes that all pass, before one that doesn't, are the run
+-- if all these bytes pass the test, and the next does not, they are the run
 pub run_all : (p : ℕ → Bool) (prefix rest : List ℕ) → list_all p prefix ≡ true → begins p rest ≡ false → run p (prefix ++ rest) ≡ prefix
 run_all p prefix rest all stops = ap (λ n. take n (prefix ++ rest)) (run_length-all p prefix rest all stops) ∙ take-append_seam prefix rest
 
--- behind bytes that all pass stands what begins with one that doesn't
+-- if all these bytes pass the test, and the next does not, that one comes after the run
 pub behind_all : (p : ℕ → Bool) (prefix rest : List ℕ) → list_all p prefix ≡ true → begins p rest ≡ false → behind_run p (prefix ++ rest) ≡ rest
 behind_all p prefix rest all stops = ap (λ n. drop n (prefix ++ rest)) (run_length-all p prefix rest all stops) ∙ drop-append_seam prefix rest
 
@@ -38,7 +38,7 @@ run_more p b bytes e = ap (λ t. cond (not (not t)) (1 + run_length p bytes) 0) 
 run_none : (p : ℕ → Bool) (b : ℕ) (bytes : List ℕ) → p b ≡ false → run_length p (b ∷ bytes) ≡ 0
 run_none p b bytes e = ap (λ t. cond (not (not t)) (1 + run_length p bytes) 0) e
 
--- every byte of a run passes
+-- every byte of a run passes the test
 pub run_passes : (p : ℕ → Bool) (bytes : List ℕ) → list_all p (run p bytes) ≡ true
 run_passes p [] = refl
 run_passes p (b ∷ bytes) = go (p b) refl (run_passes p bytes)
@@ -47,7 +47,7 @@ run_passes p (b ∷ bytes) = go (p b) refl (run_passes p bytes)
     go true e h = ap (λ n. list_all p (take n (b ∷ bytes))) (run_more p b bytes e) ∙ and_from (p b) (list_all p (run p bytes)) e h
     go false e h = ap (λ n. list_all p (take n (b ∷ bytes))) (run_none p b bytes e)
 
--- no byte that passes begins what follows a run
+-- what follows a run does not begin with a byte that passes the test
 pub behind_stops : (p : ℕ → Bool) (bytes : List ℕ) → begins p (behind_run p bytes) ≡ false
 behind_stops p [] = refl
 behind_stops p (b ∷ bytes) = go (p b) refl (behind_stops p bytes)
@@ -56,7 +56,7 @@ behind_stops p (b ∷ bytes) = go (p b) refl (behind_stops p bytes)
     go true e h = ap (λ n. begins p (drop n (b ∷ bytes))) (run_more p b bytes e) ∙ h
     go false e h = ap (λ n. begins p (drop n (b ∷ bytes))) (run_none p b bytes e) ∙ e
 
--- a run has as many bytes as its length says
+-- the number of bytes of a run is its length
 pub length-run : (p : ℕ → Bool) (bytes : List ℕ) → length (run p bytes) ≡ run_length p bytes
 length-run p [] = refl
 length-run p (b ∷ bytes) = go (p b) refl (length-run p bytes)
@@ -67,17 +67,17 @@ length-run p (b ∷ bytes) = go (p b) refl (length-run p bytes)
 
 -- ---- a given start
 
--- bytes put behind a start begin with it
+-- a start with bytes after it begins with the start
 pub starts : (start rest : List ℕ) → begins_with start (start ++ rest) ≡ true
 starts start rest = (bytes_decides (take (length start) (start ++ rest)) start).1 (take-append_seam start rest)
 
--- bytes that begin with a start are the start and what is left behind it
+-- bytes that begin with a start are the start and what is left after it
 pub start_said : (start bytes : List ℕ) → begins_with start bytes ≡ true → bytes ≡ start ++ drop (length start) bytes
 start_said start bytes h = sym (take-append-drop (length start) bytes) ∙ ap (λ t. t ++ drop (length start) bytes) ((bytes_decides (take (length start) bytes) start).0 h)
 
 -- ---- tests
 
--- something where a test may give nothing
+-- if a value is there only if a test passes, and is there, the test passed
 pub some_if : {A : Type 0} (t : Bool) (o : Option A) (x : A) → cond t o None ≡ Some x → (t ≡ true) × (o ≡ Some x)
 some_if true o x e = (refl, e)
 some_if false o x e = cc

@@ -1,4 +1,4 @@
--- What is read of a line is what it defines.
+-- What is read from a line is what it defines.
 use Rattle.std.proofs.Common.{◌≡◌, ℕ, List, [], ◌∷◌, ◌++◌, length, drop, Bool, true, false, cond, ◌&&◌, ◌||◌, Option, Some, None, refl, sym, ◌∙◌, ap, subst, arith}
 use Rattle.std.specs.Prelude.{◌==◌, nat_lt, codes}
 use Rattle.std.specs.List.{list_all}
@@ -13,7 +13,7 @@ use Rattle.keysym_core.proofs.HeaderRuns.{parts_of, run_passes, length-run, star
 use Rattle.keysym_core.proofs.HeaderComments.{character_said}
 use Rattle.keysym_core.proofs.HeaderRead.{in_order}
 
--- something where a test may give nothing, and where there is something to map
+-- if a value is there only if two tests fail, and is there, both failed
 some_unless : {A : Type 0} (s t : Bool) (o : Option A) (x : A) → cond (s || t) None o ≡ Some x → (s ≡ false) × (t ≡ false) × (o ≡ Some x)
 some_unless true t o x e = cc
 some_unless false true o x e = cc
@@ -23,7 +23,7 @@ some_mapped : {A B : Type 0} (f : A → B) (o : Option A) (y : B) → option_map
 some_mapped f None y e = cc
 some_mapped f (Some x) y e = (x, refl, cc)
 
--- a run that isn't empty
+-- a run that is not empty
 some_run : (p : ℕ → Bool) (bytes : List ℕ) → (run_length p bytes == 0) ≡ false → are_some p (run p bytes) ≡ true
 some_run p bytes e =
     let long : nat_lt 0 (length (run p bytes)) ≡ true = ap (nat_lt 0) (length-run p bytes) ∙ grind (arith, nat_tests) in
@@ -81,7 +81,7 @@ value_said name number entry e =
 
 -- ---- the line
 
--- what follows `#define XK_`, from its parts
+-- what follows `#define XK_`, put together from its parts
 joined : (bytes name own rest blanks number value : List ℕ) → bytes ≡ name ++ rest → name ≡ own → rest ≡ blanks ++ number → number ≡ value → bytes ≡ own ++ (blanks ++ value)
 joined bytes name own rest blanks number value p q r s = p ∙ ap (λ t. name ++ t) (r ∙ ap (λ t. blanks ++ t) s) ∙ ap (λ t. t ++ (blanks ++ value)) q
 
@@ -104,7 +104,7 @@ from_parts line bytes blanks number entry v begun rest named blank =
       is_character = v.is_character;
     }
 
--- an entry that is read of a line is one that the grammar finds in it
+-- an entry that is read from a line is one that the grammar finds in it
 pub line_said : (line : List ℕ) (entry : Entry) → entry_said line ≡ Some entry → DefinesEntry line entry
 line_said line entry e =
     let bytes = drop (length define) line in

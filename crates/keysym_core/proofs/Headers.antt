@@ -7,11 +7,11 @@ use Rattle.keysym_core.specs.Names.{KeysymNames}
 use Rattle.keysym_core.specs.Header.{with_line, with_text}
 use Rattle.keysym_core.specs.declared.fault.NameFault.TheVariants.{NotUtf8}
 
--- a line of UTF-8 gives what its text gives, and any other is faulty
+-- a line that is UTF-8 has the result of its text, and any other is faulty
 pub line-text : (names : KeysymNames) (n : ℕ) (line : List ℕ) → IsUtf8 line → with_line names n line ≡ with_text names n line
 line-text names n line h = ap (λ b. cond b (with_text names n line) (Err (NotUtf8 n))) (is_utf8-from_IsUtf8 line h)
 
--- a line that isn't UTF-8 gives the fault with its number
+-- a line that is not UTF-8 has the fault with its number
 pub line-not_utf8 : (names : KeysymNames) (n : ℕ) (line : List ℕ) → ¬ (IsUtf8 line) → with_line names n line ≡ Err (NotUtf8 n)
 line-not_utf8 names n line h = by (is_utf8 line) refl
   where

@@ -1,4 +1,4 @@
--- Where an entry stands in an index by character.
+-- The position of an entry in an index by character.
 use Rattle.std.proofs.Common.{◌≡◌, ◌≢◌, ◌≤◌, ◌<◌, ◌+◌, ◌*◌, ℕ, zero, suc, Bool, true, false, ◌||◌, ◌==◌, List, [], ◌∷◌, length, get_or, refl, sym, ap, ◌∙◌, arith, rules, eqb-true, eq-eqb, ltb, ⊎_elim}
 use Rattle.std.proofs.lemmas.Bool.{true≢false, and_parts, ltb-true, ltb-false, cases_lt}
 use Rattle.std.specs.Prelude.{Some, None}
@@ -16,7 +16,7 @@ pub record EntryAt (c k : ℕ) (entries : List CharacterRow) (d : CharacterRow) 
   pub character : (get_or entries index d).character ≡ c
   pub value : (get_or entries index d).value ≡ k
 
--- an entry that some test finds has an index
+-- an entry that a test finds has an index
 pub entry_index : (c k : ℕ) (entries : List CharacterRow) (d : CharacterRow) → list_any (is_entry c k) entries ≡ true → EntryAt c k entries d
 entry_index c k [] d h = absurd (true≢false (sym h))
 entry_index c k (row ∷ entries) d h = by (is_entry c k row) refl h (entry_index c k entries d)
@@ -29,7 +29,7 @@ entry_index c k (row ∷ entries) d h = by (is_entry c k row) refl h (entry_inde
         let rest = others h in
         record { index = suc rest.index; inside = omega (arith, rest.inside); character = rest.character; value = rest.value }
 
--- a test that the second part passes
+-- a disjunction whose second part is true
 or-true : (a b : Bool) → b ≡ true → (a || b) ≡ true
 or-true true b h = refl
 or-true false b h = h
@@ -46,7 +46,7 @@ module _ (entries : List CharacterRow) (d : CharacterRow) (c low index : ℕ)
     (sorted : IsNonDecreasingBy rank entries)
     (keysyms : (x k : ℕ) → list_any (is_entry x k) entries ≡ true → k ≤ max_keysym)
     (split : IsPartitionPoint (λ (e : CharacterRow). ltb (rank e) (c * 0x1_0000_0000 + low) ≡ true) (λ (e : CharacterRow). ltb (rank e) (c * 0x1_0000_0000 + low) ≡ false) entries index) where
-  -- an entry from `low` on follows the index
+  -- an entry not below `low` is at the index or after it
   pub behind_index : (k : ℕ) → low ≤ k → (e : EntryAt c k entries d) → index ≤ e.index
   behind_index k more e = ⊎_elim
       (λ before. absurd
@@ -54,13 +54,13 @@ module _ (entries : List CharacterRow) (d : CharacterRow) (c low index : ℕ)
       (λ after. after)
       (cases_lt e.index index)
 
-  -- behind all entries there is none
+  -- after all entries there is none
   pub none_behind : length entries ≤ index → IsLeastFrom low (λ k. list_any (is_entry c k) entries ≡ true) None
   none_behind past = λ k more there.
       let e = entry_index c k entries d there in
       omega (arith, behind_index k more e, e.inside)
 
-  -- behind an entry of another character there is none
+  -- if the entry at the index has another character, there is none
   pub none_of_another : index < length entries → (get_or entries index d).character ≢ c → IsLeastFrom low (λ k. list_any (is_entry c k) entries ≡ true) None
   none_of_another inside other = λ k more there.
       let e = entry_index c k entries d there in

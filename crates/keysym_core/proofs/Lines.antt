@@ -10,7 +10,7 @@ use Rattle.std.specs.Str.{IsAscii}
 use Rattle.compose_text.specs.Bytes.{is_name_byte}
 use Rattle.keysym_core.specs.Header.{run}
 
--- the first index that passes, or else the end
+-- the first index that passes the test, or else the length
 pub position-or_length : (p : ℕ → Bool) (xs : List ℕ) → unwrap_or (position p xs) (length xs) ≡ position_or_len p xs
 position-or_length p xs = by (nat_lt (position_or_len p xs) (length xs)) refl
   where

@@ -22,7 +22,7 @@ module _ (low : ℕ) (P Q R : ℕ → Type 0) (split : (k : ℕ) → R k → P k
       by true e = (p.0, left i p.1, λ k more r. ⊎_elim (p.2 k more) (λ there. omega (arith, leb-true i j e, q.2 k more there)) (split k r))
       by false e = (q.0, right j q.1, λ k more r. ⊎_elim (λ there. omega (arith, leb-false i j e, p.2 k more there)) (q.2 k more) (split k r))
 
--- neither of two
+-- if a disjunction is false, both parts are
 neither : (a b : Bool) → (a || b) ≡ false → (a ≡ false) × (b ≡ false)
 neither true b h = absurd (true≢false h)
 neither false b h = (refl, h)
@@ -31,11 +31,11 @@ neither false b h = (refl, h)
 latin1-keysym : (k : ℕ) → is_latin1 k ≡ true → keysym_of_character k ≡ Some k
 latin1-keysym k h = grind (arith, nat_tests)
 
--- the key pad's digits have their keysyms
+-- the keypad digits have their keysyms
 keypad-keysym : (k : ℕ) → is_keypad_digit k ≡ true → keypad_keysym (k - 0xffb0 + 0x30) ≡ Some k
 keypad-keysym k h = grind (arith, nat_tests)
 
--- a keysym above Latin-1 that has its number's character is that of the character
+-- a keysym above Latin-1 that stands for a character by its number is the keysym of that character
 unicode-range : (k : ℕ) → is_unicode_keysym k ≡ true → (0x01000100 ≤ k) × (k ≤ 0x0110ffff)
 unicode-range k h =
     let parts = and_parts (nat_le 0x01000100 k) (nat_le k 0x0110ffff) h in
@@ -46,7 +46,7 @@ unicode-keysym k c h scalar e =
     let range = unicode-range k h in
     keysym-unicode c (omega (arith, range.0, e)) (omega (arith, range.1, e)) (ap is_surrogate (sym e) ∙ scalar) ∙ ap Some (omega (arith, range.0, e))
 
--- what a keysym has by each range that it is in
+-- the character of a keysym, by the range that it is in
 by_latin1 : (names : KeysymNames) (k : ℕ) → is_latin1 k ≡ true → character_of names k ≡ Some k
 by_latin1 names k h = rw h refl
 
@@ -85,7 +85,7 @@ keysym-has_character names c k e = by (is_control c || is_surrogate c || nat_lt 
         let number : c + 0x01000000 - 0x01000000 ≡ c = omega arith in
         subst (λ n. character_of names n ≡ Some c) same (by_unicode names (c + 0x01000000) range.0 range.1 (ap is_surrogate number ∙ range.2) ∙ ap Some number)
 
--- so has the key pad's digit
+-- so has the keypad digit
 keypad-ranges : (c : ℕ) → is_between 0x30 0x39 c ≡ true
     → (is_latin1 (c - 0x30 + 0xffb0) ≡ false) × (is_unicode_keysym (c - 0x30 + 0xffb0) ≡ false) × (is_keypad_digit (c - 0x30 + 0xffb0) ≡ true) × (c - 0x30 + 0xffb0 - 0xffb0 + 0x30 ≡ c)
 keypad-ranges c h =
@@ -103,7 +103,7 @@ keypad-has_character names c k e = by (is_between 0x30 0x39 c) refl e
         let range = keypad-ranges c h in
         subst (λ n. character_of names n ≡ Some c) same (by_keypad names (c - 0x30 + 0xffb0) range.0 range.1 range.2 ∙ ap Some range.3)
 
--- and a keysym to which a header gives it
+-- and a keysym to which a header assigns the character
 given-first : (o : Option ℕ) (c : ℕ) → option_map_or (λ d. d == c) o false ≡ true → o ≡ Some c
 given-first None c h = absurd (true≢false (sym h))
 given-first (Some d) c h = ap Some (eqb-true d c h)
@@ -138,7 +138,7 @@ character-has_keysym names c k e = by (is_latin1 k) refl (is_unicode_keysym k) r
         let unfixed : is_fixed k ≡ false = ap (λ b. b || is_unicode_keysym k || is_keypad_digit k) l ∙ ap (λ b. b || is_keypad_digit k) u ∙ p in
         inr (ap (λ b. not b && gives names.characters c k) unfixed ∙ ap (λ o. option_map_or (λ d. d == c) o false) e ∙ eq-eqb c c refl)
 
--- so the next keysym of a character is the lesser of the next that is fixed and the next that is given
+-- so the next keysym of a character is the lesser of the next fixed one and the next assigned one
 pub next-of_both : (names : KeysymNames) (c low : ℕ) (fixed given : Option ℕ)
     → IsLeastFrom low (λ k. (keysym_of_character c ≡ Some k) ⊎ (keypad_keysym c ≡ Some k)) fixed
     → IsLeastFrom low (λ k. (not (is_fixed k) && gives names.characters c k) ≡ true) given
@@ -147,7 +147,7 @@ next-of_both names c low fixed given =
     least_of_both low (λ k. (keysym_of_character c ≡ Some k) ⊎ (keypad_keysym c ≡ Some k)) (λ k. (not (is_fixed k) && gives names.characters c k) ≡ true) (λ k. character_of names k ≡ Some c)
     (character-has_keysym names c) (λ k. ⊎_elim (keysym-has_character names c k) (keypad-has_character names c k)) (given-has_character names c) fixed given
 
--- what is least by one test is least by a test that says the same
+-- what is least by one test is least by a test with the same results
 pub least-by_same : (low : ℕ) (p q : ℕ → Bool) → ((k : ℕ) → p k ≡ q k) → (found : Option ℕ) → IsLeastFrom low (λ k. p k ≡ true) found → IsLeastFrom low (λ k. q k ≡ true) found
 least-by_same low p q same None least = λ k more there. least k more (same k ∙ there)
 least-by_same low p q same (Some i) least = (least.0, sym (same i) ∙ least.1, λ k more there. least.2 k more (same k ∙ there))

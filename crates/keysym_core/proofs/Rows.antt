@@ -1,4 +1,4 @@
--- The rows of a table of names: what look-ups in its maps say of them, and a row put behind them.
+-- The rows of a table of names: what look-ups in its maps find, and a row added after them.
 use Rattle.std.proofs.Common.{◌≡◌, ◌≤◌, ℕ, ◌+◌, Bool, true, false, cond, ◌&&◌, List, [], ◌∷◌, ◌++◌, length, map, Option, Some, None, nat_eq, refl, sym, ap, ◌∙◌, arith, rules, add-one, append_assoc, subst, eqb-true, leb-true, string_bytes, bytes_eq, zero-add}
 use Rattle.std.proofs.lemmas.List.Folds.{list_all-append}
 use Rattle.std.proofs.lemmas.Bool.{true≢false}
@@ -24,12 +24,12 @@ use Rattle.std.proofs.lemmas.Option.{slice_get-map}
 use Rattle.std.proofs.lemmas.Bool.{and_parts}
 use Rattle.keysym_core.specs.Table.{FirstNamesLookUp, name_rows, character_rows, index_from, ShowsFirstIndexes, agrees_with_form, is_addable, are_addable, IsTable}
 
--- the map from names finds what the rows say
+-- the map from names finds the value of the row
 pub row_value-name_rows : (name : List ℕ) (entries : List (String Global × ℕ)) → lookup (λ k. bytes_eq name (string_bytes k)) entries ≡ row_value (name_rows entries) name
 row_value-name_rows name [] = refl
 row_value-name_rows name (e ∷ entries) = ap (cond (bytes_eq name (string_bytes e.0)) (Some e.1)) (row_value-name_rows name entries)
 
--- the map from keysyms finds what the rows say
+-- the map from keysyms finds the character of the row
 pub first_character-character_rows : (k : ℕ) (entries : List (ℕ × ℕ)) → lookup (nat_eq k) entries ≡ first_character (character_rows entries) k
 first_character-character_rows k [] = refl
 first_character-character_rows k (e ∷ entries) = ap (cond (nat_eq k e.0) (Some e.1)) (first_character-character_rows k entries)
@@ -39,7 +39,7 @@ pub pushed : {X : Type 0} (b : Bool) (x : X) (rest more last : Option X) → mor
 pushed true x rest more last e = refl
 pushed false x rest more last e = e
 
--- a row behind the others has the last index
+-- a row after the others has the last index
 pub index_from-push : (k at : ℕ) (rows : List NameRow) (row : NameRow)
     → index_from k at (rows ++ row ∷ []) ≡ option_or (index_from k at rows) (cond (nat_eq k row.value) (Some (at + length rows)) None)
 index_from-push k at [] row = ap (λ n. cond (nat_eq k row.value) (Some n) None) (omega arith)
@@ -47,13 +47,13 @@ index_from-push k at (r ∷ rows) row =
     pushed (nat_eq k r.value) at (index_from k (at + 1) rows) (index_from k (at + 1) (rows ++ row ∷ [])) _
     (index_from-push k (at + 1) rows row ∙ ap (λ n. option_or (index_from k (at + 1) rows) (cond (nat_eq k row.value) (Some n) None)) (omega arith))
 
--- a new entry behind the others is found last
+-- a new entry after the others is found last
 pub lookup-push : {X : Type 0} (k : ℕ) (entries : List (ℕ × X)) (v : ℕ) (x : X)
     → lookup (nat_eq k) (entries ++ (v, x) ∷ []) ≡ option_or (lookup (nat_eq k) entries) (cond (nat_eq k v) (Some x) None)
 lookup-push k [] v x = refl
 lookup-push k (e ∷ entries) v x = pushed (nat_eq k e.0) e.1 (lookup (nat_eq k) entries) (lookup (nat_eq k) (entries ++ (v, x) ∷ [])) _ (lookup-push k entries v x)
 
--- a value's first row gives it its index
+-- the first row with a value determines its index
 pub first_indexes-new : (indexes : List (ℕ × ℕ)) (rows : List NameRow) (row : NameRow) (n : ℕ) → n ≡ length rows
     → ShowsFirstIndexes indexes rows → ShowsFirstIndexes (indexes ++ (row.value, n) ∷ []) (rows ++ row ∷ [])
 first_indexes-new indexes rows row n e shows = λ k.
@@ -66,13 +66,13 @@ first_indexes-new indexes rows row n e shows = λ k.
 pub none_is_not_some : {X : Type 0} {x : X} → None ≡ Some x → ⊥
 none_is_not_some e = cc
 
--- a second choice that isn't taken
+-- a second choice that is not taken
 untaken : {X : Type 0} (o : Option X) (b : Bool) (p x : X) → (b ≡ true → o ≡ Some p) → option_or o (cond b (Some x) None) ≡ o
 untaken (Some y) b p x h = refl
 untaken None false p x h = refl
 untaken None true p x h = absurd (none_is_not_some (h refl))
 
--- a value's further rows leave it its index
+-- further rows with a value do not change its index
 pub first_indexes-known : (indexes : List (ℕ × ℕ)) (rows : List NameRow) (row : NameRow) (position : ℕ) → lookup (nat_eq row.value) indexes ≡ Some position
     → ShowsFirstIndexes indexes rows → ShowsFirstIndexes indexes (rows ++ row ∷ [])
 first_indexes-known indexes rows row position known shows = λ k.
@@ -81,11 +81,11 @@ first_indexes-known indexes rows row position known shows = λ k.
     (λ same. ap (λ v. index_from v 0 rows) (eqb-true k row.value same) ∙ sym (shows row.value) ∙ known))
     ∙ sym (index_from-push k 0 rows row)
 
--- what holds of all rows holds of all with one more of which it holds
+-- if all rows have a property, and one more has it, all with that one have it
 pub list_all-push : {X : Type 0} (p : X → Bool) (xs : List X) (x : X) → list_all p xs ≡ true → p x ≡ true → list_all p (xs ++ x ∷ []) ≡ true
 list_all-push p xs x all last = rw (list_all-append p xs (x ∷ [])) (search (rules, all, last))
 
--- a name that is inserted in the map is a row behind the others
+-- a name that is inserted in the map is a row after the others
 pub name_rows-insert : {S : Type 0} (m : IndexMap (String Global) ℕ S) (kept : String Global) (row : NameRow)
     → string_bytes kept ≡ row.name → row_value (name_rows m.entries) row.name ≡ None
     → name_rows (insert_entry string_eq m.entries kept row.value) ≡ name_rows m.entries ++ row ∷ []
@@ -94,65 +94,65 @@ name_rows-insert m kept row same absent =
     ∙ map-append (λ e. record { name = string_bytes e.0; value = e.1 }) m.entries ((kept, row.value) ∷ [])
     ∙ ap (λ n. name_rows m.entries ++ record { name = n; value = row.value } ∷ []) same
 
--- a number that is inserted in a map without it is an entry behind the others
+-- a number that is inserted in a map without it is an entry after the others
 pub entries-insert : {S : Type 0} (m : IndexMap ℕ ℕ S) (k v : ℕ) → lookup (nat_eq k) m.entries ≡ None → insert_entry nat_eq m.entries k v ≡ m.entries ++ (k, v) ∷ []
 entries-insert m k v absent = insert_entry-new nat_eq m k v absent
 
--- the name of a row that can be put behind the others is new
+-- the name of a row that can be added is new
 addable_name : (o : Option ℕ) (agrees keysym : Bool) → (not (is_some o) && agrees && keysym) ≡ true → o ≡ None
 addable_name None agrees keysym h = refl
 addable_name (Some v) agrees keysym h = absurd (true≢false (sym h))
 
--- a row that may be added has a name that no row has yet
+-- no row has the name of a row that can be added
 pub addable_is_new : (rows : List NameRow) (row : NameRow) → is_addable rows row ≡ true → row_value rows row.name ≡ None
 addable_is_new rows row h = addable_name (row_value rows row.name) (agrees_with_form row) (is_keysym row.value) h
 
--- such a row's name writes no other keysym
+-- the name of such a row writes no other keysym
 addable_form : (new agrees keysym : Bool) → (new && agrees && keysym) ≡ true → agrees ≡ true
 addable_form true true keysym h = refl
 addable_form true false keysym h = h
 addable_form false agrees keysym h = absurd (true≢false (sym h))
 
--- a row that may be added agrees with what its name's form says
+-- a row that can be added agrees with the form of its name, if it has one
 pub addable_agrees : (rows : List NameRow) (row : NameRow) → is_addable rows row ≡ true → agrees_with_form row ≡ true
 addable_agrees rows row h = addable_form (not (is_some (row_value rows row.name))) (agrees_with_form row) (is_keysym row.value) h
 
--- such a row's value is a keysym
+-- the value of such a row is a keysym
 last_of_three : (new agrees keysym : Bool) → (new && agrees && keysym) ≡ true → keysym ≡ true
 last_of_three true true keysym h = h
 last_of_three true false keysym h = absurd (true≢false (sym h))
 last_of_three false agrees keysym h = absurd (true≢false (sym h))
 
--- a row that may be added has a keysym for its value
+-- the value of a row that can be added is a keysym
 pub addable_is_keysym : (rows : List NameRow) (row : NameRow) → is_addable rows row ≡ true → row.value ≤ max_keysym
 addable_is_keysym rows row h = leb-true row.value max_keysym (last_of_three (not (is_some (row_value rows row.name))) (agrees_with_form row) (is_keysym row.value) h)
 
--- rows that can be put behind others begin with one that can
+-- the first of rows that can be added can be added
 both_parts : (a b : Bool) → (a && b) ≡ true → (a ≡ true) × (b ≡ true)
 both_parts true b h = (refl, h)
 both_parts false b h = absurd (true≢false (sym h))
 
--- of rows that may all be added, the first may be, and then the others
+-- if rows can be added one after another, the first can be, and then the others
 pub addable_first : (rows : List NameRow) (row : NameRow) (others : List NameRow) → are_addable rows (row ∷ others) ≡ true
     → (is_addable rows row ≡ true) × (are_addable (rows ++ row ∷ []) others ≡ true)
 addable_first rows row others h = both_parts (is_addable rows row) (are_addable (rows ++ row ∷ []) others) h
 
--- two columns make the names
+-- names are equal if both columns are
 pub same_names : {ns ms : List NameRow} {cs ds : List CharacterRow} → ns ≡ ms → cs ≡ ds
     → ◌≡◌ {A = KeysymNames} (record { names = ns; characters = cs }) (record { names = ms; characters = ds })
 same_names {ns} {ms} {cs} {ds} e f = ap (λ n. record { names = n; characters = cs }) e ∙ ap (λ x. record { names = ms; characters = x }) f
 
--- what a map's `get` found stands in it
+-- what `get` found in a map is in it
 pub known_index : (k : ℕ) (indexes : List (ℕ × ℕ)) (found : Option (Bor ℕ)) → option_copied found ≡ lookup (nat_eq k) indexes → is_some found ≡ true
     → (position : ℕ) × (lookup (nat_eq k) indexes ≡ Some position)
 known_index k indexes None e h = absurd (true≢false (sym h))
 known_index k indexes (Some position) e h = (position.now, sym e)
 
--- as many rows as entries
+-- there are as many rows as entries
 pub length-name_rows : (entries : List (String Global × ℕ)) → length (name_rows entries) ≡ length entries
 length-name_rows entries = length-map entries (λ e. record { name = string_bytes e.0; value = e.1 })
 
--- a row that a program's table lists
+-- a row in a table of the program
 abbrev pub listed_row : Bor (List ℕ) × ℕ → NameRow
 listed_row r = record { name = r.0.now; value = r.1 }
 
@@ -161,7 +161,7 @@ pub rows_from : (rows : List (Bor (List ℕ) × ℕ)) (i : ℕ) (d : Bor (List �
     → map listed_row (drop i rows) ≡ listed_row (get_or rows i d) ∷ map listed_row (drop (i + 1) rows)
 rows_from rows i d h = ap (map listed_row) (drop-cons rows i d h) ∙ ap (λ n. listed_row (get_or rows i d) ∷ map listed_row (drop n rows)) (sym (add-one i))
 
--- one turn over listed rows that can be put behind the others: the row of this turn, and the rows left
+-- one turn over rows that can be added after the others: the row of this turn, and the rows that are left
 pub record Turn (names : List NameRow) (row : NameRow) (left all : List NameRow) : Type 0 where
   pub keysym : row.value ≤ max_keysym
   pub addable : is_addable names row ≡ true
@@ -173,7 +173,7 @@ first_turn names left all row whole addable =
     let first = addable_first names row left addable in
     record { keysym = addable_is_keysym names row first.0; addable = first.0; whole = append_assoc names (row ∷ []) left ∙ whole; others = first.1 }
 
--- of listed rows that may all be added, the next one is added and leaves those behind it
+-- of rows that can be added, the next one is added, and those after it are left
 pub turn : (names : List NameRow) (rows : List (Bor (List ℕ) × ℕ)) (i : ℕ) (d : Bor (List ℕ) × ℕ) → i < length rows
     → names ++ map listed_row (drop i rows) ≡ map listed_row rows → are_addable names (map listed_row (drop i rows)) ≡ true
     → Turn names (listed_row (get_or rows i d)) (map listed_row (drop (i + 1) rows)) (map listed_row rows)
@@ -181,26 +181,26 @@ turn names rows i d more whole addable =
     let left = rows_from rows i d more in
     first_turn names _ _ _ (subst (λ r. names ++ r ≡ map listed_row rows) left whole) (subst (λ r. are_addable names r ≡ true) left addable)
 
--- the test of bytes, and equality
+-- the equality test of bytes, and equality
 bytes_eq-itself : (xs : List ℕ) → bytes_eq xs xs ≡ true
 bytes_eq-itself xs = grind (arith, bytes_eq-Decides xs xs)
 
 bytes_eq-same : (xs ys : List ℕ) → bytes_eq xs ys ≡ true → xs ≡ ys
 bytes_eq-same xs ys e = grind (arith, bytes_eq-Decides xs ys)
 
--- a name behind the others is looked up last
+-- a name after the others is found last
 pub row_value-push : (n : List ℕ) (rows : List NameRow) (row : NameRow)
     → row_value (rows ++ row ∷ []) n ≡ option_or (row_value rows n) (cond (bytes_eq n row.name) (Some row.value) None)
 row_value-push n [] row = refl
 row_value-push n (r ∷ rows) row = pushed (bytes_eq n r.name) r.value (row_value rows n) (row_value (rows ++ row ∷ []) n) _ (row_value-push n rows row)
 
--- and is the last that may be the first name of its value
+-- and is the last that can be the first name of its value
 pub first_name-push : (k : ℕ) (rows : List NameRow) (row : NameRow)
     → first_name (rows ++ row ∷ []) k ≡ option_or (first_name rows k) (cond (nat_eq k row.value) (Some row.name) None)
 first_name-push k [] row = refl
 first_name-push k (r ∷ rows) row = pushed (nat_eq k r.value) r.name (first_name rows k) (first_name (rows ++ row ∷ []) k) _ (first_name-push k rows row)
 
--- a new name keeps the first names
+-- a new name does not change the first names
 pub first_names-push : (rows : List NameRow) (row : NameRow) → row_value rows row.name ≡ None → FirstNamesLookUp rows → FirstNamesLookUp (rows ++ row ∷ [])
 first_names-push rows row new looks = λ k n e. row_value-push n rows row ∙ by k n (first_name rows k) refl (sym (first_name-push k rows row) ∙ e)
   where
@@ -219,7 +219,7 @@ first_names-push rows row new looks = λ k n e. row_value-push n rows row ∙ by
         let name : m ≡ n = cc in
         ap (λ o. option_or o (cond (bytes_eq n row.name) (Some row.value) None)) (looks k n (f ∙ ap Some name))
 
--- the row at the index of a value's first row has that value's first name
+-- the row at the index of the first row with a value has the first name of the value
 pub record NamedAt (k at position : ℕ) (rows : List NameRow) : Type 0 where
   pub index : ℕ
   pub row : NameRow
@@ -257,7 +257,7 @@ first_name-at_index k position rows e =
     let same : position ≡ named.index = omega (arith, named.there) in
     ap (λ i. option_map (λ (row : NameRow). row.name) (slice_get rows i)) same ∙ ap (option_map (λ (row : NameRow). row.name)) named.found ∙ sym named.first
 
--- what a map's `get_index` found is the name of the row there
+-- what `get_index` found in a map is the name of that row
 pub name-at : (entries : List (String Global × ℕ)) (position : ℕ)
     → option_map (λ (row : NameRow). row.name) (slice_get (name_rows entries) position) ≡ option_map (λ e. string_bytes e.0) (slice_get entries position)
 name-at entries position = ap (option_map (λ (row : NameRow). row.name)) (slice_get-map (λ e. record { name = string_bytes e.0; value = e.1 }) entries position) ∙ named (slice_get entries position)
@@ -290,7 +290,7 @@ form_looks_up names n k all form = by (row_value names.names n) refl
     by None e = ap (λ o. option_or o (form_value n)) e ∙ form
     by (Some v) e = ap (λ o. option_or o (form_value n)) e ∙ ap Some (row_agrees names.names n v k all e form)
 
--- the value of a name without a form is what the table says of it
+-- a name without a form has the value in the table
 pub value-without_form : (names : KeysymNames) (n : List ℕ) → form_value n ≡ None → value names n ≡ row_value names.names n
 value-without_form names n form = ap (option_or (row_value names.names n)) form ∙ by (row_value names.names n)
   where
@@ -298,7 +298,7 @@ value-without_form names n form = ap (option_or (row_value names.names n)) form 
     by None = refl
     by (Some v) = refl
 
--- and what the table says of a name is its value
+-- a name in the table has the value in the table
 pub row_looks_up : (names : KeysymNames) (n : List ℕ) (k : ℕ) → row_value names.names n ≡ Some k → value names n ≡ Some k
 row_looks_up names n k e = ap (λ o. option_or o (form_value n)) e
 

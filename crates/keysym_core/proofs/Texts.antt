@@ -1,4 +1,4 @@
--- How long the text of a keysym is.
+-- The length of the text of a keysym.
 use Rattle.std.proofs.Common.{◌≤◌, ℕ, length, Option, Some, None, arith}
 use Rattle.std.proofs.lemmas.Str.{length-encode, len_utf8_bounds}
 use Rattle.std.specs.Prelude.{[], encode_utf8}
@@ -10,6 +10,6 @@ short_text : (c : Option ℕ) → length (option_map_or encode_utf8 c []) ≤ 4
 short_text None = omega arith
 short_text (Some c) = rw (length-encode c) ((len_utf8_bounds c).1)
 
--- so has the text of each keysym, which is what a reader needs to know that it fits a table
+-- so has the text of each keysym: a reader needs to know that it fits a table
 pub text_fits : (names : KeysymNames) (k : ℕ) → length (text names k) ≤ 4
 text_fits names k = short_text (character_of names k)

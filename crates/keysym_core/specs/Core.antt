@@ -1,15 +1,15 @@
--- The core names (keysymdef.h; which of its names are core is this project's profile).
+-- The core names (keysymdef.h; the choice of core names among its names is this project's profile).
 use Rattle.std.specs.Prelude.{ℕ, ◌+◌, List, [], ◌∷◌, ◌++◌, codes}
 use Prim.Native.String.{String}
 use Rattle.compose_text.specs.Lines.{divide}
 use Rattle.keysym_core.specs.Names.{NameRow, KeysymNames}
 
--- each name has the value behind that of the name before it
+-- each name has a value one greater than that of the name before it
 abbrev pub rising_names : ℕ → List (List ℕ) → List NameRow
 rising_names value [] = []
 rising_names value (name ∷ names) = record { name = name; value = value } ∷ rising_names (value + 1) names
 
--- names with a blank (code 32) between them, to rising values from the first one on
+-- names with a blank (code 32) between them, for rising values from the first one on
 abbrev pub from : ℕ → String → List NameRow
 from first names = rising_names first (divide 32 (codes names))
 
@@ -34,7 +34,7 @@ upper_latin1_names =
     ++ from 0xe0 "agrave aacute acircumflex atilde adiaeresis aring ae ccedilla egrave eacute ecircumflex ediaeresis igrave iacute icircumflex idiaeresis"
     ++ from 0xf0 "eth ntilde ograve oacute ocircumflex otilde odiaeresis division oslash ugrave uacute ucircumflex udiaeresis yacute thorn ydiaeresis"
 
--- dead keys, the keys of a terminal, the key pad's digits, and what a compose state passes over
+-- dead keys, TTY function keys, keypad digits, and the keysyms that a compose state ignores
 abbrev pub function_names : List NameRow
 function_names =
     from 0x0 "NoSymbol"
@@ -48,7 +48,7 @@ function_names =
     ++ from 0xffb0 "KP_0 KP_1 KP_2 KP_3 KP_4 KP_5 KP_6 KP_7 KP_8 KP_9"
     ++ from 0xffe1 "Shift_L Shift_R Control_L Control_R Caps_Lock Shift_Lock Meta_L Meta_R Alt_L Alt_R Super_L Super_R Hyper_L Hyper_R"
 
--- second names of keysyms above
+-- second names of some keysyms above
 abbrev pub second_names : List NameRow
 second_names =
     from 0x27 "quoteright"

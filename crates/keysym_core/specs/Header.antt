@@ -1,4 +1,4 @@
--- A header of names (the lines of keysymdef.h; which comments give a character is this project's profile).
+-- A header of names (the lines of keysymdef.h; which comments assign a character is this project's profile).
 use Rattle.std.specs.Prelude.{◌≡◌, ℕ, ◌+◌, Bool, false, ◌&&◌, ◌||◌, not, ◌==◌, nat_le, nat_lt, if◌then◌else◌, List, [], ◌∷◌, ◌++◌, length, take, drop, Option, Some, None, is_some, Result, Ok, Err, bytes_eq, codes}
 use Rattle.std.specs.List.{position_or_len}
 use Rattle.std.specs.Option.{option_map, option_map_or}
@@ -13,13 +13,14 @@ use Rattle.keysym_core.specs.Core.{core_names}
 use Rattle.keysym_core.specs.declared.fault.NameFault.{NameFault}
 use Rattle.keysym_core.specs.declared.fault.NameFault.TheVariants.{NotUtf8, BadLine, ValueTooLarge, NameConflict, TooManyNames, NoMemory}
 
--- ---- a line, read from the left on (its grammar is the relation of HeaderLine, and law_header_line says that the two agree)
+-- ---- a line, read from left to right (its grammar is the relation in HeaderLine; law_header_line states that the two
+-- agree)
 
--- how many bytes pass, up to the first that doesn't
+-- the number of leading bytes that pass the test
 abbrev pub run_length : (ℕ → Bool) → List ℕ → ℕ
 run_length p bytes = position_or_len (λ b. not (p b)) bytes
 
--- these bytes, and those behind them
+-- the leading bytes that pass the test, and the bytes after them
 abbrev pub run : (ℕ → Bool) → List ℕ → List ℕ
 run p bytes = take (run_length p bytes) bytes
 
@@ -29,20 +30,20 @@ behind_run p bytes = drop (run_length p bytes) bytes
 abbrev pub begins_with : List ℕ → List ℕ → Bool
 begins_with start bytes = bytes_eq (take (length start) bytes) start
 
--- what a line defines: a name, its value, and the character that its comment gives
+-- the definition in a line: a name, its value, and the character in its comment
 pub record Entry : Type 0 where
   pub name : List ℕ
   pub value : ℕ
   pub character : Option ℕ
 
--- a character, and no control
+-- a number of a character other than a control character
 abbrev pub is_graphic : ℕ → Bool
 is_graphic c = not (is_control c || is_surrogate c || nat_lt 0x10ffff c)
 
 abbrev pub graphic_character : ℕ → Option ℕ
 graphic_character c = if is_graphic c then Some c else None
 
--- four to six digits behind `U+`, as many as there are
+-- four to six digits after `U+`, as many as there are
 abbrev pub numbered_character : List ℕ → Option ℕ
 numbered_character bytes =
     let digits = run is_hexadecimal_digit (drop 2 bytes) in
@@ -53,15 +54,15 @@ abbrev pub unparenthesized : List ℕ → List ℕ
 unparenthesized [] = []
 unparenthesized (b ∷ bytes) = if b == 40 then bytes else b ∷ bytes
 
--- the character that the text of a comment gives
+-- the character at the beginning of a comment
 abbrev pub noted_character : List ℕ → Option ℕ
 noted_character text = numbered_character (unparenthesized (behind_run is_blank text))
 
--- the text of the comment that ends a line, empty where there is none
+-- the text of the comment at the end of a line, which is empty without a comment
 abbrev pub comment_text : List ℕ → Option (List ℕ)
 comment_text rest = if length rest == 0 then Some [] else if begins_with (codes "/*") rest then Some (drop 2 rest) else None
 
--- the value and what follows: `0x`, one to eight digits, blanks, and perhaps a comment
+-- the value and what follows it: `0x`, one to eight digits, blanks, and perhaps a comment
 abbrev pub valued : List ℕ → List ℕ → Option Entry
 valued name number =
     let digits = run is_hexadecimal_digit (drop 2 number) in
@@ -70,7 +71,7 @@ valued name number =
     then option_map (λ text. record { name = name; value = hexadecimal digits; character = noted_character text }) (comment_text (behind_run is_blank rest))
     else None
 
--- the definition behind `#define XK_`: a name, blanks, and its value
+-- the definition after `#define XK_`: a name, blanks, and its value
 abbrev pub entry_of : List ℕ → Option Entry
 entry_of bytes =
     let blanks = behind_run is_name_byte bytes in
@@ -79,20 +80,21 @@ entry_of bytes =
 abbrev pub define : List ℕ
 define = codes "#define XK_"
 
--- what a whole line defines: the entry to which HeaderLine's DefinesEntry relates it, and none where there is no such entry
+-- the definition in a whole line: the entry to which DefinesEntry of HeaderLine relates it, and none if there is no
+-- such entry
 abbrev pub entry_said : List ℕ → Option Entry
 entry_said line = if begins_with define line then entry_of (drop (length define) line) else None
 
--- ---- the names that lines give
+-- ---- the names in the lines
 
 abbrev pub max_names : ℕ
 max_names = 16384
 
--- the name looks up as another keysym already
+-- the name already looks up as another keysym
 abbrev pub is_conflict : KeysymNames → List ℕ → ℕ → Bool
 is_conflict names name v = option_map_or (λ known. not (known == v)) (value names name) false
 
--- the names with a name that the line n defines
+-- the names, and a name that the line n defines
 abbrev pub with_name : KeysymNames → ℕ → List ℕ → ℕ → Result KeysymNames NameFault
 with_name names n name v =
     if is_conflict names name v then Err (NameConflict n) else
@@ -100,26 +102,26 @@ with_name names n name v =
     if nat_le max_names (length names.names) then Err TooManyNames else
     Ok (record names { names = names.names ++ record { name = name; value = v } ∷ [] })
 
--- and with the character that it gives
+-- and the character that the line assigns
 abbrev pub with_noted : Result KeysymNames NameFault → ℕ → Option ℕ → Result KeysymNames NameFault
 with_noted (Err fault) v noted = Err fault
 with_noted (Ok names) v None = Ok names
 with_noted (Ok names) v (Some c) = Ok (record names { characters = with_character names.characters v c })
 
--- the names with what the line n defines
+-- the names, and the definition in the line n
 abbrev pub with_entry : KeysymNames → ℕ → Option Entry → Result KeysymNames NameFault
 with_entry names n None = Err (BadLine n)
 with_entry names n (Some entry) = if is_keysym entry.value then with_noted (with_name names n entry.name entry.value) entry.value entry.character else Err (ValueTooLarge n)
 
--- the names with the text of the line n, which is skipped where it defines no keysym's name
+-- the names, and the definition in the text of the line n, which is skipped if it does not define the name of a keysym
 abbrev pub with_text : KeysymNames → ℕ → List ℕ → Result KeysymNames NameFault
 with_text names n line = if begins_with define line then with_entry names n (entry_said line) else Ok names
 
--- the names with the line n
+-- the names, and the definition in the line n
 abbrev pub with_line : KeysymNames → ℕ → List ℕ → Result KeysymNames NameFault
 with_line names n line = if is_utf8 line then with_text names n line else Err (NotUtf8 n)
 
--- one line after another from the line n on, up to the first fault
+-- the lines one after another, counted from n, up to the first fault
 abbrev pub with_lines : Result KeysymNames NameFault → ℕ → List (List ℕ) → Result KeysymNames NameFault
 with_lines (Err fault) n lines = Err fault
 with_lines (Ok names) n [] = Ok names
@@ -129,14 +131,14 @@ with_lines (Ok names) n (line ∷ lines) = with_lines (with_line names n line) (
 abbrev pub names_of : List ℕ → Result KeysymNames NameFault
 names_of header = with_lines (Ok core_names) 1 (lines_of header)
 
--- ---- what a call gives, unless memory runs out
+-- ---- the result of a function, unless memory runs out
 
 abbrev pub NamesGives : Result KeysymNames NameFault → Result KeysymNames NameFault → Type 0
 NamesGives (Ok names) said = said ≡ Ok names
 NamesGives (Err NoMemory) said = Unit {0}
 NamesGives (Err fault) said = said ≡ Err fault
 
--- the same of a call that changes the names
+-- the same for a function that changes the names
 abbrev pub ChangeGives : {A : Type 0} → Result A NameFault → KeysymNames → Result KeysymNames NameFault → Type 0
 ChangeGives (Ok x) after said = said ≡ Ok after
 ChangeGives (Err NoMemory) after said = Unit {0}

@@ -1,4 +1,4 @@
--- The names of keysyms, as rows in the order in which they were given, and the text of a keysym.
+-- The names of keysyms, as rows in the order in which they were added, and the text of a keysym.
 use Rattle.std.specs.Prelude.{ℕ, Bool, ◌+◌, ◌-◌, ◌&&◌, ◌||◌, ◌==◌, nat_lt, nat_le, if◌then◌else◌, List, [], ◌∷◌, Option, Some, None, bytes_eq, encode_utf8}
 use Rattle.std.specs.Option.{option_map_or, option_or}
 use Rattle.compose_text.specs.Numbers.{is_between, is_hexadecimal, hexadecimal}
@@ -14,7 +14,7 @@ pub record CharacterRow : Type 0 where
   pub value : ℕ
   pub character : ℕ
 
--- the core rows first, then those of the header's lines in order
+-- the core names first, then those of the lines of a header in order
 pub record KeysymNames : Type 0 where
   pub names : List NameRow
   pub characters : List CharacterRow
@@ -28,15 +28,15 @@ is_latin1 k = is_between 0x20 0x7e k || is_between 0xa0 0xff k
 abbrev pub is_surrogate : ℕ → Bool
 is_surrogate c = is_between 0xd800 0xdfff c
 
--- a keysym above 0x01000100 stands for the character of the number less 0x01000000 (keysymdef.h)
+-- a keysym from 0x01000100 on stands for the character with its number less 0x01000000 (keysymdef.h)
 abbrev pub is_unicode_keysym : ℕ → Bool
 is_unicode_keysym k = is_between 0x01000100 0x0110ffff k
 
--- the ten digits of the key pad
+-- the ten digits of the keypad
 abbrev pub is_keypad_digit : ℕ → Bool
 is_keypad_digit k = is_between 0xffb0 0xffb9 k
 
--- the first character that is given to the value
+-- the first character that is assigned to the value
 abbrev pub first_character : List CharacterRow → ℕ → Option ℕ
 first_character [] k = None
 first_character (row ∷ rows) k = if k == row.value then Some row.character else first_character rows k
@@ -80,7 +80,7 @@ number_form [] = None
 number_form (z ∷ []) = None
 number_form (z ∷ x ∷ ds) = if z == 48 && x == 120 && is_hexadecimal 1 8 ds && is_keysym (hexadecimal ds) then Some (hexadecimal ds) else None
 
--- the keysym that a name writes by itself, in one of the two forms
+-- the keysym that a name writes in one of the two forms
 abbrev pub form_value : List ℕ → Option ℕ
 form_value n = option_or (character_form n) (number_form n)
 

@@ -1,4 +1,4 @@
-//! Keysyms by the character that a header gives them.
+//! The keysyms of a character, among those that a header assigns it to.
 ghost use Rattle.std.specs.Prelude.{◌≡◌, ◌≤◌, ◌+◌, ◌<◌, ℕ, true};
 ghost use Rattle.std.specs.List.{list_any};
 ghost use Rattle.std.specs.List.Sorted.{IsNonDecreasingBy};
@@ -9,7 +9,7 @@ ghost use Rattle.keysym_core.specs.Next.{IsLeastFrom};
 use crate::keysym::Keysym;
 use std::marker::Model;
 
-/// A keysym and the character that a header gives it.
+/// A keysym and the character that a header assigns to it.
 #[derive(Drop)]
 pub(crate) struct CharacterEntry {
     pub value: Keysym,
@@ -25,7 +25,7 @@ impl Model for CharacterEntry {
 }
 
 impl CharacterEntry {
-    /// Its rank in the order by characters and then by values.
+    /// Returns the rank of the entry in the order by character and then by keysym.
     fn rank(&self) -> u64
         ensures { result ≡ rank self.now }
     {
@@ -33,7 +33,7 @@ impl CharacterEntry {
     }
 }
 
-/// The entries by their characters, and among equal ones by their values. O(n log n).
+/// Returns the entries sorted by character, and those of one character by keysym. O(n log n).
 pub(crate) fn sorted_by_character(entries: Vec<CharacterEntry>) -> Vec<CharacterEntry>
     ensures same { (c k : ℕ)
         → list_any (is_entry c k) result.items ≡ list_any (is_entry c k) entries.items }
@@ -44,7 +44,7 @@ pub(crate) fn sorted_by_character(entries: Vec<CharacterEntry>) -> Vec<Character
     sorted
 }
 
-/// The least keysym from `low` on with this character among sorted entries. O(log n).
+/// Returns the least keysym not below `low` with this character, given sorted entries. O(log n).
 pub(crate) fn next_given(entries: &[CharacterEntry], character: char, low: u32) -> Option<Keysym>
     requires sorted { IsNonDecreasingBy rank entries.now }
     requires keysyms { (c k : ℕ) → list_any (is_entry c k) entries.now ≡ true → k ≤ max_keysym }

@@ -1,4 +1,4 @@
-//! The names that write a keysym by themselves: `U00E9` and `0xe9`.
+//! The names that write a keysym by its number: `U00E9` and `0xe9`.
 ghost use Rattle.std.specs.Prelude.{◌≡◌, ◌∷◌, Some, IfOk, string_bytes, true};
 ghost use Rattle.keysym_core.specs.Names as words;
 ghost use Rattle.std.specs.Fmt.{digits};
@@ -8,8 +8,9 @@ use crate::keysym::Keysym;
 use compose_text::hexadecimal_number;
 use std::alloc::{AllocError, Global};
 
-/// The keysym that a name writes by one of the two forms. O(1): no form is longer than ten bytes. It is inlined down to the digits, so that
-/// a name that is no form costs a test or two of its first bytes.
+/// Returns the keysym that a name writes in one of the two forms. O(1): no form is longer than ten
+/// bytes. It is inlined except for the digits, so a name in neither form costs only one or two
+/// tests of its first bytes.
 #[inline(always)]
 pub(crate) fn form_value(name: &[u8]) -> Option<Keysym>
     ensures { result ≡ words.form_value name.now }
@@ -20,7 +21,7 @@ pub(crate) fn form_value(name: &[u8]) -> Option<Keysym>
     }
 }
 
-/// The keysym that a name writes as the letter `U` and four to six digits.
+/// Returns the keysym that a name writes as the letter `U` and four to six digits.
 #[inline(always)]
 fn character_form(name: &[u8]) -> Option<Keysym>
     ensures { result ≡ words.character_form name.now }
@@ -33,7 +34,7 @@ fn character_form(name: &[u8]) -> Option<Keysym>
     keysym_of_character(character)
 }
 
-/// The keysym that a name writes as `0x` and one to eight digits.
+/// Returns the keysym that a name writes as `0x` and one to eight digits.
 #[inline(always)]
 fn number_form(name: &[u8]) -> Option<Keysym>
     ensures { result ≡ words.number_form name.now }
@@ -47,7 +48,8 @@ fn number_form(name: &[u8]) -> Option<Keysym>
     Keysym::new(number)
 }
 
-/// The keysym of a character: its own number in Latin-1, else `0x01000000` added. None for controls, surrogates and numbers above 10FFFF.
+/// Returns the keysym of a character: its own number in Latin-1, else `0x01000000` added; `None`
+/// for control characters, surrogates and numbers above 10FFFF.
 pub(crate) fn keysym_of_character(character: u32) -> Option<Keysym>
     ensures { result ≡ words.keysym_of_character character }
 {
@@ -59,7 +61,10 @@ pub(crate) fn keysym_of_character(character: u32) -> Option<Keysym>
     }
 }
 
-/// The form that writes this keysym: `U` and its character's number, or `0x` and its own. O(1).
+/// Returns the form that writes this keysym: `U` and the number of its character, or `0x` and its
+/// own number. O(1).
+///
+/// Errors: `AllocError` if memory runs out.
 pub(crate) fn form_of(alloc: Global, keysym: Keysym) -> Result<String, AllocError>
     ensures same { IfOk result (λ text. string_bytes text ≡ form_of keysym) }
     ensures found { IfOk result (λ text. words.form_value (string_bytes text) ≡ Some keysym) }
@@ -73,7 +78,7 @@ pub(crate) fn form_of(alloc: Global, keysym: Keysym) -> Result<String, AllocErro
     }
 }
 
-/// The letter `U` and at least four upper case digits.
+/// Returns the letter `U` and at least four upper case digits.
 fn character_text(alloc: Global, character: u32) -> Result<String, AllocError>
     ensures { IfOk result
         (λ text. string_bytes text ≡ 85 ∷ at_least_four (digits 16 true character)) }

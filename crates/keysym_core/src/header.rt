@@ -1,4 +1,4 @@
-//! The lines of a header: what each of them defines.
+//! The definitions in the lines of a header.
 ghost use Rattle.std.specs.Prelude.{◌≡◌, ◌<◌, ◌≤◌, length, option_copied, position, not, ◌==◌, IfSome};
 ghost use Rattle.compose_text.specs.Numbers.{is_hexadecimal_digit};
 ghost use Rattle.keysym_core.specs.Header as words;
@@ -9,7 +9,7 @@ use compose_text::hexadecimal_number;
 use std::marker::Model;
 use std::str;
 
-/// What a line defines: a name with its value, and the character that its comment gives.
+/// The definition in a line: a name with its value, and the character in the comment after it.
 #[derive(Drop)]
 pub(crate) struct Entry<'a> {
     pub name: &'a str,
@@ -25,7 +25,8 @@ impl<'a> Model for Entry<'a> {
     ghost view = { λ e. record { name = e.name.now; value = e.value; character = e.character } };
 }
 
-/// The definition that follows `#define XK_`, if it is one. O(n) in the bytes.
+/// Returns the definition that follows `#define XK_`; `None` if it is not a definition. O(n) in the
+/// bytes.
 pub(crate) fn entry_of(bytes: &[u8]) -> Option<Entry<'_>>
     ensures { result ≡ words.entry_of bytes.now }
 {
@@ -38,7 +39,7 @@ pub(crate) fn entry_of(bytes: &[u8]) -> Option<Entry<'_>>
     valued(str::from_utf8(name).unwrap(), &others[blank_length..])
 }
 
-/// The value of a name and the character of the comment behind it.
+/// Returns the entry of this name with its value, and the character in the comment after it.
 fn valued<'a>(name: &'a str, number: &[u8]) -> Option<Entry<'a>>
     ensures { result ≡ words.valued name.now number.now }
 {
@@ -53,7 +54,8 @@ fn valued<'a>(name: &'a str, number: &[u8]) -> Option<Entry<'a>>
     })
 }
 
-/// The text of the comment that ends a line; empty without one, and none where something else stands there.
+/// Returns the text of the comment at the end of a line, which is empty without a comment; `None`
+/// if something else is there.
 fn comment_text(rest: &[u8]) -> Option<&[u8]>
     ensures { option_copied result ≡ words.comment_text rest.now }
 {
@@ -63,7 +65,7 @@ fn comment_text(rest: &[u8]) -> Option<&[u8]>
     rest.strip_prefix(b"/*")
 }
 
-/// The character that the text of a comment gives, as in ` U+03B1 GREEK SMALL LETTER ALPHA `.
+/// Returns the character at the beginning of a comment, as in ` U+03B1 GREEK SMALL LETTER ALPHA `.
 fn noted_character(text: &[u8]) -> Option<char>
     ensures { result ≡ words.noted_character text.now }
 {
@@ -71,7 +73,7 @@ fn noted_character(text: &[u8]) -> Option<char>
     numbered_character(text.strip_prefix(b"(").unwrap_or(text))
 }
 
-/// The character of four to six digits behind `U+`.
+/// Returns the character of four to six digits after `U+`.
 fn numbered_character(bytes: &[u8]) -> Option<char>
     ensures { result ≡ words.numbered_character bytes.now }
 {
@@ -80,7 +82,8 @@ fn numbered_character(bytes: &[u8]) -> Option<char>
     graphic_character(hexadecimal_number(4, 6, digits)?)
 }
 
-/// The character of a number; none for controls, surrogates and numbers above 10FFFF.
+/// Returns the character with this number; `None` for control characters, surrogates and numbers
+/// above 10FFFF.
 fn graphic_character(number: u32) -> Option<char>
     ensures { result ≡ words.graphic_character number }
 {
@@ -90,7 +93,7 @@ fn graphic_character(number: u32) -> Option<char>
     }
 }
 
-/// How many bytes of a name stand first.
+/// Returns the number of leading bytes of a name.
 fn name_length(bytes: &[u8]) -> usize
     ensures same { result ≡ run_length is_name_byte bytes.now }
     ensures within { result ≤ length bytes.now }
@@ -98,7 +101,7 @@ fn name_length(bytes: &[u8]) -> usize
     name_end(bytes).unwrap_or(bytes.len())
 }
 
-/// Where the first other byte stands.
+/// Returns the index of the first byte that is not of a name.
 fn name_end(bytes: &[u8]) -> Option<usize>
     ensures same { result ≡ position (λ b. not (is_name_byte b)) bytes.now }
     ensures within { IfSome result (λ end. end < length bytes.now) }
@@ -106,7 +109,7 @@ fn name_end(bytes: &[u8]) -> Option<usize>
     bytes.iter().position(|byte| !is_name_byte(*byte))
 }
 
-/// How many blanks stand first.
+/// Returns the number of leading blanks.
 fn blank_length(bytes: &[u8]) -> usize
     ensures same { result ≡ run_length is_blank bytes.now }
     ensures within { result ≤ length bytes.now }
@@ -114,7 +117,7 @@ fn blank_length(bytes: &[u8]) -> usize
     blank_end(bytes).unwrap_or(bytes.len())
 }
 
-/// Where the first other byte stands.
+/// Returns the index of the first byte that is not a blank.
 fn blank_end(bytes: &[u8]) -> Option<usize>
     ensures same { result ≡ position (λ b. not (is_blank b)) bytes.now }
     ensures within { IfSome result (λ end. end < length bytes.now) }
@@ -122,7 +125,7 @@ fn blank_end(bytes: &[u8]) -> Option<usize>
     bytes.iter().position(|byte| !is_blank(*byte))
 }
 
-/// How many hexadecimal digits stand first.
+/// Returns the number of leading hexadecimal digits.
 fn digit_length(bytes: &[u8]) -> usize
     ensures same { result ≡ run_length is_hexadecimal_digit bytes.now }
     ensures within { result ≤ length bytes.now }
@@ -130,7 +133,7 @@ fn digit_length(bytes: &[u8]) -> usize
     digit_end(bytes).unwrap_or(bytes.len())
 }
 
-/// Where the first other byte stands.
+/// Returns the index of the first byte that is not a hexadecimal digit.
 fn digit_end(bytes: &[u8]) -> Option<usize>
     ensures same { result ≡ position (λ b. not (is_hexadecimal_digit b)) bytes.now }
     ensures within { IfSome result (λ end. end < length bytes.now) }

@@ -1,26 +1,27 @@
-//! Hints of where a name stands, by its first and last bytes.
+//! Hints for the index of a name, by its first and last bytes.
 use crate::keysym::Keysym;
 use indexmap::IndexMap;
 use std::alloc::{AllocError, Global};
 
-/// How many hints there are for each name: the more, the fewer names fall together.
+/// The number of hints for each name: the more there are, the fewer names collide.
 const HINTS_PER_NAME: usize = 4;
 
-/// Odd numbers without a pattern, which spread a product's upper bits.
+/// Odd numbers without a pattern: a product with one of them has well-mixed upper bits.
 const SPREAD_OF_FIRST: u64 = 0x9e37_79b9_7f4a_7c15;
 
 const SPREAD_OF_LAST: u64 = 0xff51_afd7_ed55_8ccd;
 
-/// For the names of a table, where each stands among them: 8 bytes a name.
+/// Hints for the index of each name of a table: 8 bytes per name.
 ///
-/// Where names fall together, the hint is right for the first of them alone. So a hint is checked before it is used.
+/// If names collide, the hint is right only for the first of them. So a hint is checked before it
+/// is used.
 #[derive(Drop)]
 pub(crate) struct Hints {
     indexes: Vec<u16>,
 }
 
 impl Hints {
-    /// The hints for these names. O(names).
+    /// Returns the hints for these names. O(names).
     pub(crate) fn new(
         alloc: Global,
         names: &IndexMap<String, Keysym>,
@@ -34,7 +35,7 @@ impl Hints {
         Ok(hints)
     }
 
-    /// The hint for a name. O(1).
+    /// Returns the hint for a name. O(1).
     pub(crate) fn index_of(&self, name: &[u8]) -> usize {
         match self.indexes.get(self.slot(name)) {
             Some(index) => usize::from(*index),
@@ -42,7 +43,7 @@ impl Hints {
         }
     }
 
-    /// Notes where a name stands, unless an earlier one falls together with it.
+    /// Notes the index of a name, unless it collides with an earlier one.
     fn note(&mut self, name: &[u8], index: usize) {
         let slot = self.slot(name);
         if let (Some(hint), Ok(index)) = (self.indexes.get_mut(slot), u16::try_from(index)) {
@@ -52,7 +53,8 @@ impl Hints {
         }
     }
 
-    /// Which hint is that for this name: a hash of its ends, scaled to the number of hints. O(1).
+    /// Returns the number of the hint for this name: a hash of its ends, scaled to the number of
+    /// hints. O(1).
     fn slot(&self, name: &[u8]) -> usize {
         let (first, last) = ends(name);
         let of_first = first.wrapping_mul(SPREAD_OF_FIRST);
@@ -62,7 +64,8 @@ impl Hints {
     }
 }
 
-/// The first and the last bytes of a name as two numbers: eight of each, or four, or one, as far as the name is long enough. O(1).
+/// Returns the first and the last bytes of a name as two numbers: eight bytes each, or four or one
+/// if the name is shorter. O(1).
 fn ends(name: &[u8]) -> (u64, u64) {
     match (name.first_chunk(), name.last_chunk()) {
         (Some(first), Some(last)) => (u64::from_le_bytes(*first), u64::from_le_bytes(*last)),
@@ -70,7 +73,7 @@ fn ends(name: &[u8]) -> (u64, u64) {
     }
 }
 
-/// The same of a name with fewer than eight bytes.
+/// Like `ends`, for a name of fewer than eight bytes.
 fn short_ends(name: &[u8]) -> (u64, u64) {
     if let (Some(first), Some(last)) = (name.first_chunk(), name.last_chunk()) {
         let first = u32::from_le_bytes(*first);

@@ -4,7 +4,8 @@ ghost use Rattle.keysym_core.specs.Keysym as words;
 
 use std::marker::Model;
 
-/// A keysym: a number from 0 to `0x1fffffff` (keysymdef.h: the three highest bits of the 32 are never set).
+/// A keysym: a number from 0 to `0x1fffffff` (keysymdef.h: the three highest bits of the 32 are
+/// never set).
 #[derive(Clone, Copy, Debug, PartialEq, Eq, PartialOrd, Ord, Hash)]
 #[repr(C)]
 pub struct Keysym {
@@ -22,10 +23,10 @@ impl Model for Keysym {
 }
 
 impl Keysym {
-    /// The greatest keysym's number.
+    /// The number of the greatest keysym.
     pub const GREATEST: u32 = 0x1fffffff;
 
-    /// The keysym of this number; none above `0x1fffffff`. O(1).
+    /// Returns the keysym with this number; `None` above `0x1fffffff`. O(1).
     pub fn new(number: u32) -> Option<Keysym>
         ensures some { number ≤ 0x1fffffff → result ≡ Some number }
         ensures none { 0x1fffffff < number → result ≡ None }
@@ -36,7 +37,7 @@ impl Keysym {
         Some(Keysym { number })
     }
 
-    /// Its number. O(1).
+    /// Returns its number. O(1).
     pub fn value(self) -> u32
         ensures same { result ≡ self }
         ensures fits { result ≤ 0x1fffffff }
@@ -44,7 +45,7 @@ impl Keysym {
         self.number
     }
 
-    /// Whether a compose state passes over it: modifiers, locks and group switches. O(1).
+    /// Returns whether a compose state ignores it: modifiers, locks and group switches. O(1).
     pub fn is_ignored(self) -> bool
         ensures { result ≡ words.is_ignored self }
     {

@@ -1,16 +1,19 @@
-//! Keysyms, the names of keysyms and the text of a keysym.
+//! Keysyms, the names of keysyms, and the text of a keysym.
 //!
-//! A keysym is the number of a symbol on a key (keysymdef.h). `Names` is a table of names with their keysyms and of keysyms with their
-//! characters: the core names, and what a header gives besides. Contracts see it as a record of these rows, in the order in which they
-//! came. `lookup` is the value of a name by the rows or by the forms `U00E9` and `0xe9`, `print` a name that looks up as the keysym,
-//! `text_of` the character of a keysym, and `next_of` the keysyms of a character one after another:
+//! A keysym is the number of a symbol on a key (keysymdef.h). `Names` is a table of names with
+//! their keysyms, and of keysyms with their characters: the core names, and the definitions of a
+//! header. Contracts see it as a record of these rows, in the order in which they were added.
+//! `lookup` returns the keysym of a name by the rows or by the forms `U00E9` and `0xe9`, `print` a
+//! name that looks up as the keysym, `text_of` the character of a keysym, and `next_of` the keysyms
+//! of a character one after another:
 //!
 //!     let names = Names::read(alloc, b"#define XK_Greek_alpha 0x07e1  /* U+03B1 */")?;
 //!     names.lookup("Greek_alpha")      // 0x7e1, whose text is 'α'
-//!     names.next_of('α', None)         // 0x7e1, and behind it 0x10003b1
+//!     names.next_of('α', None)         // 0x7e1, and after it 0x10003b1
 //!
-//! What a line of a header defines is a relation between the two (`specs/HeaderLine.antt`), apart from the reader that takes lines
-//! (`specs/Header.antt`); `law_header_line` says that the two agree on every line.
+//! The definition in a line of a header is given by a grammar, as a relation between the two
+//! (`specs/HeaderLine.antt`), separately from the functions that read lines (`specs/Header.antt`);
+//! `law_header_line` states that the two agree on every line.
 #![tactic(auto)]
 
 ghost use Rattle.std.specs.Prelude.{◌≡◌, ℕ, List, Some};
@@ -35,7 +38,8 @@ pub use keysym::Keysym;
 pub use names::Names;
 pub use shown::{KeyList, ShownChar, ShownKeysym};
 
-/// A line of a header defines one entry at most, and what is read of the line is what it defines.
+/// A line of a header defines at most one entry, and what is read from the line is the entry that
+/// it defines.
 pub fn law_header_line()
     ensures read { (line : List ℕ) (entry : Entry) → DefinesEntry line entry
         → entry_said line ≡ Some entry }

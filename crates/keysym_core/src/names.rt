@@ -19,7 +19,7 @@ use crate::table::NameTable;
 use std::alloc::{AllocError, Global};
 use std::marker::Model;
 
-/// The names of keysyms with their values, and the characters that a header gives.
+/// The names of keysyms with their values, and the characters that a header assigns to keysyms.
 #[derive(Drop)]
 pub struct Names {
     table: NameTable,
@@ -41,10 +41,9 @@ impl Model for Names {
 }
 
 impl Names {
-    /// The core names, without a header. O(n) in the names.
+    /// Returns the core names, without a header. O(n) in the names.
     ///
-    /// # Errors
-    /// `NoMemory` alone.
+    /// Errors: `NoMemory` if memory runs out.
     pub fn core(alloc: Global) -> Result<Names, NameFault>
         ensures ok { IfOk result (λ names. names ≡ core_names) }
         ensures err { IfErr result (λ e. e ≡ NoMemory) }
@@ -54,11 +53,11 @@ impl Names {
         Ok(Names::of_table(alloc, table)?)
     }
 
-    /// The core names and those of a header, whose lines are `#define XK_NAME 0xVALUE` with the character in a comment, as
-    /// `/* U+00E9 .. */`. O(n) in the bytes, and O(m log m) in the m characters.
+    /// Returns the core names and those of a header, whose lines are `#define XK_NAME 0xVALUE` with
+    /// the character in a comment, such as `/* U+00E9 .. */`. O(n) in the bytes, and O(m log m) in
+    /// the m characters.
     ///
-    /// # Errors
-    /// The fault of the first faulty line; `NoMemory` only where a growth was refused.
+    /// Errors: the fault of the first faulty line; `NoMemory` if memory runs out.
     pub fn read(alloc: Global, header: &[u8]) -> Result<Names, NameFault>
         ensures { NamesGives result (names_of header.now) }
     {
@@ -70,7 +69,8 @@ impl Names {
         }
     }
 
-    /// A table with hints of where its names stand and its index by character. O(n) in the names, and O(m log m) in the m characters.
+    /// Returns the table with hints for the index of each name, and with its index by character.
+    /// O(n) in the names, and O(m log m) in the m characters.
     fn of_table(alloc: Global, table: NameTable) -> Result<Names, AllocError>
         ensures { IfOk result (λ names. names ≡ table) }
     {
@@ -83,8 +83,9 @@ impl Names {
         })
     }
 
-    /// The keysym of a name: that of the table's name, else of the form `U00E9`, else of the form `0xe9`. O(1): a
-    /// test of the form, then one of the name at the index where it likely stands, and only else a hash.
+    /// Returns the keysym of a name: by the table, else by the form `U00E9`, else by the form
+    /// `0xe9`. O(1): a test of the form, then a comparison with the name at the hinted index, and a
+    /// hash only if that is another name.
     #[inline(always)]
     pub fn lookup(&self, name: &str) -> Option<Keysym>
         ensures { result ≡ value self.now name.now }
@@ -92,11 +93,11 @@ impl Names {
         self.table.lookup(name, &self.hints)
     }
 
-    /// How a keysym is printed: its first name in the order of the table; else, where it stands for a character by its number, `U` and at
-    /// least four upper case digits; else `0x` and lower case digits. `lookup` gives the keysym of what this prints. O(1).
+    /// Returns the name with which a keysym is printed: its first name in the order of the table;
+    /// else `U` and at least four upper case digits, if it stands for a character by its number;
+    /// else `0x` and lower case digits. `lookup` returns the keysym again. O(1).
     ///
-    /// # Errors
-    /// `NoMemory` alone.
+    /// Errors: `NoMemory` if memory runs out.
     pub fn print(&self, alloc: Global, keysym: Keysym) -> Result<String, NameFault>
         ensures ok { IfOk result (λ text. string_bytes text ≡ printed self.now keysym) }
         ensures found { IfOk result (λ text. value self.now (string_bytes text) ≡ Some keysym) }
@@ -108,7 +109,7 @@ impl Names {
         }
     }
 
-    /// The character of a keysym, if it has one. O(1).
+    /// Returns the character of a keysym, if it has one. O(1).
     pub fn text_of(&self, keysym: Keysym) -> Option<char>
         ensures same { result ≡ character_of self.now keysym }
         ensures fits { (k : ℕ) → length (text self.now k) ≤ 4 }
@@ -122,7 +123,8 @@ impl Names {
         }
     }
 
-    /// The least keysym, above `after` where one is given, whose `text_of` is the character. O(log n) in the characters that the header gives.
+    /// Returns the least keysym, greater than `after` if that is given, whose `text_of` is the
+    /// character. O(log n) in the number of characters that the header assigns.
     pub fn next_of(&self, character: char, after: Option<Keysym>) -> Option<Keysym>
         ensures { IsNextOf self.now character after result }
     {

@@ -1,4 +1,4 @@
-//! The least keysym whose text is fixed as a character.
+//! The least keysym whose character does not depend on a header.
 ghost use Rattle.std.specs.Prelude.{◌≡◌, ◌⊎◌, Some};
 ghost use Rattle.keysym_core.specs.Names.{keysym_of_character};
 ghost use Rattle.keysym_core.specs.GivenCharacters.{keypad_keysym};
@@ -7,7 +7,7 @@ ghost use Rattle.keysym_core.specs.Next.{IsLeastFrom, lesser};
 use crate::form::keysym_of_character;
 use crate::keysym::Keysym;
 
-/// The least keysym from `low` on whose text is this character without a header. O(1).
+/// Returns the least keysym not below `low` that has this character without a header. O(1).
 pub(crate) fn next_fixed(character: u32, low: u32) -> Option<Keysym>
     ensures { IsLeastFrom low
         (λ k. (keysym_of_character character ≡ Some k) ⊎
@@ -18,7 +18,7 @@ pub(crate) fn next_fixed(character: u32, low: u32) -> Option<Keysym>
     lesser(own, keypad)
 }
 
-/// The key pad's digit of a character.
+/// Returns the keypad digit of a character.
 fn keypad_keysym(character: u32) -> Option<Keysym>
     ensures { result ≡ keypad_keysym character }
 {
@@ -28,7 +28,7 @@ fn keypad_keysym(character: u32) -> Option<Keysym>
     }
 }
 
-/// The keysym, if it isn't below `low`.
+/// Returns the keysym, unless it is below `low`.
 fn from_low(keysym: Option<Keysym>, low: u32) -> Option<Keysym>
     ensures { IsLeastFrom low (λ k. keysym ≡ Some k) result }
 {
@@ -39,7 +39,7 @@ fn from_low(keysym: Option<Keysym>, low: u32) -> Option<Keysym>
     Some(found)
 }
 
-/// The lesser of two keysyms that may be missing.
+/// Returns the lesser of two keysyms, either of which may be missing.
 pub(crate) fn lesser(one: Option<Keysym>, other: Option<Keysym>) -> Option<Keysym>
     ensures { result ≡ lesser one other }
 {

@@ -11,7 +11,8 @@ use crate::table::NameTable;
 use compose_text::first_line;
 use std::str;
 
-/// The table with what the lines of a header give, up to the first fault. O(n) in the bytes.
+/// Returns the table with the definitions of a header added, or the fault of the first faulty line.
+/// O(n) in the bytes.
 pub(crate) fn with_lines(table: NameTable, header: &[u8]) -> Result<NameTable, NameFault>
     ensures { NamesGives result (with_lines (Ok table) 1 (lines_of header.now)) }
 {
@@ -26,7 +27,7 @@ pub(crate) fn with_lines(table: NameTable, header: &[u8]) -> Result<NameTable, N
     Ok(grown)
 }
 
-/// Takes what a line gives. Lines count from 1.
+/// Adds the definition of a line to the table. Lines are counted from 1.
 fn take_line(table: &mut NameTable, line: usize, bytes: &[u8]) -> Result<(), NameFault>
     ensures { ChangeGives result table.new (with_line table.old line bytes.now) }
 {
@@ -36,7 +37,7 @@ fn take_line(table: &mut NameTable, line: usize, bytes: &[u8]) -> Result<(), Nam
     }
 }
 
-/// Takes what the text of a line gives.
+/// Adds the definition in the text of a line to the table.
 fn take_text(table: &mut NameTable, line: usize, bytes: &[u8]) -> Result<(), NameFault>
     ensures { ChangeGives result table.new (with_text table.old line bytes.now) }
 {
@@ -49,7 +50,7 @@ fn take_text(table: &mut NameTable, line: usize, bytes: &[u8]) -> Result<(), Nam
     }
 }
 
-/// Takes what a line defines.
+/// Adds a definition to the table.
 fn take_entry(table: &mut NameTable, line: usize, entry: &Entry<'_>) -> Result<(), NameFault>
     ensures { ChangeGives result table.new (with_entry table.old line (Some entry.now)) }
 {
@@ -63,7 +64,7 @@ fn take_entry(table: &mut NameTable, line: usize, entry: &Entry<'_>) -> Result<(
     Ok(())
 }
 
-/// Takes a name and its keysym, unless it looks up as another one or is one too many.
+/// Adds a name and its keysym, unless the name looks up as another one, or there would be too many.
 fn take_name(
     table: &mut NameTable,
     line: usize,

@@ -1,4 +1,4 @@
-//! How keysyms and characters are printed in a fault.
+//! Keysyms and characters as they are printed in a fault.
 ghost use Rattle.std.specs.Prelude.{◌++◌, codes, true, Some};
 ghost use Rattle.std.specs.Fmt.{digits};
 ghost use Rattle.keysym_core.specs.Printed.{at_least_four, shown_keysym, key_list};

@@ -14,7 +14,8 @@ use indexmap::IndexMap;
 use std::alloc::{AllocError, Global};
 use std::marker::Model;
 
-/// Names with their values and keysyms with the characters given to them, each in the order in which they came.
+/// Names with their values, and keysyms with the characters assigned to them, each in the order in
+/// which they were added.
 #[derive(Drop)]
 pub(crate) struct NameTable {
     names: IndexMap<String, Keysym>,
@@ -40,17 +41,17 @@ impl Model for NameTable {
 }
 
 impl NameTable {
-    /// The most names.
+    /// The greatest number of names.
     pub(crate) const MOST: usize = 16384;
 
-    /// How many names there are. O(1).
+    /// Returns the number of names. O(1).
     pub(crate) fn count(&self) -> usize
         ensures { result ≡ length self.now.names }
     {
         self.names.len()
     }
 
-    /// No names. Takes no memory.
+    /// Returns a table without names. Takes no memory.
     fn new(alloc: Global) -> NameTable
         ensures { result ≡ record { names = []; characters = [] } }
     {
@@ -61,7 +62,7 @@ impl NameTable {
         }
     }
 
-    /// These names with their values. O(n) in the names.
+    /// Returns a table of these names with their values. O(n) in the names.
     pub(crate) fn of_rows(alloc: Global, rows: &[(&str, u32)]) -> Result<NameTable, AllocError>
         requires { IsTrue
             (are_addable [] (map (λ r. record { name = r.0.now; value = r.1 }) rows.now)) }
@@ -81,7 +82,8 @@ impl NameTable {
         Ok(table)
     }
 
-    /// The keysym of a name. One that is a form needs no search, since a row of that name agrees with it. O(1).
+    /// Returns the keysym of a name. A name in one of the two forms needs no search, since a row
+    /// with that name agrees with the form. O(1).
     #[inline(always)]
     pub(crate) fn lookup(&self, name: &str, hints: &Hints) -> Option<Keysym>
         ensures { result ≡ value self.now name.now }
@@ -93,21 +95,22 @@ impl NameTable {
         }
     }
 
-    /// The value of the row with this name. O(1).
+    /// Returns the value of the row with this name. O(1).
     pub(crate) fn row_value(&self, name: &str) -> Option<Keysym>
         ensures { result ≡ row_value self.now.names name.now }
     {
         self.names.get(name).copied()
     }
 
-    /// The character that is given to a keysym. O(1).
+    /// Returns the character that is assigned to a keysym. O(1).
     pub(crate) fn given_character(&self, keysym: Keysym) -> Option<char>
         ensures { result ≡ first_character self.now.characters keysym }
     {
         self.characters.get(&keysym).copied()
     }
 
-    /// The first name in the order of the rows with this value. It looks up as that value; where there is none, a form of the keysym does. O(1).
+    /// Returns the first name with this value, in the order of the rows. The name looks up as the
+    /// value, and so does each form of the keysym. O(1).
     pub(crate) fn first_name(&self, keysym: Keysym) -> Option<&str>
         ensures same { option_copied result ≡ first_name self.now.names keysym }
         ensures found { IfSome result (λ name. value self.now name.now ≡ Some keysym) }
@@ -117,7 +120,7 @@ impl NameTable {
         self.name_at(index)
     }
 
-    /// The index of the first row with this value. O(1).
+    /// Returns the index of the first row with this value. O(1).
     fn first_index(&self, keysym: Keysym) -> Option<usize>
         ensures same { result ≡ index_from keysym 0 self.now.names }
         ensures first_names { FirstNamesLookUp self.now.names }
@@ -126,7 +129,7 @@ impl NameTable {
         self.indexes.get(&keysym).copied()
     }
 
-    /// The name of the row at an index. O(1).
+    /// Returns the name of the row at an index. O(1).
     fn name_at(&self, index: usize) -> Option<&str>
         ensures { option_copied result
             ≡ option_map (λ row. row.name) (slice_get self.now.names index) }
@@ -135,12 +138,12 @@ impl NameTable {
         Some(name.as_str())
     }
 
-    /// Hints of where each name stands. O(n) in the names.
+    /// Returns hints for the index of each name. O(n) in the names.
     pub(crate) fn hints(&self, alloc: Global) -> Result<Hints, AllocError> {
         Hints::new(alloc, &self.names)
     }
 
-    /// The rows that count for texts. O(n) in the rows.
+    /// Returns the rows that are used for texts. O(n) in the rows.
     pub(crate) fn counting_entries(&self, alloc: Global) -> Result<Vec<CharacterEntry>, AllocError>
         ensures counting { IfOk result
             (λ entries. HasCountingRows entries.items self.now.characters) }
@@ -149,7 +152,7 @@ impl NameTable {
         counting_rows(alloc, &self.characters)
     }
 
-    /// Gives a keysym a character, if it has none yet. O(1).
+    /// Assigns a character to a keysym, if it has none yet. O(1).
     pub(crate) fn give_character(
         &mut self,
         keysym: Keysym,
@@ -170,7 +173,7 @@ impl NameTable {
         Ok(())
     }
 
-    /// Puts a new name behind the others. O(1).
+    /// Adds a new name after the others. O(1).
     pub(crate) fn add_name(&mut self, name: &str, value: Keysym) -> Result<(), AllocError>
         requires { IsTrue (is_addable self.old.names (record { name = name.now; value = value })) }
         ensures { OnOk result
@@ -192,7 +195,8 @@ impl NameTable {
     }
 }
 
-/// The value of the row with this name, which is looked for at the hinted index first. O(1), and without a hash where it stands there.
+/// Returns the value of the row with this name, trying the hinted index first. O(1), and without a
+/// hash if the name has that index.
 #[inline(always)]
 fn value_by_hint(rows: &IndexMap<String, Keysym>, name: &str, hint: usize) -> Option<Keysym>
     ensures { result ≡ row_value (name_rows rows.now.entries) name.now }
@@ -205,7 +209,8 @@ fn value_by_hint(rows: &IndexMap<String, Keysym>, name: &str, hint: usize) -> Op
     value_by_hash(rows, name)
 }
 
-/// The value of the row with this name. O(1). A call of its own, so that a look-up by a hint is short enough to stand in its caller.
+/// Returns the value of the row with this name. O(1). It is a function of its own, so that a
+/// look-up by a hint is short enough to be inlined.
 #[inline(never)]
 fn value_by_hash(rows: &IndexMap<String, Keysym>, name: &str) -> Option<Keysym>
     ensures { result ≡ row_value (name_rows rows.now.entries) name.now }
@@ -213,7 +218,7 @@ fn value_by_hash(rows: &IndexMap<String, Keysym>, name: &str) -> Option<Keysym>
     rows.get(name).copied()
 }
 
-/// The rows that count for texts.
+/// Returns the rows that are used for texts.
 fn counting_rows(
     alloc: Global,
     characters: &IndexMap<Keysym, char>,
@@ -231,7 +236,7 @@ fn counting_rows(
         .collect(alloc)
 }
 
-/// Whether a keysym's text is fixed, whatever a header gives it.
+/// Returns whether the text of a keysym is fixed, whatever character a header assigns to it.
 fn is_fixed(keysym: Keysym) -> bool
     ensures { result ≡ is_fixed keysym }
 {

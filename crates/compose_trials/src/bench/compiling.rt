@@ -1,4 +1,4 @@
-//! Compiling a table from its bytes.
+//! Compilation of a table from its bytes.
 use crate::bench::figures::print;
 use crate::bench::stopwatch::{ROUNDS, Stopwatch, now};
 use crate::failure::Failure;
@@ -8,7 +8,7 @@ use compose_read::{Definitions, Sequences, Sources, read_definitions, settle};
 use compose_tree::{ComposeTable, LeafId, NodeId, PackedTable};
 use keysym_core::Names;
 
-/// The quickest times of the three parts of compiling, and of the whole.
+/// The least times of the three parts of a compilation, and of the whole.
 #[derive(Clone, Copy, Drop)]
 struct Times {
     reading: Stopwatch,
@@ -17,26 +17,27 @@ struct Times {
     whole: Stopwatch,
 }
 
-/// Reads, settles and builds a table; prints the times, and what the table holds.
+/// Reads, settles and builds a table, and prints the times and the contents of the table. Errors:
+/// see [`Failure`].
 pub fn compile(rt: &HostRuntime, header: &str, path: &str) -> Result<(), Failure> {
     let names = read_names(rt, header)?;
     compile_with(rt, &names, path)
 }
 
-/// The same with these names.
+/// Does the same with these names.
 fn compile_with(rt: &HostRuntime, names: &Names, path: &str) -> Result<(), Failure> {
     let times = measure_table(rt, names, path)?;
     print_times(rt, times)?;
     print_table(rt, names, path)
 }
 
-/// The times of some rounds over the table of a file.
+/// Returns the times of some rounds over the table of a file.
 fn measure_table(rt: &HostRuntime, names: &Names, path: &str) -> Result<Times, Failure> {
     let sources = read_sources(rt, path)?;
     measure(rt, names, &sources, path)
 }
 
-/// The times of some rounds.
+/// Returns the times of some rounds.
 fn measure(
     rt: &HostRuntime,
     names: &Names,
@@ -68,7 +69,7 @@ fn measure_round(
     times.whole.stop(rt, start)
 }
 
-/// Does the three parts of compiling one after the other.
+/// Runs the three parts of a compilation one after another.
 fn compile_round(
     rt: &HostRuntime,
     names: &Names,
@@ -137,13 +138,13 @@ fn print_times(rt: &HostRuntime, times: Times) -> Result<(), Failure> {
     )
 }
 
-/// Prints what the table of a file holds.
+/// Prints the contents of the table of a file.
 fn print_table(rt: &HostRuntime, names: &Names, path: &str) -> Result<(), Failure> {
     let table: PackedTable = read_table(rt, names, path)?;
     print_counts(rt, &table)
 }
 
-/// Prints how many nodes, edges and sequences a table has, and the bytes of its texts.
+/// Prints the numbers of nodes, edges and sequences of a table, and of the bytes of its texts.
 fn print_counts(rt: &HostRuntime, table: &PackedTable) -> Result<(), Failure> {
     print(
         rt,
@@ -157,7 +158,7 @@ fn print_counts(rt: &HostRuntime, table: &PackedTable) -> Result<(), Failure> {
     )
 }
 
-/// How many edges all nodes have.
+/// Returns the number of edges of all nodes.
 fn count_edges(table: &PackedTable) -> u64 {
     let mut count = 0u64;
     for node in 0..table.node_count() {
@@ -166,7 +167,7 @@ fn count_edges(table: &PackedTable) -> u64 {
     count
 }
 
-/// How many bytes all texts have.
+/// Returns the number of bytes of all texts.
 fn count_text_bytes(table: &PackedTable) -> u64 {
     let mut count = 0u64;
     for leaf in 0..table.leaf_count() {

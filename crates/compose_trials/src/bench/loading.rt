@@ -1,4 +1,5 @@
-//! Loads of a table into a service over the same table, beside `check_bytes` on the same bytes.
+//! Loads of a table into a service over the same table, compared with `check_bytes` on the same
+//! bytes.
 use crate::bench::figures::print;
 use crate::bench::stopwatch::{Stopwatch, now};
 use crate::failure::Failure;
@@ -11,7 +12,7 @@ use compose_service::Service;
 use compose_tree::ComposeTable;
 use compose_wire::{Answer, Body, Payload, Request};
 
-/// How often the table is loaded, and the same is checked.
+/// The number of times that the table is loaded, and the same bytes are checked.
 const LOADS: u32 = 100;
 
 /// The bytes of a header of names, of a table, and of its certificate against itself.
@@ -22,7 +23,8 @@ struct Parts {
     certificate: Vec<u8>,
 }
 
-/// Loads the table of a file into a service over it, and checks the same bytes, by turns; prints the quickest times.
+/// Loads the table of a file into a service over it, and checks the same bytes, in turn. Prints the
+/// least times. Errors: see [`Failure`].
 pub fn load<T: ComposeTable>(
     rt: &HostRuntime,
     service: &mut Service<T>,
@@ -32,7 +34,7 @@ pub fn load<T: ComposeTable>(
     load_parts(rt, service, &parts)
 }
 
-/// The parts in these files.
+/// Reads the parts from these files.
 fn read_parts(rt: &HostRuntime, files: &[&str; 3]) -> Result<Parts, Failure> {
     let [header, path, certificate] = files;
     let header = read_file(rt, header)?;
@@ -55,7 +57,7 @@ fn load_parts<T: ComposeTable>(
     measure(rt, service, &request, parts)
 }
 
-/// The request that loads the table.
+/// Makes the request that loads the table.
 fn load_of(rt: &HostRuntime, parts: &Parts) -> Result<Request, Failure> {
     match write_bundle(rt.alloc(), &parts.sources, &parts.certificate) {
         Ok(payload) => Ok(Request {
@@ -66,7 +68,7 @@ fn load_of(rt: &HostRuntime, parts: &Parts) -> Result<Request, Failure> {
     }
 }
 
-/// Prints the quickest times of the request and of a check.
+/// Prints the least times of the request and of a check.
 fn measure<T: ComposeTable>(
     rt: &HostRuntime,
     service: &mut Service<T>,
@@ -99,7 +101,7 @@ fn load_round<T: ComposeTable>(
     stopwatch.stop(rt, start)
 }
 
-/// Whether the service takes the load.
+/// Whether the service accepts the load.
 fn is_loaded<T: ComposeTable>(
     rt: &HostRuntime,
     service: &mut Service<T>,

@@ -1,4 +1,4 @@
-//! Lexing, and reading names and certificates.
+//! The lexer, and the readers of names and certificates.
 use crate::bench::figures::print;
 use crate::bench::stopwatch::{ROUNDS, Stopwatch, now};
 use crate::failure::Failure;
@@ -8,7 +8,7 @@ use compose_cert::Certificate;
 use compose_lex::{Said, lex_line_into};
 use keysym_core::Names;
 
-/// Lexes all lines of a table.
+/// Measures how all lines of a table are lexed. Errors: see [`Failure`].
 pub fn lex(rt: &HostRuntime, path: &str) -> Result<(), Failure> {
     let bytes = read_file(rt, path)?;
     match str::from_utf8(&bytes) {
@@ -25,7 +25,7 @@ fn lex_text(rt: &HostRuntime, text: &str) -> Result<(), Failure> {
     }
 }
 
-/// Lexes the lines in each round; prints the quickest time, and how many events they have.
+/// Lexes the lines in each round, and prints the least time and the number of their events.
 fn lex_rounds(rt: &HostRuntime, lines: &[&str]) -> Result<(), Failure> {
     let mut stopwatch = Stopwatch::new();
     let mut events = 0;
@@ -37,7 +37,7 @@ fn lex_rounds(rt: &HostRuntime, lines: &[&str]) -> Result<(), Failure> {
     print(rt, &[("lex", stopwatch.least()), ("events", events)])
 }
 
-/// How many events the lines have.
+/// Returns the number of events of the lines.
 fn count_events(lines: &[&str]) -> u64 {
     let mut events = ArrayVec::new();
     let mut count = 0u64;
@@ -47,7 +47,7 @@ fn count_events(lines: &[&str]) -> u64 {
     count
 }
 
-/// How many events a line has.
+/// Returns the number of events of a line.
 fn events_on<'a>(line: &'a str, events: &mut ArrayVec<&'a str, 32>) -> u64 {
     match lex_line_into(line, events) {
         Ok(Said::Production { .. }) => events.len() as u64,
@@ -55,13 +55,13 @@ fn events_on<'a>(line: &'a str, events: &mut ArrayVec<&'a str, 32>) -> u64 {
     }
 }
 
-/// Reads a header of names.
+/// Measures how a header of names is read. Errors: see [`Failure`].
 pub fn read_names(rt: &HostRuntime, path: &str) -> Result<(), Failure> {
     let header = read_file(rt, path)?;
     measure_names(rt, &header)
 }
 
-/// Prints the quickest time of reading these bytes of a header.
+/// Prints the least time of reading these bytes of a header.
 fn measure_names(rt: &HostRuntime, header: &[u8]) -> Result<(), Failure> {
     let mut stopwatch = Stopwatch::new();
     for _ in 0..ROUNDS {
@@ -74,7 +74,7 @@ fn measure_names(rt: &HostRuntime, header: &[u8]) -> Result<(), Failure> {
     print(rt, &[("names", stopwatch.least())])
 }
 
-/// Reads a certificate, and writes it.
+/// Measures how a certificate is read and written. Errors: see [`Failure`].
 pub fn read_certificate(rt: &HostRuntime, path: &str) -> Result<(), Failure> {
     let text = read_file(rt, path)?;
     match Certificate::read(rt.alloc(), &text) {
@@ -83,7 +83,7 @@ pub fn read_certificate(rt: &HostRuntime, path: &str) -> Result<(), Failure> {
     }
 }
 
-/// Prints the times of a certificate, and how many pairs it has.
+/// Prints the times of a certificate, and the number of its pairs.
 fn measure_certificate(
     rt: &HostRuntime,
     text: &[u8],
@@ -102,7 +102,7 @@ fn measure_certificate(
     )
 }
 
-/// The quickest time of reading a certificate.
+/// Returns the least time of reading a certificate.
 fn reading_time(rt: &HostRuntime, text: &[u8]) -> Result<u64, Failure> {
     let mut stopwatch = Stopwatch::new();
     for _ in 0..10 {
@@ -115,7 +115,7 @@ fn reading_time(rt: &HostRuntime, text: &[u8]) -> Result<u64, Failure> {
     Ok(stopwatch.least())
 }
 
-/// The quickest time of writing a certificate.
+/// Returns the least time of writing a certificate.
 fn writing_time(rt: &HostRuntime, certificate: &Certificate) -> Result<u64, Failure> {
     let mut stopwatch = Stopwatch::new();
     for _ in 0..10 {

@@ -1,4 +1,4 @@
-//! A service, and what is asked of it.
+//! A service, and requests to it.
 use crate::failure::Failure;
 use crate::input::{read_file, read_names, read_sources};
 use compose_cert::Repertoire;
@@ -8,7 +8,9 @@ use compose_tree::ComposeTable;
 use compose_wire::{Answer, Body, Reply, Request};
 use keysym_core::Names;
 
-/// A service over the table of a file, without a repertoire; the certificate is that of the table against itself.
+/// Starts a service over the table of a file, without a repertoire. The files are those of the
+/// names, the table and its certificate against itself. `Err(File)` if one can't be read,
+/// `Err(Input)` if no service starts; other errors: see [`Failure`].
 pub fn start<T: ComposeTable>(rt: &HostRuntime, files: &[&str; 3]) -> Result<Service<T>, Failure> {
     let [header, path, certificate] = files;
     let certificate = read_file(rt, certificate)?;
@@ -16,7 +18,7 @@ pub fn start<T: ComposeTable>(rt: &HostRuntime, files: &[&str; 3]) -> Result<Ser
     start_with(rt, names, path, &certificate)
 }
 
-/// The same with these names and this certificate.
+/// Does the same with these names and this certificate.
 fn start_with<T: ComposeTable>(
     rt: &HostRuntime,
     names: Names,
@@ -38,7 +40,7 @@ fn start_with<T: ComposeTable>(
     }
 }
 
-/// A repertoire without characters.
+/// Makes a repertoire without characters.
 fn no_repertoire(rt: &HostRuntime) -> Result<Repertoire, Failure> {
     match Repertoire::read(rt.alloc(), &[]) {
         Ok(repertoire) => Ok(repertoire),
@@ -46,7 +48,7 @@ fn no_repertoire(rt: &HostRuntime) -> Result<Repertoire, Failure> {
     }
 }
 
-/// A number of sessions.
+/// Reads a number of sessions from an argument. `Err(Arguments)` if it is not a `u32`.
 pub fn read_count(argument: &str) -> Result<u32, Failure> {
     match argument.parse::<u32>() {
         Ok(count) => Ok(count),
@@ -54,7 +56,7 @@ pub fn read_count(argument: &str) -> Result<u32, Failure> {
     }
 }
 
-/// What the service answers.
+/// Sends a request to the service, and returns its reply.
 pub fn ask<T: ComposeTable>(
     rt: &HostRuntime,
     service: &mut Service<T>,
@@ -65,7 +67,7 @@ pub fn ask<T: ComposeTable>(
     service.answer(rt.alloc(), &request)
 }
 
-/// Opens the sessions 0, 1 and so on.
+/// Opens the sessions 0, 1 and so on, up to this number. `Err(Input)` if one is refused.
 pub fn open_sessions<T: ComposeTable>(
     rt: &HostRuntime,
     service: &mut Service<T>,
@@ -80,7 +82,8 @@ pub fn open_sessions<T: ComposeTable>(
     Ok(())
 }
 
-/// Closes the sessions from one on to before another one.
+/// Closes the sessions from `from` on, up to but not including `to`. `Err(Input)` if one is
+/// refused.
 pub fn close_sessions<T: ComposeTable>(
     rt: &HostRuntime,
     service: &mut Service<T>,

@@ -1,4 +1,5 @@
-//! Keys in the sessions of a service, beside the same keys in as many compose states without one.
+//! Keys in the sessions of a service, compared with the same keys in the same number of compose
+//! states.
 use crate::bench::figures::print;
 use crate::bench::serving::{close_sessions, open_sessions, read_count};
 use crate::bench::stopwatch::{Stopwatch, now};
@@ -13,20 +14,20 @@ use compose_tree::ComposeTable;
 use compose_wire::{Answer, Body, Reply, Request};
 use keysym_core::{Keysym, Names};
 
-/// How often the same keys are typed, and the same sessions are opened and closed.
+/// The number of rounds of typing the same keys, and of opening and closing the same sessions.
 const TYPINGS: u32 = 5;
 
-/// How many keys lie between the first key of a session and that of the next one.
+/// The distance between the first key of a session and that of the next one, in keys.
 const APART: usize = 97;
 
-/// A key, and the session that it is for.
+/// A key, and the session in which it is typed.
 #[derive(Clone, Copy, Drop)]
 struct Press {
     session: u32,
     keysym: Keysym,
 }
 
-/// The quickest times of opening sessions, of closing the first one, and of closing the others.
+/// The least times of opening sessions, of closing the first one, and of closing the others.
 #[derive(Clone, Copy, Drop)]
 struct Times {
     opening: Stopwatch,
@@ -34,7 +35,8 @@ struct Times {
     others: Stopwatch,
 }
 
-/// Types the keys of a file in as many sessions by turns, each from another place of the file: through a service, and without one.
+/// Types the keys of a file in this number of sessions, in turn, each from another place in the
+/// file: through a service, and without one. Errors: see [`Failure`].
 pub fn type_in_sessions<T: ComposeTable>(
     rt: &HostRuntime,
     service: &mut Service<T>,
@@ -60,8 +62,8 @@ fn measure_keys<T: ComposeTable>(
     measure_rounds(rt, &names, service, presses, count)
 }
 
-/// Prints the quickest times of typing the keys without a service, through it, and through it with each reply handed out whole, by turns;
-/// each key has the same answer in all three.
+/// Prints the least times of typing the keys without a service, through it, and through it with
+/// each reply returned as a whole. The rounds alternate; each key has the same answer in all three.
 fn measure_rounds<T: ComposeTable>(
     rt: &HostRuntime,
     names: &Names,
@@ -92,13 +94,13 @@ fn measure_rounds<T: ComposeTable>(
     )
 }
 
-/// The keys of a file in the order in which they are typed.
+/// Reads the keys of a file, in the order in which they are typed.
 fn read_presses(rt: &HostRuntime, path: &str, count: u32) -> Result<Vec<Press>, Failure> {
     let keys = read_keys(rt, path)?;
     presses_of(rt, &keys, count)
 }
 
-/// The keys in the order in which they are typed.
+/// Returns the keys in the order in which they are typed.
 fn presses_of(rt: &HostRuntime, keys: &[Keysym], count: u32) -> Result<Vec<Press>, Failure> {
     let mut presses = Vec::new(rt.alloc());
     for index in 0..keys.len() {
@@ -112,7 +114,7 @@ fn presses_of(rt: &HostRuntime, keys: &[Keysym], count: u32) -> Result<Vec<Press
     Ok(presses)
 }
 
-/// The key at this index of the order; none where there are no sessions.
+/// Returns the key at this index of the order; none if there are no sessions.
 fn press_at(keys: &[Keysym], count: usize, index: usize) -> Option<Press> {
     let session = index.checked_rem(count)?;
     let round = index.checked_div(count)?;
@@ -140,7 +142,7 @@ fn feed_round<T: ComposeTable>(
     Ok(counts)
 }
 
-/// As many compose states as there are sessions.
+/// Makes one compose state for each session.
 fn states_at_rest(rt: &HostRuntime, count: u32) -> Result<Vec<ComposeState>, Failure> {
     let mut states = Vec::new(rt.alloc());
     for _ in 0..count {
@@ -151,7 +153,7 @@ fn states_at_rest(rt: &HostRuntime, count: u32) -> Result<Vec<ComposeState>, Fai
     Ok(states)
 }
 
-/// Feeds each key to the state of its session, and looks at the status and at the text each time.
+/// Feeds each key to the state of its session, and reads the status and the text each time.
 fn feed_all<T: ComposeTable>(
     table: &T,
     names: &Names,
@@ -170,7 +172,7 @@ fn feed_all<T: ComposeTable>(
     counts
 }
 
-/// Types the keys through the service, in sessions that are opened for it.
+/// Types the keys through the service, in sessions that are opened for the round.
 fn answer_round<T: ComposeTable>(
     rt: &HostRuntime,
     service: &mut Service<T>,
@@ -186,7 +188,7 @@ fn answer_round<T: ComposeTable>(
     Ok(counts)
 }
 
-/// Has the service answer each key, and looks at the status and at the text each time.
+/// Has the service answer each key, and reads the status and the text each time.
 fn answer_all<T: ComposeTable>(
     rt: &HostRuntime,
     service: &mut Service<T>,
@@ -207,7 +209,7 @@ fn answer_all<T: ComposeTable>(
     Ok(counts)
 }
 
-/// The same, where each reply is handed out whole.
+/// Does the same with each reply returned as a whole.
 fn whole_round<T: ComposeTable>(
     rt: &HostRuntime,
     service: &mut Service<T>,
@@ -223,7 +225,7 @@ fn whole_round<T: ComposeTable>(
     Ok(counts)
 }
 
-/// Has the service answer each key, and hands the reply out whole each time.
+/// Has the service answer each key, with the reply returned as a whole each time.
 fn answer_all_whole<T: ComposeTable>(
     rt: &HostRuntime,
     service: &mut Service<T>,
@@ -244,7 +246,8 @@ fn answer_all_whole<T: ComposeTable>(
     Ok(counts)
 }
 
-/// The status and the text of a reply to a key. It is not compiled into its caller, so that each reply is made whole.
+/// Returns the status and the text of a reply to a key. It is never inlined, so that each reply is
+/// made as a whole.
 #[inline(never)]
 fn fed_of(reply: &Reply) -> Option<(Status, &str)> {
     match &reply.answer {
@@ -253,7 +256,8 @@ fn fed_of(reply: &Reply) -> Option<(Status, &str)> {
     }
 }
 
-/// Opens as many sessions, and closes them from the first one to the last: the first apart, before which all others stand.
+/// Opens this number of sessions, and closes them from the first to the last. The first is measured
+/// by itself, since it comes before all others. Errors: see [`Failure`].
 pub fn open_and_close<T: ComposeTable>(
     rt: &HostRuntime,
     service: &mut Service<T>,
@@ -263,7 +267,7 @@ pub fn open_and_close<T: ComposeTable>(
     measure_opening(rt, service, count)
 }
 
-/// Prints the quickest times of opening and closing the sessions.
+/// Prints the least times of opening and closing the sessions.
 fn measure_opening<T: ComposeTable>(
     rt: &HostRuntime,
     service: &mut Service<T>,

@@ -1,23 +1,23 @@
-//! The time of the quickest round.
+//! The least time of some rounds.
 use crate::failure::Failure;
 use std::time::Instant;
 
-/// How often a call is measured.
+/// The number of rounds in which a call is measured.
 pub const ROUNDS: u32 = 200;
 
-/// The quickest time so far, in nanoseconds.
+/// The least time so far, in nanoseconds.
 #[derive(Clone, Copy, Drop)]
 pub struct Stopwatch {
     least: u64,
 }
 
 impl Stopwatch {
-    /// No round yet.
+    /// Makes a stopwatch that has counted no round.
     pub fn new() -> Stopwatch {
         Stopwatch { least: u64::MAX }
     }
 
-    /// Counts a round that began then and ends now.
+    /// Counts a round that began at `start` and ends now. `Err(System)` if the clock fails.
     pub fn stop(&mut self, rt: &HostRuntime, start: Instant) -> Result<(), Failure> {
         let Ok(time) = start.elapsed(rt) else {
             return Err(Failure::System);
@@ -27,13 +27,13 @@ impl Stopwatch {
         Ok(())
     }
 
-    /// The quickest time in nanoseconds.
+    /// Returns the least time in nanoseconds.
     pub fn least(&self) -> u64 {
         self.least
     }
 }
 
-/// This moment.
+/// Returns the current time. `Err(System)` if the clock fails.
 pub fn now(rt: &HostRuntime) -> Result<Instant, Failure> {
     match Instant::now(rt) {
         Ok(moment) => Ok(moment),

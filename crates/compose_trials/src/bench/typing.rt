@@ -1,4 +1,4 @@
-//! Typing a stream of keys.
+//! A stream of keys that is typed.
 use crate::bench::figures::print;
 use crate::bench::stopwatch::{Stopwatch, now};
 use crate::failure::Failure;
@@ -9,7 +9,8 @@ use compose_state::ComposeState;
 use compose_tree::PackedTable;
 use keysym_core::{Keysym, Names};
 
-/// How often each status came, the bytes of all committed texts, and the sum of their first bytes.
+/// The number of times that each status came, the number of bytes of all committed texts, and the
+/// sum of their first bytes.
 #[derive(Clone, Copy, PartialEq, Eq, Drop)]
 pub struct Counts {
     nothing: u64,
@@ -21,7 +22,7 @@ pub struct Counts {
 }
 
 impl Counts {
-    /// No key yet.
+    /// Makes counts of no key.
     pub fn new() -> Counts {
         Counts {
             nothing: 0,
@@ -33,7 +34,7 @@ impl Counts {
         }
     }
 
-    /// Counts a key, and reads the first byte of its text, so that the text is made.
+    /// Counts a key, and reads the first byte of its text, so that the text has to be made.
     pub fn count(&mut self, status: Status, text: &str) {
         let count = match status {
             Status::Nothing => &mut self.nothing,
@@ -48,13 +49,14 @@ impl Counts {
     }
 }
 
-/// Types the keys of a file, four bytes each, the lowest first.
+/// Types the keys of a file, in which each keysym has four bytes, the lowest first. Errors: see
+/// [`Failure`].
 pub fn type_keys(rt: &HostRuntime, header: &str, path: &str, keys: &str) -> Result<(), Failure> {
     let names = read_names(rt, header)?;
     type_with(rt, &names, path, keys)
 }
 
-/// The same with these names.
+/// Does the same with these names.
 fn type_with(rt: &HostRuntime, names: &Names, path: &str, keys: &str) -> Result<(), Failure> {
     let table: PackedTable = read_table(rt, names, path)?;
     type_file(rt, &table, names, keys)
@@ -91,13 +93,14 @@ fn print_counts(rt: &HostRuntime, time: u64, counts: Counts) -> Result<(), Failu
     )
 }
 
-/// The keysyms of a file.
+/// Reads the keysyms of a file. `Err(File)` if it can't be read, `Err(Input)` if four of its bytes
+/// are not a keysym, `Err(NoMemory)` if memory runs out.
 pub fn read_keys(rt: &HostRuntime, path: &str) -> Result<Vec<Keysym>, Failure> {
     let bytes = read_file(rt, path)?;
     keysyms_in(rt, &bytes)
 }
 
-/// The keysyms of these bytes.
+/// Returns the keysyms of these bytes.
 fn keysyms_in(rt: &HostRuntime, bytes: &[u8]) -> Result<Vec<Keysym>, Failure> {
     let mut keys = Vec::new(rt.alloc());
     for index in 0..bytes.len() / 4 {
@@ -111,13 +114,13 @@ fn keysyms_in(rt: &HostRuntime, bytes: &[u8]) -> Result<Vec<Keysym>, Failure> {
     Ok(keys)
 }
 
-/// The keysym of the four bytes at this index.
+/// Returns the keysym of the four bytes at this index.
 fn keysym_at(bytes: &[u8], index: usize) -> Option<Keysym> {
     let four = bytes.get(index..)?.first_chunk::<4>()?;
     Keysym::new(u32::from_le_bytes(*four))
 }
 
-/// Feeds each key, and looks at the status and at the text each time.
+/// Feeds each key, and reads the status and the text each time.
 fn type_all(table: &PackedTable, names: &Names, keys: &[Keysym]) -> Counts {
     let mut counts = Counts::new();
     let mut state = ComposeState::new();

@@ -1,4 +1,5 @@
-//! A client of a network in memory: what it sends, as far as that has come, and what it has taken.
+//! A client of a network in memory: the bytes that it sends, those that have arrived, and the
+//! replies that it has taken.
 ghost use Rattle.std.specs.Prelude.{◌≡◌, ◌≤◌, length, IfOk};
 
 use crate::chance::Chance;
@@ -9,15 +10,15 @@ use std::io::ErrorKind;
 /// A client and its stream.
 #[derive(Drop)]
 pub struct Client {
-    /// All that comes of what it sends.
+    /// All bytes of it that arrive.
     pub sends: Vec<u8>,
-    /// Whether its stream breaks behind that, and does not just end.
+    /// Whether its stream breaks after these bytes, and does not just end.
     pub breaks: bool,
-    /// After so many bytes of replies it takes no more, and its stream is broken.
+    /// The number of bytes of replies after which it takes no more, and its stream is broken.
     pub takes: usize,
-    /// What it has taken.
+    /// The bytes of replies that it has taken.
     pub taken: Vec<u8>,
-    /// By which key it is reported, where it is served.
+    /// The key under which it is reported while it is served.
     pub key: Option<usize>,
     come: usize,
     is_over: bool,
@@ -26,7 +27,7 @@ pub struct Client {
 }
 
 impl Client {
-    /// A client of whose bytes none has come.
+    /// Makes a client of which no bytes have arrived.
     pub fn new(alloc: Global, sends: Vec<u8>, breaks: bool, takes: usize) -> Client {
         Client {
             sends,
@@ -41,12 +42,12 @@ impl Client {
         }
     }
 
-    /// Whether all has come, and it takes all that it will take.
+    /// Whether all of its bytes have arrived, and it takes all that it will take.
     pub fn is_done(&self) -> bool {
         self.is_over && self.room >= self.takes
     }
 
-    /// More comes, or it takes more.
+    /// Lets more bytes arrive, and lets it take more.
     pub fn go_on(&mut self, chance: &mut Chance) {
         let rest = self.sends.len().saturating_sub(self.come);
         let more = chance.below(rest.saturating_add(1));
@@ -60,7 +61,8 @@ impl Client {
         self.room = self.room.saturating_add(taken);
     }
 
-    /// Reads the next bytes that have come, as many as chance has it.
+    /// Reads the next bytes that have arrived, a random number of them. `Err(WouldBlock)` if none
+    /// are there yet, `Err(ConnectionReset)` once the stream is broken.
     pub fn read(&mut self, chance: &mut Chance, piece: &mut [u8]) -> io::Result<usize>
         ensures { IfOk result (λ n. n ≤ length piece.new) }
     {
@@ -77,7 +79,7 @@ impl Client {
         Ok(count)
     }
 
-    /// What a read gives where all that has come was read.
+    /// Returns the result of a read after all bytes that have arrived were read.
     fn read_end(&self) -> io::Result<usize>
         ensures { IfOk result (λ n. n ≡ 0) }
     {
@@ -90,7 +92,8 @@ impl Client {
         Ok(0)
     }
 
-    /// Takes the first bytes, as many as chance has it.
+    /// Takes the first bytes, a random number of them. `Err(WouldBlock)` if it takes none yet,
+    /// `Err(BrokenPipe)` once it takes no more; an error of memory if that runs out.
     pub fn write(&mut self, chance: &mut Chance, piece: &[u8]) -> io::Result<usize>
         ensures { IfOk result (λ n. n ≤ length piece.now) }
     {

@@ -1,4 +1,4 @@
-//! Why the streams of a network in memory gave or took no bytes.
+//! Why the streams of a network in memory returned or took no bytes.
 ghost use Rattle.std.specs.Prelude.{◌≡◌, ◌≤◌, length, None};
 ghost use Rattle.compose_many.specs.Connection.{max_piece};
 ghost use Rattle.compose_many.specs.Streams.{TryPulls, TryPushes};
@@ -6,7 +6,7 @@ ghost use Rattle.compose_many.specs.Streams.{TryPulls, TryPushes};
 use crate::network::Clients;
 use compose_many::{Nonblocking, TryError, TryPull, TryPush};
 
-/// Why a stream gave or took no bytes.
+/// Why a stream returned or took no bytes.
 #[derive(Clone, Copy, Drop)]
 pub struct Marks {
     read: Option<TryError>,
@@ -14,7 +14,7 @@ pub struct Marks {
 }
 
 impl Marks {
-    /// Those of a new stream.
+    /// Makes the marks of a new stream.
     pub fn new() -> Marks {
         Marks {
             read: None,
@@ -22,7 +22,7 @@ impl Marks {
         }
     }
 
-    /// Reads, and marks why there is nothing.
+    /// Reads, and marks why there is nothing. The error is the reason that is marked.
     pub fn try_pull(&mut self, clients: &mut Clients, piece: &mut [u8]) -> Result<usize, TryError>
         requires { length piece.old ≤ max_piece }
         ensures pulls { TryPulls None None self.old.read self.new.read result piece.new }
@@ -36,7 +36,7 @@ impl Marks {
         came
     }
 
-    /// Writes, and marks why nothing is taken.
+    /// Writes, and marks why nothing is taken. The error is the reason that is marked.
     pub fn try_push(&mut self, clients: &mut Clients, piece: &[u8]) -> Result<usize, TryError>
         ensures pushes { TryPushes None None self.old.write self.new.write result piece.now }
         ensures reader { self.new.read ≡ self.old.read }

@@ -1,4 +1,5 @@
-//! Random schedules of many clients, each of which has to get exactly the replies to its own requests.
+//! Random schedules of many clients, each of which has to get exactly the replies to its own
+//! requests.
 ghost use Rattle.std.specs.Prelude.{None};
 
 use crate::chance::Chance;
@@ -16,13 +17,13 @@ use compose_tree::PackedTable;
 use std::alloc::Global;
 use std::io;
 
-/// So many clients are in a schedule.
+/// The number of clients in a schedule.
 const CLIENTS: usize = 64;
 
-/// The keysyms that are typed: of the sequences of the table, and one that is in none.
+/// The keysyms that are typed: those of the table's sequences, and one that is in none.
 const KEYSYMS: [u32; 4] = [0xfe50, 0xfe51, 0x65, 0x78];
 
-/// How the connections ended, by their numbers from 1.
+/// The ends of the connections, by their numbers, counted from 1.
 #[derive(Drop)]
 struct Ends {
     ends: Vec<Option<ConnectionEnd>>,
@@ -31,7 +32,7 @@ struct Ends {
 impl Report for Ends {
     ghost told = { λ ends. None };
 
-    /// Keeps the end. It is an error that it is there already.
+    /// Keeps the end. It is an error if the connection already has one.
     fn ended(&mut self, number: u32, how: ConnectionEnd) -> io::Result<()> {
         let index = (number as usize).wrapping_sub(1);
         match self.ends.get_mut(index) {
@@ -48,7 +49,8 @@ impl Report for Ends {
     }
 }
 
-/// How many clients there were, how many of them were cut while they took replies, and how many were idle.
+/// The number of clients, of those that were cut while they took replies, and of those that were
+/// idle.
 #[derive(Clone, Copy, Drop)]
 struct Counts {
     clients: u64,
@@ -56,8 +58,9 @@ struct Counts {
     idle: u64,
 }
 
-/// Runs so many schedules from this seed, and prints how many clients there were, how many of these were cut, and how many were idle; or
-/// the first schedule that is wrong.
+/// Runs this number of schedules from this seed. Prints the number of clients, of those that were
+/// cut, and of those that were idle; or the first schedule that is wrong. `Err(Arguments)` if one
+/// of them is not a number; other errors: see [`Failure`].
 pub fn run_all(rt: &HostRuntime, seed: &str, schedules: &str) -> Result<(), Failure> {
     let seed = read_number(seed)?;
     let schedules = read_number(schedules)?;
@@ -80,7 +83,7 @@ pub fn run_all(rt: &HostRuntime, seed: &str, schedules: &str) -> Result<(), Fail
     )
 }
 
-/// A number of the arguments.
+/// Reads a number of the arguments.
 fn read_number(argument: &str) -> Result<u64, Failure> {
     match argument.parse::<u64>() {
         Ok(number) => Ok(number),
@@ -88,7 +91,7 @@ fn read_number(argument: &str) -> Result<u64, Failure> {
     }
 }
 
-/// Runs a schedule; says whether each client got what it should.
+/// Runs a schedule, and returns whether each client got what it should.
 fn run_one(
     rt: &HostRuntime,
     load: &[u8],
@@ -107,7 +110,7 @@ fn run_one(
     compare_all(rt, network.clients(), &ends, limits, counts)
 }
 
-/// What memory was there for.
+/// Returns what was made, or `NoMemory`.
 fn memory<T, E: Drop>(made: Result<T, E>) -> Result<T, Failure> {
     match made {
         Ok(made) => Ok(made),
@@ -115,7 +118,7 @@ fn memory<T, E: Drop>(made: Result<T, E>) -> Result<T, Failure> {
     }
 }
 
-/// No end of any client.
+/// Makes the list of ends before any client has ended.
 fn no_ends(alloc: Global) -> io::Result<Ends> {
     let mut ends = Vec::new(alloc);
     for _ in 0..CLIENTS {
@@ -124,7 +127,7 @@ fn no_ends(alloc: Global) -> io::Result<Ends> {
     Ok(Ends { ends })
 }
 
-/// Random limits.
+/// Makes random limits.
 fn limits_of(chance: &mut Chance) -> Limits {
     let unsent = match chance.below(4) {
         0 => 1,
@@ -140,7 +143,8 @@ fn limits_of(chance: &mut Chance) -> Limits {
     }
 }
 
-/// How many milliseconds pass at most at once: some, where connections may not be idle.
+/// Returns the most milliseconds that pass at once: 100 if idle connections are closed, and
+/// otherwise 0.
 fn longest_of(limits: Limits) -> usize {
     match limits.idle {
         Some(_) => 100,
@@ -148,7 +152,7 @@ fn longest_of(limits: Limits) -> usize {
     }
 }
 
-/// Random clients; the first one loads.
+/// Makes random clients; the first one loads.
 fn clients_of(alloc: Global, load: &[u8], chance: &mut Chance) -> io::Result<Vec<Client>> {
     let mut clients = Vec::new(alloc);
     for index in 0..CLIENTS {
@@ -158,7 +162,7 @@ fn clients_of(alloc: Global, load: &[u8], chance: &mut Chance) -> io::Result<Vec
     Ok(clients)
 }
 
-/// A random client with this index, which may be cut anywhere.
+/// Makes a random client with this index, which may be cut anywhere.
 fn client_of(alloc: Global, index: u32, load: &[u8], chance: &mut Chance) -> io::Result<Client> {
     let mut sends = requests_of(alloc, index, load, chance)?;
     let mut breaks = false;
@@ -174,7 +178,8 @@ fn client_of(alloc: Global, index: u32, load: &[u8], chance: &mut Chance) -> io:
     Ok(Client::new(alloc, sends, breaks, takes))
 }
 
-/// Random requests over the two sessions of a client, and bytes that are no request behind some of them.
+/// Makes random requests over the two sessions of a client, with bytes after some of them that are
+/// not a request.
 fn requests_of(alloc: Global, index: u32, load: &[u8], chance: &mut Chance) -> io::Result<Vec<u8>> {
     let mut sends = Vec::new(alloc);
     for _ in 0..count_of(chance) {
@@ -193,13 +198,14 @@ fn requests_of(alloc: Global, index: u32, load: &[u8], chance: &mut Chance) -> i
     Ok(sends)
 }
 
-/// How many requests a client sends: few, or once in a while many.
+/// Returns the number of requests that a client sends: a few, or once in a while many.
 fn count_of(chance: &mut Chance) -> usize {
     let most = if chance.once_in(32) { 400 } else { 14 };
     chance.below(most)
 }
 
-/// Puts a random request of a session behind the others: its kind, the session, the length of what follows, and the keysym of a key.
+/// Appends a random request of a session: its kind, the session, the length of what follows, and
+/// for a key its keysym.
 fn put_request(sends: &mut Vec<u8>, session: u32, chance: &mut Chance) -> io::Result<()> {
     let kind = match chance.below(10) {
         0 | 1 => 1,
@@ -255,7 +261,7 @@ fn count(counts: &mut Counts, end: ConnectionEnd) {
     }
 }
 
-/// How a stream of these bytes ends, and what a service answers to it.
+/// Returns how a stream of these bytes ends, and what a service answers to it.
 fn serve_alone(
     rt: &HostRuntime,
     service: &mut Service<PackedTable>,
@@ -275,8 +281,8 @@ fn serve_alone(
     Ok((ended, replies))
 }
 
-/// Whether a client got all replies to what came of it, and its connection ended as that does; or the first of them, where it took no more or
-/// was idle.
+/// Whether a client got all replies to the bytes of it that arrived, and its connection ended as
+/// their stream does; or only the first replies, if it took no more or was idle.
 fn is_right(
     client: &Client,
     end: ConnectionEnd,

@@ -5,7 +5,7 @@ use Rattle.compose_fresh.specs.Conditions.{first_unmet}
 use Rattle.compose_check.specs.Conditions.{one_edge_conditions}
 use Rattle.compose_check.proofs.edges.check_pair.Given as goal
 
--- the conditions at the edges that are left fail where those at all of them do
+-- the conditions at the remaining edges have the same first fault as those at all of them
 abbrev pub invariant-loop-edge : goal.invariant-loop-edge
 invariant-loop-edge g l =
     let old = g.T.ComposeTable.definitions l.old in

@@ -16,7 +16,7 @@ use Rattle.compose_compare.proofs.Written.{is_through, node_written, leaf_writte
 use Rattle.compose_compare.proofs.passes.+visit_new.Goals.{in-Node, in-Leaf}
 use Rattle.compose_compare.proofs.passes.+visit_new.Goals as goal
 
--- what is told of a sequence of the new table
+-- the change of a sequence of the new table
 abbrev told : KeysymNames → List ℕ → List Definition → List Definition → List ℕ → Option Change
 told names fresh old new s = cond (is_sequence old s) None (Some (change names fresh old new s))
 

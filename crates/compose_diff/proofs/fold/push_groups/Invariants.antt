@@ -7,7 +7,7 @@ use Rattle.compose_diff.specs.Folds.{group_lines}
 use Rattle.compose_diff.specs.Members.{Key, view, members_at}
 use Rattle.compose_diff.proofs.fold.push_groups.Given as goal
 
--- so far the groups of the rows that were looked at are printed and taken out
+-- the groups of the rows so far are printed and taken out
 abbrev pub invariant-loop-row : goal.invariant-loop-row
 invariant-loop-row l = record {
   lines : string_bytes l.text ≡ string_bytes l.fn.text ++ flat_map (group_lines (has_gone l.gone)) (map (group_of (has_gone l.gone) l.shown) (firsts (has_gone l.gone) [] (take l.row-index l.shown)));

@@ -7,7 +7,7 @@ use Rattle.compose_diff.specs.declared.row.DiffRow.{DiffRow}
 use Rattle.compose_diff_rows.specs.Rows.{Written, written, told_row, kept_row, is_told_of}
 use Rattle.compose_diff_rows.proofs.rows.add_kept_rows.Given as goal
 
--- so far each leaf has its row that is not told
+-- each leaf so far has its row if it is not reported
 abbrev pub invariant-loop-leaf : goal.invariant-loop-leaf
 invariant-loop-leaf g l =
     let table = g.T.ComposeTable.definitions l.old.table.now in

@@ -2,6 +2,6 @@ use Rattle.std.proofs.Common.{◌≡◌, ◌++◌, map, take}
 use Rattle.compose_diff_rows.specs.Rows.{told_row, told_sequence, new_row}
 use Rattle.compose_diff_rows.proofs.rows.add_new_rows.Given as goal
 
--- so far each has its row
+-- each sequence so far has its row
 abbrev pub invariant-loop-sequence : goal.invariant-loop-sequence
 invariant-loop-sequence l = map told_row l.rows.items ≡ map told_row l.fn.rows.items ++ map new_row (map told_sequence (take l.sequence-index l.told))

@@ -7,7 +7,7 @@ use Rattle.compose_compare.specs.Change.{new_changes}
 use Rattle.compose_diff_rows.specs.Rows.{Written, written, told_of, told_sequence}
 use Rattle.compose_diff_rows.proofs.told.told_of_new.Given as goal
 
--- what is told of the leaves so far
+-- what is reported of the leaves so far
 abbrev pub invariant-loop-leaf : goal.invariant-loop-leaf
 invariant-loop-leaf g l =
     let table = g.T.ComposeTable.definitions l.new.table.now in

@@ -5,7 +5,7 @@ use Rattle.compose_compare.specs.Change.{old_changes}
 use Rattle.compose_diff_rows.specs.Rows.{written, told_of, told_sequence, is_told_of}
 use Rattle.compose_diff_rows.proofs.told.told_of_old.Given as goal
 
--- what is told of the leaves so far
+-- what is reported of the leaves so far
 abbrev pub invariant-loop-leaf : goal.invariant-loop-leaf
 invariant-loop-leaf g l =
     let table = g.T.ComposeTable.definitions l.old.table.now in

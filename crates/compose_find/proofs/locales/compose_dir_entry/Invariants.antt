@@ -2,7 +2,7 @@ use Rattle.std.proofs.Common.{◌≡◌, length}
 use Rattle.compose_find.specs.Locales.{compose_dir_entry}
 use Rattle.compose_find.proofs.locales.compose_dir_entry.Given as goal
 
--- the lines that are left list for it what all lines do
+-- the remaining lines have the same entry for it as all lines
 abbrev pub invariant-loop-line : goal.invariant-loop-line
 invariant-loop-line l = compose_dir_entry l.rest l.locale ≡ compose_dir_entry l.compose_dir l.locale
 

@@ -2,7 +2,7 @@ use Rattle.std.proofs.Common.{◌≡◌, length}
 use Rattle.compose_find.specs.Locales.{locale_alias}
 use Rattle.compose_find.proofs.locales.locale_alias.Given as goal
 
--- the lines that are left list for it what all lines do
+-- the remaining lines have the same entry for it as all lines
 abbrev pub invariant-loop-line : goal.invariant-loop-line
 invariant-loop-line l = locale_alias l.rest l.alias ≡ locale_alias l.locale_alias l.alias
 

@@ -5,7 +5,7 @@ use Rattle.compose_find.specs.Expand.{path_of}
 use Rattle.compose_find.specs.FindGives.{words, onto}
 use Rattle.compose_find.proofs.percent.expand.Given as goal
 
--- the path so far, and what the rest stands for
+-- the path so far, and what the rest expands to
 abbrev pub invariant-loop-rest : goal.invariant-loop-rest
 invariant-loop-rest l = shadow (Utf8 l.rest) × (onto (string_bytes l.path) (path_of (words l.meanings) l.rest) ≡ path_of (words l.meanings) l.text)
 

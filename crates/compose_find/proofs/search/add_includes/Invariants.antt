@@ -3,7 +3,7 @@ use Rattle.compose_find.specs.Found as found
 use Rattle.compose_find.specs.FindGives.{words}
 use Rattle.compose_find.proofs.search.add_includes.Given as goal
 
--- the includes that are left bring the sources to what all of them do
+-- the remaining includes lead from the sources so far to the same result as all of them
 abbrev pub invariant-loop-include : goal.invariant-loop-include
 invariant-loop-include l =
     (found.with_includes l.files (words l.meanings) l.from (drop l.include-index l.includes) l.sources.items ≡ found.with_includes l.files (words l.meanings) l.from l.includes l.fn.sources.items)

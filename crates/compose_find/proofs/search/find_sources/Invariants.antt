@@ -3,7 +3,7 @@ use Rattle.compose_find.specs.Found as found
 use Rattle.compose_find.specs.FindGives.{words}
 use Rattle.compose_find.proofs.search.find_sources.Given as goal
 
--- the sources that are left bring them to what all of them do
+-- the remaining sources lead from the sources so far to the same result as all of them
 abbrev pub invariant-loop-index : goal.invariant-loop-index
 invariant-loop-index l =
     (found.found_on l.files (words l.meanings) (64 - l.index) l.index l.sources.items ≡ found.found l.files (words l.meanings) l.root)

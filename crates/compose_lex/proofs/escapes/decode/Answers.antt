@@ -3,7 +3,7 @@ use Rattle.std.proofs.lemmas.List.{take_rest}
 use Rattle.compose_lex.proofs.Decodes.{Decodes, decodes_more}
 use Rattle.compose_lex.proofs.escapes.decode.Goals as goal
 
--- one piece more is decoded
+-- one more piece is decoded
 next : (c : goal.After-keep) → Decodes c.args.raw.now (c.loop-first.at + (1 + c.in_ok-byte.taken)) c.keep.new.kept.items (c.loop-first.len + 1)
 next c =
     let raw = c.args.raw.now in

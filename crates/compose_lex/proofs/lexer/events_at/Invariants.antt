@@ -5,7 +5,7 @@ use Rattle.compose_lex.specs.Fault.{events_at}
 use Rattle.compose_lex.specs.Steps.{with_prefix}
 use Rattle.compose_lex.proofs.lexer.events_at.Given as goal
 
--- the events so far stand before those of the rest
+-- the events so far come before those of the rest
 abbrev pub invariant-loop-behind : goal.invariant-loop-behind
 invariant-loop-behind l = record {
   text : shadow (Utf8 l.rest);

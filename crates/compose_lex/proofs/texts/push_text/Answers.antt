@@ -7,7 +7,7 @@ use Rattle.compose_lex.proofs.texts.push_text.Goals as goal
 pub returns-then-has_escapes-clause-found : goal.returns-then-has_escapes-clause-found
 returns-then-has_escapes-clause-found c = found_pushed (string_bytes c.args.text.now) (string_bytes c.push_unescaped.new.text) c.args.raw.now c.push_unescaped.result c.push_unescaped.ensures
 
--- without a backslash the raw text is pushed
+-- without a backslash the raw text is appended
 plain : (c : goal.After-push_plain) → PushGives (string_bytes c.args.text.now) (string_bytes c.push_plain.new.text) c.push_plain.result (text_of c.args.raw.now)
 plain c =
     let none = sym c.has_escapes.ensures ∙ c.if-has_escapes.false in

@@ -5,7 +5,7 @@ use Rattle.indexmap.specs.IndexMap.{get_by}
 use Rattle.compose_lint.specs.Accepted.{as_lines, distinct}
 use Rattle.compose_lint.proofs.accepted.lines_once.Given as goal
 
--- the texts so far are there, and each of them is a line
+-- the texts so far are in the set, and each of them is a line
 abbrev pub invariant-loop-text : goal.invariant-loop-text
 invariant-loop-text l = record {
   there : (q : List ℕ) → is_some (get_by (λ k. bytes_eq q k.now) l.among) ≡ list_any (bytes_eq q) (map (λ text. string_bytes text) (take l.text-index l.texts));

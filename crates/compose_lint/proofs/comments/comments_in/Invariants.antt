@@ -3,6 +3,6 @@ use Rattle.compose_lint.specs.Lines.{all_lines}
 use Rattle.compose_lint.specs.Comments.{comments_in}
 use Rattle.compose_lint.proofs.comments.comments_in.Given as goal
 
--- so far the comments of the files that were looked at
+-- the comments of the files so far
 abbrev pub invariant-loop-file : goal.invariant-loop-file
 invariant-loop-file l = l.notes.items ≡ comments_in (all_lines (take l.file-index l.files))

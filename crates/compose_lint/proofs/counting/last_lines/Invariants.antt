@@ -5,6 +5,6 @@ use Rattle.indexmap.specs.IndexMap.{get_by}
 use Rattle.compose_lint.specs.Counting.{last_defining}
 use Rattle.compose_lint.proofs.counting.last_lines.Given as goal
 
--- so far each sequence has the last of the lines that were looked at
+-- each sequence has the last of the lines so far
 abbrev pub invariant-loop-index : goal.invariant-loop-index
 invariant-loop-index l = (q : Bor (List ℕ)) → option_and_then (slice_get l.lines) (get_by (λ k. bytes_eq q.now k.now) l.last) ≡ last_defining (take l.index l.lines) q.now

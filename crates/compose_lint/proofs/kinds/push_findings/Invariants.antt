@@ -4,7 +4,7 @@ use Rattle.compose_lint.specs.Lines.{all_lines}
 use Rattle.compose_lint.specs.Findings.{line_findings}
 use Rattle.compose_lint.proofs.kinds.push_findings.Given as goal
 
--- what is found so far, and in the lines that are left, is all
+-- the findings so far, and those in the remaining lines, are all
 abbrev pub invariant-loop-line : goal.invariant-loop-line
 invariant-loop-line l =
     l.findings.items

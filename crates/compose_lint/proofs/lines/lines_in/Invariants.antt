@@ -4,7 +4,7 @@ use Rattle.compose_read.specs.Lines.{numbered}
 use Rattle.compose_lint.specs.Lines.{lint_line, lines_in}
 use Rattle.compose_lint.proofs.lines.lines_in.Given as goal
 
--- the lines so far, and those of the bytes that are left, are those of the source
+-- the lines so far, and those of the remaining bytes, are those of the source
 abbrev pub invariant-loop-bytes : goal.invariant-loop-bytes
 invariant-loop-bytes l = record {
   read : l.lines.items ++ map (lint_line l.names l.sources) (numbered l.source 0 (1 + l.line) (lines_of l.rest)) ≡ lines_in l.names l.sources l.source;

@@ -4,6 +4,6 @@ use Rattle.compose_lint.specs.Lines.{all_lines}
 use Rattle.compose_lint.specs.Findings.{findings_in, findings_of}
 use Rattle.compose_lint.proofs.lint.findings_by.Given as goal
 
--- what is found so far, and in the files that are left, is all
+-- the findings so far, and those in the remaining files, are all
 abbrev pub invariant-loop-source : goal.invariant-loop-source
 invariant-loop-source l = l.found.items ++ flat_map (findings_in l.names l.readers l.faults (all_lines l.all.files.now)) (drop l.source-index l.all.files.now) ≡ findings_of l.names l.readers l.faults l.all.files.now

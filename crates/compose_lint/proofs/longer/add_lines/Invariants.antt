@@ -5,6 +5,6 @@ use Rattle.indexmap.specs.IndexMap.{get_by}
 use Rattle.compose_lint.specs.Longer.{longer_place}
 use Rattle.compose_lint.proofs.longer.add_lines.Given as goal
 
--- so far the places of the lines that were looked at are added
+-- the places of the lines so far are added
 abbrev pub invariant-loop-line : goal.invariant-loop-line
 invariant-loop-line l = (q : Bor (List ℕ)) → get_by (λ k. bytes_eq q.now k.now) l.places ≡ option_or (longer_place (take l.line-index l.lines) q.now) (get_by (λ k. bytes_eq q.now k.now) l.fn.places)

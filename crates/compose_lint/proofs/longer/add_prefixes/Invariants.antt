@@ -4,6 +4,6 @@ use Rattle.indexmap.specs.IndexMap.{get_by}
 use Rattle.compose_model.specs.Table.{is_proper_prefix}
 use Rattle.compose_lint.proofs.longer.add_prefixes.Given as goal
 
--- so far the place stands at the proper prefixes of the beginning that was looked at
+-- the proper prefixes so far have the place
 abbrev pub invariant-loop-len : goal.invariant-loop-len
 invariant-loop-len l = (q : Bor (List ℕ)) → get_by (λ k. bytes_eq q.now k.now) l.places ≡ cond (is_proper_prefix q.now (take l.len l.sequence)) (Some l.place) (get_by (λ k. bytes_eq q.now k.now) l.fn.places)

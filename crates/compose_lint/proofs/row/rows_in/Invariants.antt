@@ -2,6 +2,6 @@ use Rattle.std.proofs.Common.{◌≡◌, flat_map, take}
 use Rattle.compose_lint.specs.Rows.{faulty_rows}
 use Rattle.compose_lint.proofs.row.rows_in.Given as goal
 
--- so far what is found in the tables that were looked at
+-- the findings in the tables so far
 abbrev pub invariant-loop-table : goal.invariant-loop-table
 invariant-loop-table l = l.rows.items ≡ flat_map (faulty_rows l.names l.readers l.is_all) (take l.table-index l.tables)

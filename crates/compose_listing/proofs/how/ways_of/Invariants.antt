@@ -6,7 +6,7 @@ use Rattle.compose_places.specs.Counting.{counting_line}
 use Rattle.compose_listing.specs.Answers.{ways, is_given}
 use Rattle.compose_listing.proofs.how.ways_of.Given as goal
 
--- the lines for the texts so far, and for which of them there are any
+-- the lines for the texts so far, and whether there are any for each
 abbrev pub invariant-loop-text : goal.invariant-loop-text
 invariant-loop-text g l = record {
   lines : (visits : List Visit) → l.listed.lines.now ≡ map (counting_line l.listed.names.now visits) (leaves (g.T.ComposeTable.definitions l.listed.table.now))

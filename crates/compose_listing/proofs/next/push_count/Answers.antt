@@ -9,7 +9,7 @@ use Rattle.compose_listing.specs.declared.form.ListForm.{ListForm}
 use Rattle.compose_listing.proofs.next.push_count.Goals.{in-Lines+in_ok-push_key-in-Lines+in_ok-write-in-Lines, in-Json+in_ok-push_key_member-in-Json+in_ok-write-in-Json}
 use Rattle.compose_listing.proofs.next.push_count.Goals as goal
 
--- a newline is put behind what was said
+-- a newline is appended after the text
 ended : {X E : Type 0} (r : Result X E) (old said before after : List ℕ) → after ≡ (if is_ok r then before ++ 10 ∷ [] else before) → before ≡ old ++ said → OnOk r (after ≡ old ++ (said ++ 10 ∷ []))
 ended (Ok x) old said before after e h = e ∙ ap (λ t. t ++ 10 ∷ []) h ∙ append_assoc old said (10 ∷ [])
 ended (Err x) old said before after e h = tt

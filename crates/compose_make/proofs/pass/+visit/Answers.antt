@@ -33,7 +33,7 @@ few table p keys i sound h path =
 pub with_key-longer-requires : goal.with_key-longer-requires
 with_key-longer-requires g t c = few (g.U.ComposeTable.definitions c.args.new.now) c.args.keys.now c.args.keys.now c.args.node.0 c.requires.settled.definitions c.requires.in_range c.requires.path
 
--- where an edge to a node leads, and one to a leaf
+-- an edge to a node, and one to a leaf
 to_node : (table : List Definition) (p : List ℕ) (k : ℕ) (target : Target) (n : NodeId) → target_of table p k ≡ Some target → target ≡ Node n → ToNode table p k n
 to_node table p k target n e is = subst (Leads table p k) (e ∙ ap Some is) (leads table p k)
 

@@ -2,7 +2,7 @@ use Rattle.std.proofs.Common.{◌≡◌, length}
 use Rattle.compose_messages.specs.Beginning.{begins_as_table}
 use Rattle.compose_messages.proofs.beginning.begins_as_table.Given as goal
 
--- the lines that are left say it of all
+-- the lines that are left decide it for all lines
 abbrev pub invariant-loop-line : goal.invariant-loop-line
 invariant-loop-line l = begins_as_table l.rest ≡ begins_as_table l.bytes
 

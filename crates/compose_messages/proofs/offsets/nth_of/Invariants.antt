@@ -2,6 +2,6 @@ use Rattle.std.proofs.Common.{◌≡◌, ◌+◌, drop}
 use Rattle.compose_messages.specs.Places.{nth_of}
 use Rattle.compose_messages.proofs.offsets.nth_of.Given as goal
 
--- what is looked for comes so much further on
+-- the wanted byte comes this much further on
 abbrev pub invariant-loop-at : goal.invariant-loop-at
 invariant-loop-at l = l.at + nth_of l.byte l.left (drop l.at l.line) ≡ nth_of l.byte l.count l.line

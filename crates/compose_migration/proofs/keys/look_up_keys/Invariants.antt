@@ -3,7 +3,7 @@ use Rattle.std.specs.Prelude.{Some}
 use Rattle.keysym_core.specs.Names.{value}
 use Rattle.compose_migration.proofs.keys.look_up_keys.Given as goal
 
--- the keys so far and the values of the key names that are left are the values of all key names
+-- the keys so far and the values of the remaining key names are the values of all key names
 abbrev pub invariant-loop-index : goal.invariant-loop-index
 invariant-loop-index l = record {
   count : length l.keys.items ≡ l.index;

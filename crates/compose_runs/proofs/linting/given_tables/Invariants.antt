@@ -3,7 +3,7 @@ use Rattle.std.specs.Prelude.{Some}
 use Rattle.compose_runs.specs.Linting.{AreReadTables}
 use Rattle.compose_runs.proofs.linting.given_tables.Given as goal
 
--- so far the tables of the files that were looked at, and what the folder has stays
+-- the tables of the files so far; the content of the folder stays
 abbrev pub invariant-loop-path : goal.invariant-loop-path
 invariant-loop-path g l = record {
   kept : l.files.holds ≡ l.fn.files.holds;

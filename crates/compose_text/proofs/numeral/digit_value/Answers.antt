@@ -6,7 +6,7 @@ use Rattle.std.proofs.lemmas.List.FromFn.{get_or-map-range_with_len}
 use Rattle.compose_text.specs.declared.numeral.TheConstants.{DIGIT_VALUES}
 use Rattle.compose_text.proofs.numeral.digit_value.Goals as goal
 
--- what the table says of a byte
+-- the entry of the table for a byte
 abbrev entry_of : ℕ → ℕ
 entry_of b = cond (nat_lt (digit_value b) 16) (digit_value b) 16
 

@@ -2,7 +2,7 @@ use Rattle.std.proofs.Common.{◌+◌, ◌<◌, ◌≤◌, ℕ, length, slice_in
 use Rattle.compose_tree.specs.Packed.{keys_of}
 use Rattle.compose_tree.proofs.packed_table.index_of.Given as goal
 
--- where the keysym is at all, it is at one of so many indexes from the first
+-- if the keysym is there at all, it is at one of `count` indexes from the first
 abbrev pub invariant-loop-count : goal.invariant-loop-count
 invariant-loop-count l = record {
   within : l.first + l.count ≤ length l.edges;

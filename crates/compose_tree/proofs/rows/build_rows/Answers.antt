@@ -4,7 +4,7 @@ use Rattle.compose_tree.specs.Rows.{shared, sequence_at, shared_with_last}
 use Rattle.compose_tree.proofs.Adding.{adds_at, shared_on}
 use Rattle.compose_tree.proofs.rows.build_rows.Goals as goal
 
--- what the sequence at an index shares with the last one before it
+-- what the sequence at an index shares with the one before it
 shared_here : (all : List Definition) (i : ℕ) (previous s : List ℕ) (count : ℕ) → count ≡ shared previous s → ((t : List ℕ) → shared previous t ≡ shared_with_last (take i all) t)
     → s ≡ sequence_at all i → count ≡ shared_with_last (take i all) (sequence_at all i)
 shared_here all i previous s count e last is = e ∙ last s ∙ ap (shared_with_last (take i all)) is

@@ -17,7 +17,7 @@ after_locale e system locale = text_of e.home >>= (λ home. Ok (parts system loc
 abbrev after_system : Environment → Option (List ℕ) → Said SaidPlaces
 after_system e system = locale_of e >>= after_locale e system
 
--- what the environment says, by its three parts
+-- the places in the environment, by its three parts
 says : (e : Environment) (system locale home : Option (List ℕ)) → text_of e.xlocaledir ≡ Ok system → locale_of e ≡ Ok locale → text_of e.home ≡ Ok home
     → places_of e ≡ Ok (parts system locale home)
 says e system locale home s l h =

@@ -41,7 +41,7 @@ returns-in_err-repertoire-clause-fault g c =
       ),
     )))
 
--- the repertoire that was read is there, where its path is given
+-- the file of the repertoire exists, if its path is given
 held : (folder : Option (List Entry)) (path : Option (List ℕ)) (bytes : List ℕ) → IsRepertoire folder path bytes → HasOption folder path
 held folder None bytes is = tt
 held folder (Some path) bytes is = (bytes, is)

@@ -9,7 +9,7 @@ use Rattle.compose_tree.specs.Rows.{row_of}
 use Rattle.compose_tree.proofs.PackedLookups.{packed_as, node_entries, edges_between}
 use Rattle.compose_tree.proofs.lent_table.LentTable.edges_of.Goals as goal
 
--- where the edges of the node i stand in the arrays of a table
+-- the place of the edges of node i in the arrays of a table
 abbrev between : (nodes' : List PackedNode) (edges' : List PackedEdge) (offsets bytes : List ℕ) (table : List Definition) (i : ℕ) → Type 0
 between nodes' edges' offsets bytes table i =
     let z : PackedNode = record { depth = 0; first = 0 } in

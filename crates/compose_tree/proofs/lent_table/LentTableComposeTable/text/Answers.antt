@@ -10,7 +10,7 @@ use Rattle.compose_tree.proofs.PackedLookups.{packed_as}
 use Rattle.compose_tree.proofs.PackedTexts.{TextBetween, leaf_entries, text_between, leaf_text_found}
 use Rattle.compose_tree.proofs.lent_table.LentTableComposeTable.text.Goals as goal
 
--- where the text of the leaf i stands in the arrays of a table
+-- the place of the text of leaf i in the arrays of a table
 stands : (nodes' : List PackedNode) (edges' : List PackedEdge) (offsets bytes : List ℕ) (table : List Definition) → IsPacked nodes' edges' offsets bytes table
     → (i : ℕ) → i < length (leaves table) → TextBetween bytes (get_or offsets i 0) (get_or offsets (i + 1) 0) (get_or (texts_of table) i [])
 stands nodes' edges' offsets bytes table p i h =
