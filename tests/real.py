@@ -3,7 +3,8 @@
 
 The names file is keysymdef.h with our header of short names; the tables are the UTF-8 tables of libx11-data, and one of a user
 that includes the table of the locale, each by the manifest that `composecheck manifest` prints for it. Typing is compared with
-libxkbcommon at each of 300,000 random keys a table. The last line is `N passed, M failed`."""
+libxkbcommon at each of 300,000 random keys a table, and so is each sequence that `list` prints. The last line is `N passed, M failed`."""
+import array
 import itertools
 import json
 import os
@@ -35,6 +36,7 @@ USER_TABLE = """include "%L"
 """
 KEYS = 300_000
 KEYS_A_PROCESS = 30_000
+TEXTS_A_PROCESS = 500
 
 
 class Results:
@@ -275,6 +277,76 @@ def check_typing(program, folder, results):
         results.expect(f"typing on {name} as libxkbcommon", agreed == KEYS, agreed)
 
 
+def placed_definitions(path, values, given):
+    """The keysyms of each production of a table and of those that it includes, in the order in which they are read, and what JSON has of it: its keys as
+    they are written, its text, its file and line."""
+    with open(path, "rb") as file:
+        lines = file.read().split(b"\n")
+    for number, read in enumerate(map(reference.read_line, lines), 1):
+        if isinstance(read, bytes):
+            yield from placed_definitions(ENGLISH if read == b"%L" else read.decode(), values, given)
+        elif read:
+            events, raw, name = read
+            keys = [it.decode() for it in events]
+            text = own_text(reference.keysym(name.decode(), values), given) if raw is None else reference.read_text(raw).decode()
+            yield keysyms_of(keys, values), {"keys": keys, "text": text, "file": path, "line": number}
+
+
+def counting_definitions(path, values, given):
+    """The definition of each sequence that counts, in the order of sequences: the last one, and none of a sequence with which a longer one begins."""
+    counting = dict(placed_definitions(path, values, given))
+    begun = {keys[:count] for keys in counting for count in range(1, len(keys))}
+    return {keys: counting[keys] for keys in sorted(counting.keys() - begun)}
+
+
+def objects(ran):
+    """The lines of a run as JSON."""
+    return [json.loads(line) for line in ran.stdout.splitlines()]
+
+
+def escaped(text):
+    """The text as `xkb` is compared with it."""
+    return re.sub(r'(["\\])', r"\\\1", text)
+
+
+def check_list(program, folder, results, name, path, counting):
+    """`list` prints each sequence of a table that counts, libxkbcommon types each of them, and what is printed is the same table where it is read again."""
+    ran = run(program, folder, "list", "--locale", "en_US.UTF-8", "--format", "json", path)
+    results.expect(f"list of {name}", objects(ran) == list(counting.values()), ran.stderr)
+    typed = theirs(folder, path, array.array("I", [key for keys in counting for key in keys]))
+    wrong = [keys for keys, it in counting.items() if [next(typed) for _ in keys][-1] != ("composed", escaped(it["text"]))]
+    results.expect(f"libxkbcommon types each sequence of {name} that `list` prints", not wrong, wrong[:5])
+    ran = run(program, folder, "list", "--locale", "en_US.UTF-8", path)
+    with open(os.path.join(folder, "listed"), "w", encoding="utf-8") as file:
+        file.write(ran.stdout)
+    for old, new in ((path, "listed"), ("listed", path)):
+        ran = run(program, folder, "diff", "--locale", "en_US.UTF-8", old, new)
+        last = ran.stdout.splitlines()[-1:]
+        results.expect(f"{name} and what `list` prints of it", ran.returncode == 0 and last and last[0].startswith(f"diff: {len(counting)} kept, 0 changed"), ran.stdout[-200:])
+
+
+def check_how(program, folder, results, name, path, counting):
+    """`how` prints the sequences of each text of a table, the shortest first."""
+    ways = {}
+    for keys in sorted(counting, key=lambda it: (len(it), it)):
+        ways.setdefault(counting[keys]["text"], []).append(counting[keys])
+    texts = [it for it in ways if not it.startswith(("-", "U+"))]
+    for at in range(0, len(texts), TEXTS_A_PROCESS):
+        part = texts[at : at + TEXTS_A_PROCESS]
+        ran = run(program, folder, "how", "--locale", "en_US.UTF-8", "--format", "json", "--from", path, *part)
+        results.expect(f"how {part[0]} and so on in {name}", ran.returncode == 0 and objects(ran) == [it for text in part for it in ways[text]], ran.stderr)
+
+
+def check_lists(program, folder, results):
+    """What `list` and `how` print of each table is what a second reading of it has."""
+    values = reference.header_values() | reference.header_values(SHORT_NAMES)
+    given = header_characters()
+    for name, path in tables(folder).items():
+        counting = counting_definitions(path, values, given)
+        check_list(program, folder, results, name, path, counting)
+        check_how(program, folder, results, name, path, counting)
+
+
 def check_repertoires(program, folder, results):
     """Each character of the repertoires that we ship is typed by the English table."""
     for name in sorted(os.listdir(REPERTOIRES)):
@@ -299,6 +371,7 @@ def main():
         check_differences(program, folder, results)
         check_findings(program, results)
         check_typing(program, folder, results)
+        check_lists(program, folder, results)
     print(f"{results.passed} passed, {results.failed} failed")
     return 1 if results.failed else 0
 
