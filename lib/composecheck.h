@@ -54,13 +54,13 @@ enum composecheck_status { COMPOSECHECK_NOTHING, COMPOSECHECK_COMPOSING, COMPOSE
 /* What composecheck_feed answers; the first two are those of enum xkb_compose_feed_result. */
 enum composecheck_fed { COMPOSECHECK_IGNORED, COMPOSECHECK_ACCEPTED, COMPOSECHECK_NO_KEYSYM };
 
-/* What composecheck_compile and composecheck_load answer. */
-enum composecheck_done { COMPOSECHECK_DONE, COMPOSECHECK_REFUSED, COMPOSECHECK_TOO_SMALL };
+/* What composecheck_compile, composecheck_load and composecheck_find return; WANTED only the last one. */
+enum composecheck_done { COMPOSECHECK_DONE, COMPOSECHECK_REFUSED, COMPOSECHECK_TOO_SMALL, COMPOSECHECK_WANTED };
 
 /* The part that is refused. */
 enum composecheck_part {
     COMPOSECHECK_NAMES = 1, COMPOSECHECK_BUNDLE, COMPOSECHECK_SOURCE, COMPOSECHECK_OVERLAP, COMPOSECHECK_NODES, COMPOSECHECK_MEMORY,
-    COMPOSECHECK_REPERTOIRE, COMPOSECHECK_CERTIFICATE, COMPOSECHECK_CONDITION
+    COMPOSECHECK_REPERTOIRE, COMPOSECHECK_CERTIFICATE, COMPOSECHECK_CONDITION, COMPOSECHECK_SEARCH
 };
 
 /* Why a call refuses what it is given; docs/LIBRARY.md lists the codes. Sources count from 0, lines and columns (in characters) from 1;
@@ -73,6 +73,7 @@ struct composecheck_fault { uint32_t part, code, lexical, value; uint64_t source
  * the length of its name (2 bytes), the name, the length of its content (4 bytes) and the content; the length of a certificate (4 bytes)
  * and the certificate. Numbers are big-endian, the names UTF-8 and distinct, and the first source is the root. longest: of two sequences of which
  * one is a prefix of the other the longer one counts, as in libxkbcommon; else such a table is refused.
+ * edges: memory of zeros (calloc), or what an earlier call filled: each entry holds a keysym, at most 0x1fffffff, before the call too.
  * DONE: sizes says how many entries count, and the arrays are a table. REFUSED: fault says why. TOO_SMALL: sizes says what is needed. Where it
  * isn't REFUSED, fault stays as it was. MALLOC */
 uint32_t composecheck_compile(const uint8_t *header, size_t header_length, const uint8_t *bundle, size_t bundle_length, bool longest,
@@ -170,6 +171,28 @@ uint32_t composecheck_characters(const uint8_t *header, size_t header_length, co
  * bytes; 2 the name has no room, and *name_length says what is needed. */
 uint32_t composecheck_include(const uint8_t *line, size_t line_length, uint8_t *name, size_t name_room, size_t *name_length);
 
+/* Finds the files of a table, one path after another. It opens no file and calls nobody back: the caller looks for a file at each path that is
+ * wanted, and adds the answer to those before it.
+ *   answers: what was found so far: the number of answers (2 bytes); each as the length of its path (2 bytes), the path, and either 1, the length
+ *     of the file (4 bytes) and its bytes, or 0 where no file is there. All numbers are big-endian.
+ *   root: the path of the table. system, locale, home: what %S, %L and %H stand for; locale is the path of the locale's table
+ *     (composecheck_locale_file). sysroot: the folder below which an absolute path of an include is looked for first. locale, home and sysroot
+ *     may have no bytes: then they aren't known. certificate: what the bundle gets as its certificate, which only composecheck_load reads.
+ * WANTED: target gets the path to look for, *target_length bytes, which has no answer yet. DONE: target gets the bundle of all sources, as
+ * composecheck_compile and composecheck_load take it. TOO_SMALL: target has no room, and *target_length says what is needed. REFUSED: fault says
+ * why; the source of a fault of COMPOSECHECK_SEARCH is the index of an answer. A second call with the same arguments returns the same. MALLOC */
+uint32_t composecheck_find(const uint8_t *answers, size_t answers_length, const uint8_t *root, size_t root_length, const uint8_t *system,
+                           size_t system_length, const uint8_t *locale, size_t locale_length, const uint8_t *home, size_t home_length,
+                           const uint8_t *sysroot, size_t sysroot_length, const uint8_t *certificate, size_t certificate_length, uint8_t *target,
+                           size_t target_room, size_t *target_length, struct composecheck_fault *fault);
+
+/* The path of the table of a locale, by the files compose.dir and locale.alias of the system's folder, whose bytes are given: 0 there is none,
+ * or the folder or the locale is not UTF-8; 1 path gets it, *path_length bytes; 2 the path has no room, and *path_length says what is needed;
+ * 3 no memory. MALLOC */
+uint32_t composecheck_locale_file(const uint8_t *folder, size_t folder_length, const uint8_t *compose_dir, size_t compose_dir_length,
+                                  const uint8_t *aliases, size_t aliases_length, const uint8_t *locale, size_t locale_length, uint8_t *path,
+                                  size_t path_room, size_t *path_length);
+
 /* ---- C over these: a table as one struct */
 
 /* A table: where its arrays are. Whoever has the arrays elsewhere, as in shared memory, fills it in; where there are no result keysyms,
@@ -198,7 +221,9 @@ struct composecheck_input {
     const void *repertoire;
     size_t repertoire_length;
     bool longest;
-    void *reserved[4];
+    const void *bundle; /* not null: the bundle of composecheck_find, in place of sources and certificate */
+    size_t bundle_length;
+    void *reserved[2];
 };
 
 /* The table with its result keysyms, in one block of malloc; null where it is refused, and fault says why (COMPOSECHECK_MEMORY: no memory). MALLOC */
@@ -233,6 +258,30 @@ uint32_t composecheck_table_result(const struct composecheck_table *table, const
 /* The next include of a source from *offset on, which goes on behind its line: its name with an end mark in name, false where there is none
  * with a name that has room. *offset is 0 at first. */
 bool composecheck_next_include(const void *bytes, size_t length, size_t *offset, char *name, size_t room);
+
+/* What the includes of a table lead to; each may be null, which is no path: the folder of the system's tables, for %S; the table of the locale,
+ * for %L; the home folder, for %H; and the folder below which an absolute path is looked for first. */
+struct composecheck_places { const char *system, *locale, *home, *sysroot; };
+
+/* Reads the table of the file at this path, with every file that it includes, by stdio; places may be null. Null where it is refused: fault says
+ * why, and text gets it as a line `FILE:LINE:COLUMN: SENTENCE`, cut to the room (with no room text may be null). MALLOC */
+struct composecheck_table *composecheck_table_from_file(const char *path, const struct composecheck_places *places, bool longest,
+                                                        struct composecheck_fault *fault, char *text, size_t room);
+
+/* The files of a table: the answers that composecheck_find took, and the bundle that it gave. */
+struct composecheck_files { uint8_t *answers, *bundle; size_t answers_length, bundle_length; };
+
+/* Finds the files of the table at this path, and reads them by stdio; where bytes is not null, they are the root, and its path is only its name.
+ * False where the search is refused. composecheck_files_free frees what files has, in both cases. MALLOC */
+bool composecheck_files_find(struct composecheck_files *files, const char *root, const void *bytes, size_t length,
+                             const struct composecheck_places *places, struct composecheck_fault *fault);
+void composecheck_files_free(struct composecheck_files *files);
+
+/* A source of the bundle by its index, which has to be one: its bytes, and its name without an end mark. */
+uint8_t *composecheck_files_source(const struct composecheck_files *files, size_t index, const char **name, size_t *name_length, size_t *length);
+
+/* The line of composecheck_table_from_file for a fault of these files; gives the whole length, as snprintf does. MALLOC */
+size_t composecheck_files_explain(const struct composecheck_files *files, bool longest, const struct composecheck_fault *fault, char *text, size_t room);
 
 /* The text of a key that is part of no sequence, by the names that are built in, in UTF-8 with an end mark; gives its length, 0 where the
  * key has none or memory is wanting. For several keys composecheck_characters is faster. MALLOC */

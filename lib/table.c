@@ -15,7 +15,8 @@ struct room {
 
 /* ---- bundles */
 
-struct bundle { uint8_t *bytes; size_t length; };
+/* The bytes of a bundle, and the block of malloc that they are in, if one was made for them. */
+struct bundle { const uint8_t *bytes; size_t length; uint8_t *block; };
 
 static uint8_t *put_number(uint8_t *at, size_t number, int bytes)
 {
@@ -67,15 +68,20 @@ static struct composecheck_fault fault_of(uint32_t part, uint32_t code)
 
 static bool bundle_of(const struct composecheck_input *input, struct bundle *bundle, struct composecheck_fault *fault)
 {
+    bundle->block = NULL;
+    bundle->bytes = input->bundle;
+    bundle->length = input->bundle_length;
+    if (input->bundle)
+        return true;
     if (!measure(input, &bundle->length)) {
         *fault = fault_of(COMPOSECHECK_BUNDLE, 2);
         return false;
     }
-    if (!(bundle->bytes = malloc(bundle->length))) {
+    if (!(bundle->bytes = bundle->block = malloc(bundle->length))) {
         *fault = fault_of(COMPOSECHECK_MEMORY, 0);
         return false;
     }
-    fill_bundle(bundle->bytes, input);
+    fill_bundle(bundle->block, input);
     return true;
 }
 
@@ -143,11 +149,8 @@ static struct composecheck_table *table_of(const struct room *wide, const struct
 }
 
 /* Room that the table of so many bytes hardly exceeds: an event has three bytes, a line five. */
-static struct composecheck_sizes guess(const struct composecheck_input *input)
+static struct composecheck_sizes guess(size_t bytes)
 {
-    size_t bytes = 0;
-    for (size_t i = 0; i < input->source_count; i++)
-        bytes += input->sources[i].length;
     struct composecheck_sizes sizes = { bytes / 3 + 2, bytes / 3 + 1, bytes / 5 + 2, bytes + 1, 4 * (bytes / 3 + 1), { 0 } };
     return sizes;
 }
@@ -213,12 +216,12 @@ static struct composecheck_table *read_table(const struct composecheck_table *in
 {
     struct bundle bundle;
     struct composecheck_table *table;
-    struct composecheck_sizes sizes = guess(input);
     if (!bundle_of(input, &bundle, fault))
         return NULL;
+    struct composecheck_sizes sizes = guess(bundle.length);
     if (read_into(in_use, input, &bundle, &sizes, &table, fault) == COMPOSECHECK_TOO_SMALL)
         read_into(in_use, input, &bundle, &sizes, &table, fault);
-    free(bundle.bytes);
+    free(bundle.block);
     if (table)
         *fault = fault_of(0, 0);
     return table;
@@ -290,7 +293,7 @@ size_t composecheck_table_explain(const struct composecheck_input *input, char *
         return strlen(said);
     }
     size_t length = put_sentence(input, &bundle, text, room);
-    free(bundle.bytes);
+    free(bundle.block);
     return length;
 }
 

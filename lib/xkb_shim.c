@@ -1,9 +1,9 @@
-/* libxkbcommon's xkb_compose_* over composecheck: for LD_PRELOAD, or to be linked in front of libxkbcommon. C, and unproved: the search for
- * files (paths, locales, %-expansion) and the reference counts.
+/* libxkbcommon's xkb_compose_* over composecheck: for LD_PRELOAD, or to be linked in front of libxkbcommon. C, and unproved: which files of the
+ * user come first, how files are read, and the reference counts. What includes lead to and the table of a locale come from the proved library.
  *
  * What differs from libxkbcommon: a table with a faulty line is refused, and why is told to stderr; with COMPOSECHECK_SHIM_SKIP=1 up to ten
  * faulty lines are left out, each with a message. Where a line names no result keysym, xkb_compose_state_get_one_sym gives that of a text of
- * one character. Modifier lists are refused. */
+ * one character. Modifier lists are refused. A relative include is looked for beside the including file too. A path that is not UTF-8 is refused. */
 #define _GNU_SOURCE
 #include "composecheck.h"
 #include <stdio.h>
@@ -13,7 +13,7 @@
 #ifndef XLOCALEDIR
 #define XLOCALEDIR "/usr/share/X11/locale"
 #endif
-enum { MOST_SOURCES = 64, MOST_SKIPPED = 10, MOST_NAME = 4096, TEXT_FORMAT = 1 };
+enum { MOST_SKIPPED = 10, MOST_PATH = 4096, TEXT_FORMAT = 1 };
 
 /* What of libxkbcommon's own is used where it is loaded. */
 struct xkb_context;
@@ -105,137 +105,48 @@ static char *read_file(const char *path, size_t *length)
 
 /* ---- locales */
 
-/* The words of a line `LEFT: RIGHT` without its comment. */
-static bool words_of(char *line, char **left, char **right)
+/* The bytes of a file in the folder of locales, none where it isn't there; null where memory is wanting. */
+static char *listing(const char *name, size_t *length)
 {
-    char *rest;
-    line[strcspn(line, "#\n\r")] = 0;
-    *left = strtok_r(line, ": \t", &rest);
-    *right = *left ? strtok_r(NULL, ": \t", &rest) : NULL;
-    return *right != NULL;
+    char *path = joined(folder(), "/", name), *bytes = read_file(path, length);
+    free(path);
+    if (bytes)
+        return bytes;
+    *length = 0;
+    return calloc(1, 1);
 }
 
-/* The other word of the line of this file in the locale folder that has the word. */
-static char *other_word(const char *name, bool is_right, const char *word)
+static const uint8_t *as_bytes(const char *text)
 {
-    char line[1024], *left, *right, *path = joined(folder(), "/", name), *found = NULL;
-    FILE *file = path ? fopen(path, "rb") : NULL;
-    while (file && !found && fgets(line, sizeof line, file))
-        if (words_of(line, &left, &right) && strcmp(is_right ? right : left, word) == 0)
-            found = copied(is_right ? left : right);
-    if (file)
-        fclose(file);
-    free(path);
-    return found;
+    return (const uint8_t *) text;
 }
 
 /* The path of the Compose file of a locale. */
-static char *locale_file(const char *locale)
+static char *locale_file(const char *given)
 {
-    char *file = other_word("compose.dir", true, strcmp(locale, "C") == 0 ? "en_US.UTF-8" : locale);
-    char *path = file && file[0] != '/' ? joined(folder(), "/", file) : copied(file);
-    free(file);
-    return path;
-}
-
-/* What a percent sign and this byte stand for in an include. */
-static char *meaning(char byte, const char *locale)
-{
-    const char *home = secure_getenv("HOME");
-    switch (byte) {
-    case '%': return copied("%");
-    case 'H': return copied(home ? home : "");
-    case 'S': return copied(folder());
-    case 'L': return locale_file(locale);
-    default: return NULL;
-    }
-}
-
-/* The path that the text of an include stands for. */
-static char *expanded(const char *text, const char *locale)
-{
-    char *path = copied("");
-    while (path && *text) {
-        char plain[2] = { *text, 0 };
-        bool is_percent = *text == '%';
-        char *piece = is_percent ? meaning(text[1], locale) : copied(plain);
-        char *longer = joined(path, piece ? piece : "", "");
+    const char *locale = strcmp(given, "C") == 0 ? "en_US.UTF-8" : given, *in = folder();
+    size_t files_length, aliases_length, length;
+    char *files = listing("compose.dir", &files_length), *aliases = listing("locale.alias", &aliases_length), *path = malloc(MOST_PATH);
+    bool is_found = files && aliases && path
+                    && composecheck_locale_file(as_bytes(in), strlen(in), as_bytes(files), files_length, as_bytes(aliases), aliases_length, as_bytes(locale),
+                                                strlen(locale), (uint8_t *) path, MOST_PATH - 1, &length) == 1;
+    free(files);
+    free(aliases);
+    if (!is_found) {
         free(path);
-        path = piece ? longer : (free(longer), (char *) NULL);
-        free(piece);
-        text += is_percent && text[1] ? 2 : 1;
+        return NULL;
     }
+    path[length] = 0;
     return path;
-}
-
-/* ---- sources */
-
-struct sources {
-    struct composecheck_source all[MOST_SOURCES];
-    size_t count;
-    const char *locale;
-};
-
-static bool is_known(const struct sources *sources, const char *name)
-{
-    for (size_t i = 0; i < sources->count; i++)
-        if (strcmp(sources->all[i].name, name) == 0)
-            return true;
-    return false;
-}
-
-/* Takes over the bytes, which may be null. */
-static void add_source(struct sources *sources, const char *name, char *bytes, size_t length)
-{
-    char *kept = copied(name);
-    if (!bytes || !kept || sources->count == MOST_SOURCES) {
-        free(bytes);
-        free(kept);
-        return;
-    }
-    sources->all[sources->count++] = (struct composecheck_source) { kept, bytes, length };
-}
-
-static void add_included(struct sources *sources, const char *name)
-{
-    size_t length;
-    char *path = expanded(name, sources->locale);
-    char *bytes = read_file(path, &length);
-    add_source(sources, name, bytes, bytes ? length : 0);
-    free(path);
-}
-
-/* Adds every source that the sources include. What isn't there is left out, and the table is refused for it. */
-static void add_includes(struct sources *sources)
-{
-    char name[MOST_NAME];
-    for (size_t i = 0; i < sources->count; i++) {
-        size_t offset = 0;
-        while (composecheck_next_include(sources->all[i].bytes, sources->all[i].length, &offset, name, sizeof name))
-            if (!is_known(sources, name))
-                add_included(sources, name);
-    }
-}
-
-static void free_sources(struct sources *sources)
-{
-    for (size_t i = 0; i < sources->count; i++) {
-        free((void *) sources->all[i].name);
-        free((void *) sources->all[i].bytes);
-    }
 }
 
 /* ---- tables */
 
-static void tell(const struct composecheck_input *input, const struct composecheck_fault *fault, const char *shown, const char *end)
+static void tell(const struct composecheck_files *files, const struct composecheck_fault *fault, const char *end)
 {
-    char said[512];
-    const char *name = fault->source > 0 && fault->source < input->source_count ? input->sources[fault->source].name : shown;
-    composecheck_table_explain(input, said, sizeof said);
-    if (fault->line)
-        fprintf(stderr, "composecheck: %s:%llu:%llu: %s%s\n", name, (unsigned long long) fault->line, (unsigned long long) fault->column, said, end);
-    else
-        fprintf(stderr, "composecheck: %s: %s%s\n", name, said, end);
+    char said[1024];
+    composecheck_files_explain(files, true, fault, said, sizeof said);
+    fprintf(stderr, "composecheck: %s%s\n", said, end);
 }
 
 /* Whether the fault is one line's own, which libxkbcommon passes over: no UTF-8, no line of the grammar, or a name that is no keysym's or an ignored
@@ -252,13 +163,15 @@ static bool may_skip(void)
 }
 
 /* Blanks out the line of a fault. */
-static void blank(const struct composecheck_source *source, uint64_t number)
+static void blank(const struct composecheck_files *files, const struct composecheck_fault *fault)
 {
-    char *line = (char *) source->bytes, *end = line + source->length;
+    const char *name;
+    size_t name_length, length;
+    uint8_t *line = composecheck_files_source(files, fault->source, &name, &name_length, &length), *end = line + length;
     for (uint64_t at = 1; line < end; at++) {
-        char *stop = memchr(line, '\n', (size_t) (end - line));
+        uint8_t *stop = memchr(line, '\n', (size_t) (end - line));
         size_t size = (size_t) ((stop ? stop : end) - line);
-        if (at == number) {
+        if (at == fault->line) {
             memset(line, ' ', size);
             return;
         }
@@ -266,18 +179,16 @@ static void blank(const struct composecheck_source *source, uint64_t number)
     }
 }
 
-static struct composecheck_table *read_table(const struct sources *sources, const char *shown)
+/* The table of files that were found. */
+static struct composecheck_table *read_table(const struct composecheck_files *files, struct composecheck_fault *fault)
 {
-    struct composecheck_input input = { .sources = sources->all, .source_count = sources->count, .longest = true };
-    struct composecheck_fault fault;
-    struct composecheck_table *table = composecheck_table_new(&input, &fault);
-    for (int skipped = 0; !table && skipped < MOST_SKIPPED && may_skip() && is_of_line(&fault); skipped++) {
-        tell(&input, &fault, shown, "; the line is left out");
-        blank(&sources->all[fault.source], fault.line);
-        table = composecheck_table_new(&input, &fault);
+    struct composecheck_input input = { .bundle = files->bundle, .bundle_length = files->bundle_length, .longest = true };
+    struct composecheck_table *table = composecheck_table_new(&input, fault);
+    for (int skipped = 0; !table && skipped < MOST_SKIPPED && may_skip() && is_of_line(fault); skipped++) {
+        tell(files, fault, "; the line is left out");
+        blank(files, fault);
+        table = composecheck_table_new(&input, fault);
     }
-    if (!table)
-        tell(&input, &fault, shown, "");
     return table;
 }
 
@@ -294,35 +205,34 @@ static struct xkb_compose_table *kept(struct xkb_context *context, struct compos
     return made;
 }
 
-/* The table of a root, whose bytes it takes over. */
-static struct xkb_compose_table *table_of(struct xkb_context *context, char *bytes, size_t length, const char *locale, const char *shown)
+/* The table of a root. */
+static struct xkb_compose_table *table_of(struct xkb_context *context, const char *bytes, size_t length, const char *locale, const char *shown)
 {
-    struct sources sources = { .locale = locale };
-    add_source(&sources, "", bytes, length);
-    if (sources.count == 0)
-        return NULL;
-    add_includes(&sources);
-    struct xkb_compose_table *table = kept(context, read_table(&sources, shown));
-    free_sources(&sources);
-    return table;
+    char *path = locale_file(locale);
+    struct composecheck_places places = { folder(), path, secure_getenv("HOME"), NULL };
+    struct composecheck_files files;
+    struct composecheck_fault fault;
+    struct composecheck_table *table = composecheck_files_find(&files, shown, bytes, length, &places, &fault) ? read_table(&files, &fault) : NULL;
+    if (!table)
+        tell(&files, &fault, "");
+    composecheck_files_free(&files);
+    free(path);
+    return kept(context, table);
 }
 
 struct xkb_compose_table *xkb_compose_table_new_from_buffer(struct xkb_context *context, const char *buffer, size_t length, const char *locale,
                                                             int format, int flags)
 {
-    char *bytes = flags || format != TEXT_FORMAT ? NULL : malloc(length + 1);
-    if (!bytes)
-        return NULL;
-    if (length)
-        memcpy(bytes, buffer, length);
-    return table_of(context, bytes, length, locale, "(input string)");
+    return flags || format != TEXT_FORMAT ? NULL : table_of(context, length ? buffer : "", length, locale, "(input string)");
 }
 
 struct xkb_compose_table *xkb_compose_table_new_from_file(struct xkb_context *context, FILE *file, const char *locale, int format, int flags)
 {
     size_t length;
     char *bytes = flags || format != TEXT_FORMAT ? NULL : read_all(file, &length);
-    return bytes ? table_of(context, bytes, length, locale, "(unknown file)") : NULL;
+    struct xkb_compose_table *table = bytes ? table_of(context, bytes, length, locale, "(unknown file)") : NULL;
+    free(bytes);
+    return table;
 }
 
 /* The path of the user's Compose file of this number, if it has one: in the order in which libxkbcommon looks at them. */
@@ -339,19 +249,17 @@ static char *user_file(int number, const char *locale)
 
 struct xkb_compose_table *xkb_compose_table_new_from_locale(struct xkb_context *context, const char *locale, int flags)
 {
-    char *alias = other_word("locale.alias", false, locale);
-    const char *known = alias ? alias : locale;
     struct xkb_compose_table *table = NULL;
-    for (int number = 0; number < 4 && !flags; number++) {
+    bool is_read = false;
+    for (int number = 0; number < 4 && !flags && !is_read; number++) {
         size_t length;
-        char *path = user_file(number, known), *bytes = read_file(path, &length);
-        if (bytes)
-            table = table_of(context, bytes, length, known, path);
+        char *path = user_file(number, locale), *bytes = read_file(path, &length);
+        is_read = bytes != NULL;
+        if (is_read)
+            table = table_of(context, bytes, length, locale, path);
+        free(bytes);
         free(path);
-        if (bytes)
-            break;
     }
-    free(alias);
     return table;
 }
 

@@ -73,7 +73,7 @@ LIBRARY = Package("libcomposecheck1", "libs", "any", "libc6", """Compose tables 
 """)
 LIBRARY_DEV = Package("libcomposecheck-dev", "libdevel", "any", "libcomposecheck1 (= VERSION)", """Compose tables and compose states for programs, development files
  The header, the static library and the pkg-config file of libcomposecheck, its
- guide and two examples.
+ guide and three examples.
 """)
 IBUS = Package("composecheck-ibus", "utils", "all", "composecheck (= VERSION), gir1.2-gtk-3.0, gir1.2-ibus-1.0, ibus, python3 (>= 3.9), python3-gi", """Compose sequences of a composecheck service, for IBus
  An engine of IBus that types by the Compose table of a running service. The
@@ -170,7 +170,7 @@ def library_files():
     for package, part in zip((LIBRARY, LIBRARY_DEV), parts):
         part[f"share/doc/{package.name}/LICENSE"] = read(f"{TOP}/LICENSE")
     parts[1][f"share/doc/{LIBRARY_DEV.name}/LIBRARY.md"] = read(f"{TOP}/docs/LIBRARY.md")
-    for name in ("type.c", "live.c"):
+    for name in ("type.c", "live.c", "file.c"):
         parts[1][f"share/doc/{LIBRARY_DEV.name}/examples/{name}"] = read(f"{TOP}/lib/examples/{name}")
     return parts
 

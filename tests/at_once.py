@@ -27,6 +27,8 @@ LOADS = 40
 UNREAD = 200_000
 # A connection may be idle for so many seconds; so many ends of connections are more than a pipe of so many bytes holds.
 IDLE, ENDS, PIPE = 2, 400, 8192
+# So many sessions may be open, of so many clients that are killed.
+SESSIONS, KILLED = 4096, 5
 # So many connections hold several loads each.
 LOADING = 8
 TABLE = {(GRAVE, ACUTE, E): b"x", (ACUTE, E): b"x"}
@@ -291,6 +293,94 @@ def check_few_descriptors(program, results, options):
         results.expect(f"what is printed then, {options}", service.ended(), ("listening\nconnection 1: ended\nconnection 2: ended\n", "", 0))
 
 
+# ---- sessions that end with their connection
+
+def opening(service, numbers):
+    """Forks a client that opens these sessions, and returns its process once all are open. It closes none, and ends by a signal alone."""
+    reading, writing = os.pipe()
+    process = os.fork()
+    if process == 0:
+        try:
+            with Peer(service) as client:
+                for number in numbers:
+                    client.ask(frame(1, number), frame(0x81, number))
+                os.write(writing, b"!")
+                signal.pause()
+        finally:
+            os._exit(1)
+    os.close(writing)
+    with open(reading, "rb") as opened:
+        assert opened.read(1) == b"!", "a client could not open its sessions"
+    return process
+
+
+def kill(process):
+    os.kill(process, signal.SIGKILL)
+    os.waitpid(process, 0)
+
+
+def is_closed_soon(client, number):
+    """Whether the session is closed within a minute."""
+    end = time.monotonic() + 60
+    while time.monotonic() < end:
+        if client.ask(frame(6, number), refused(number, 2)) == refused(number, 2):
+            return True
+        client.read(len(state(number, 0)) - len(refused(number, 2)))
+        time.sleep(0.01)
+    return False
+
+
+def check_killed(program, results):
+    """Clients that are killed leave no session behind, as many as they opened, and the session of another connection stays."""
+    with Serving(program, connections=KILLED + 1, options=at_once(KILLED + 1, "--own-sessions")) as service:
+        with Peer(service) as staying:
+            results.expect("the session of another connection", staying.ask(OPEN_7 + key(7, GRAVE), OPENED_7 + fed(7, 1)), OPENED_7 + fed(7, 1))
+            numbers = list(range(100, 100 + SESSIONS - 1))
+            shares = [numbers[it::KILLED] for it in range(KILLED)]
+            processes = [opening(service, share) for share in shares]
+            results.expect("no further session", staying.ask(frame(1, 8), refused(8, 3)), refused(8, 3))
+            for process, share in zip(processes, shares):
+                kill(process)
+                results.expect("the last session of a client that was killed", is_closed_soon(staying, share[-1]), True)
+            again = b"".join(frame(1, it) for it in numbers)
+            results.expect("all can be opened again", staying.ask(again, b"".join(frame(0x81, it) for it in numbers)), b"".join(frame(0x81, it) for it in numbers))
+            results.expect("the other session stays", staying.ask(frame(6, 7), state(7, 1, GRAVE)), state(7, 1, GRAVE))
+            results.expect("its end", staying.finish(), b"")
+        results.expect("all ended", len(service.ended()[0].splitlines()), KILLED + 2)
+
+
+def check_whose(program, results):
+    """A session that was closed and opened again belongs to the connection that opened it last; without the option none is closed."""
+    for options, stays in ((("--own-sessions",), False), ((), True)):
+        with Serving(program, connections=3, options=at_once(3, *options)) as service:
+            with Peer(service) as first, Peer(service) as second, Peer(service) as third:
+                results.expect("two sessions", first.ask(frame(1, 8) + frame(1, 9), frame(0x81, 8) + frame(0x81, 9)), frame(0x81, 8) + frame(0x81, 9))
+                results.expect("one is closed by another client", second.ask(frame(4, 9), frame(0x84, 9)), frame(0x84, 9))
+                results.expect("and opened by it", second.ask(frame(1, 9), frame(0x81, 9)), frame(0x81, 9))
+                results.expect("the first ends", first.finish(), b"")
+                wanted = state(8, 0) if stays else refused(8, 2)
+                results.expect(f"its session, {options}", third.ask(frame(6, 8), wanted), wanted)
+                results.expect(f"that of the second, {options}", third.ask(frame(6, 9), state(9, 0)), state(9, 0))
+                results.expect("the second ends", second.finish(), b"")
+                wanted = state(9, 0) if stays else refused(9, 2)
+                results.expect(f"its session, {options}", third.ask(frame(6, 9), wanted), wanted)
+                results.expect("the third ends", third.finish(), b"")
+            results.expect("all three end", service.ended()[2], 0)
+
+
+def check_own_sessions_one_by_one(program, results):
+    """Without --at-once, too: the next client finds the session of the one before closed."""
+    for options, wanted in ((("--own-sessions",), refused(7, 2)), ((), state(7, 0))):
+        with Serving(program, connections=2, options=options) as service:
+            with Peer(service) as first:
+                results.expect("the first", first.ask(OPEN_7, OPENED_7), OPENED_7)
+                results.expect("its end", first.finish(), b"")
+            with Peer(service) as second:
+                results.expect(f"the session then, {options}", second.ask(frame(6, 7), wanted), wanted)
+                results.expect("the end of the second", second.finish(), b"")
+            results.expect("both end", service.ended(), ("listening\nconnection 1: ended\nconnection 2: ended\n", "", 0))
+
+
 # ---- connections that send nothing
 
 def check_idle(program, results):
@@ -399,6 +489,9 @@ def main():
         check_closed_output(program, results, options)
     check_idle(program, results)
     check_idle_one_by_one(program, results)
+    check_killed(program, results)
+    check_whose(program, results)
+    check_own_sessions_one_by_one(program, results)
     check_turns(program, results)
     for unsent in (65_536, 1):
         check_unread(program, results, unsent)

@@ -205,6 +205,84 @@ def key_texts(results, library):
     results.expect(library.texts([]) == [], "no keys")
 
 
+# ---- files
+
+
+FILES = {
+    "/r/root": 'include "%L"\n\ninclude "%S/s"\n  include "%H/h"\ninclude "../r/beside"\n<x> : "x"\n',
+    "/locale": '<a> : "L"\n',
+    "/system/s": 'include "%L"\n<b> : "S"\n',
+    "/home/h": '<c> : "H"\n',
+    "/r/../r/beside": '<d> : "B"\n',
+    "/chroot/system/s": '<b> : "below"\n',
+}
+PLACES = {"system": "/system", "locale": "/locale", "home": "/home"}
+
+
+def looking(files, asked):
+    """Returns a function that looks for a path among these files, and notes each path that it is asked for."""
+
+    def look(path):
+        asked.append(path.decode())
+        found = files.get(path.decode())
+        return found.encode() if isinstance(found, str) else found
+
+    return look
+
+
+def stopped(library, root, files, **places):
+    """Returns the numbers of the fault with which a search is refused, and the path of the answer that it names."""
+    asked = []
+    fault, _ = refusal(lambda: library.find(root, look=looking(files, asked), **places))
+    return fault and (fault.part, fault.code, fault.lexical, fault.line, fault.column, asked[fault.source] if fault.source < len(asked) else "")
+
+
+def searches(results, library):
+    """Searches for files: what is asked for, in which order, what is found, and each fault."""
+    asked = []
+    table = library.Table.from_file("/r/root", look=looking(FILES, asked), **PLACES)
+    typed = [library.State().feed(table, ord(key)) for key in "abcdx"]
+    results.expect(typed == list("LSHBx"), f"the files of a table type {typed}")
+    wanted = ["/r/root", "/locale", "/system/s", "/home/h", "../r/beside", "/r/../r/beside"]
+    results.expect(asked == wanted, f"the paths that are asked for: {asked}")
+    asked.clear()
+    table = library.Table.from_file("/r/root", look=looking(FILES, asked), sysroot="/chroot", **PLACES)
+    results.expect(library.State().feed(table, 0x62) == "below" and asked[1] == "/chroot/locale", f"below a sysroot: {asked}")
+    deep = {f"/{n}": f'include "/{n + 1}"\n' for n in range(10)}
+    many = {"/r": "".join(f'include "/{n}"\n' for n in range(64)), **{f"/{n}": "" for n in range(64)}}
+    for root, files, places, numbers in (
+        ("/nothing", {}, {}, (10, 2, 0, 0, 0, "/nothing")),
+        ("/r", {"/r": '# é\n "é" \n include  "é/x"\n'}, {}, (10, 3, 0, 3, 11, "/r")),
+        ("/r", {"/r": 'include "s"\n', "/s": '\ninclude "t"\n'}, {}, (10, 3, 0, 2, 9, "/s")),
+        ("/r", {"/r": 'include "é\\q"\n'}, {}, (10, 4, 4, 1, 11, "/r")),
+        ("/r", {"/r": 'include "%x"\n'}, {}, (10, 5, 0, 1, 9, "/r")),
+        ("/r", {"/r": 'include "%L"\n'}, {}, (10, 6, 0, 1, 9, "/r")),
+        ("/r", {"/r": 'include "%H"\n'}, {}, (10, 7, 0, 1, 9, "/r")),
+        ("/a/r", {"/a/r": 'include "x"\ninclude "/b/s"\n', "/a/x": "", "/b/s": 'include "x"\n', "/b/x": ""}, {}, None),
+        ("/r", many, {}, (10, 9, 0, 64, 9, "/r")),
+        ("/0", deep, {}, (10, 10, 0, 1, 9, "/8")),
+        (b"/\xff", {}, {}, (10, 1, 0, 0, 0, "")),
+        ("/r", {"/r": ""}, {"home": b"\xff"}, (10, 1, 0, 0, 0, "")),
+        ("/r", {"/r": b"x" * 9_000_000}, {}, (2, 2, 0, 0, 0, "/r")),
+    ):
+        got = stopped(library, root, files, **places)
+        if numbers is None:
+            results.expect(got and got[:2] == (10, 8), f"one text that leads to two files: {got}")
+        else:
+            results.expect(got == numbers, f"the search from {root!r} is refused with {got}, not with {numbers}")
+    circle = {"/a": 'include "b"\n', "/b": 'include "a"\n'}
+    fault, _ = refusal(lambda: library.Table.from_file("/a", look=looking(circle, [])))
+    results.expect(fault and (fault.part, fault.code) == (3, 7), "a circle of includes is found, and refused by reading")
+    bundle = library.find("/r", look=looking({"/r": '<a> <b> : "x"\n'}, []), certificate=CERTIFICATE)
+    loaded = library.Table({}, repertoire="", bundle=bundle, in_use=library.Table({"r": '<a> <b> : "x"\n'}))
+    results.expect(loaded.is_table() == 1, "a load with the certificate of a search")
+    directory = b"en_US.UTF-8/Compose: en_US.UTF-8\n/abs/Compose\tde_DE\n"
+    got = [library.locale_file(it, "/f", directory, "de: de_DE\n") for it in ("en_US.UTF-8", "de", "de_DE", "xx", b"\xff")]
+    results.expect(got == ["/f/en_US.UTF-8/Compose", "/abs/Compose", "/abs/Compose", None, None], f"the tables of locales are {got}")
+    long = "x" * 5000
+    results.expect(library.locale_file("l", "/f", f"{long}: l\n", "") == f"/f/{long}", "a long path of a locale's table")
+
+
 # ---- beside libxkbcommon
 
 
@@ -298,7 +376,7 @@ def c_programs(results, folder):
     build_library.build(f"{folder}/checked", checked)
     for name in ("hostile", "threads"):
         program = compiled(folder, f"{TOP}/tests/library/{name}.c", *checked, f"{folder}/checked/libcomposecheck.a", "-lpthread")
-        ran = subprocess.run([program], stdout=subprocess.PIPE, stderr=subprocess.STDOUT, text=True, timeout=300)
+        ran = subprocess.run([program, folder], stdout=subprocess.PIPE, stderr=subprocess.STDOUT, text=True, timeout=300)
         results.expect(ran.returncode == 0, f"{name}: {ran.stdout}")
 
 
@@ -361,7 +439,7 @@ def main():
         os.environ["COMPOSECHECK_LIBRARY"] = f"{folder}/lib/libcomposecheck.so.1"
         import composecheck as library
 
-        for test in (refusals, loads, result_keysyms, key_texts, random_keys):
+        for test in (refusals, loads, result_keysyms, key_texts, searches, random_keys):
             test(results, library)
         beside(results, folder, count, locales)
         symbols(results, f"{folder}/lib")

@@ -33,7 +33,7 @@ _composecheck() {
         lint) options="--names --reader --all --accept --write-accept --format --skip-faulty --system --locale --root --verbose --help" ;;
         update) options="--fresh --repertoire --accept --state --socket --system --locale --verbose --help" ;;
         manifest) options="--system --locale --root --verbose --help" ;;
-        serve) options="--files --names --fresh --state --at-once --unsent --idle --mode --replace --unlink --overlap --system --locale --root --verbose --help" ;;
+        serve) options="--files --names --fresh --state --at-once --unsent --idle --own-sessions --mode --replace --unlink --overlap --system --locale --root --verbose --help" ;;
         load) options="--files --overlap --system --locale --root --verbose --help" ;;
         session) options="--files --names --open --reset --ask --close --verbose --help" ;;
     esac

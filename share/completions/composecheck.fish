@@ -29,6 +29,7 @@ complete -c composecheck -n "__fish_seen_subcommand_from update" -l socket -r -F
 complete -c composecheck -n "__fish_seen_subcommand_from serve" -l at-once -x -d "Serve so many connections at once"
 complete -c composecheck -n "__fish_seen_subcommand_from serve" -l unsent -x -d "Bytes of replies that may be unsent on a connection"
 complete -c composecheck -n "__fish_seen_subcommand_from serve" -l idle -x -d "Seconds that a connection may be idle"
+complete -c composecheck -n "__fish_seen_subcommand_from serve" -l own-sessions -d "Close each session when its connection ends"
 complete -c composecheck -n "__fish_seen_subcommand_from diff how list lint type check explain make manifest serve load" -l system -x -a "(__fish_complete_directories)" -d "Folder of the tables of the system"
 complete -c composecheck -n "__fish_seen_subcommand_from diff how list lint type check explain make manifest serve load" -l root -x -a "(__fish_complete_directories)" -d "Folder of an unpacked package"
 complete -c composecheck -n "__fish_seen_subcommand_from diff how list lint type check explain make manifest serve load" -l locale -x -d "Name of the locale"

@@ -11,7 +11,9 @@ import os
 
 ABI = 1
 STATUSES = ("nothing", "composing", "composed", "cancelled")
-PARTS = ("", "names", "bundle", "source", "overlap", "nodes", "memory", "repertoire", "certificate", "condition")
+PARTS = ("", "names", "bundle", "source", "overlap", "nodes", "memory", "repertoire", "certificate", "condition", "search")
+DONE, REFUSED, TOO_SMALL, WANTED = range(4)
+SYSTEM = "/usr/share/X11/locale"
 MOST_TEXT, MOST_PENDING = 255, 31
 
 
@@ -40,7 +42,8 @@ class _Input(ctypes.Structure):
     _fields_ = [
         ("header", ctypes.c_char_p), ("header_length", ctypes.c_size_t), ("sources", ctypes.POINTER(_Source)), ("source_count", ctypes.c_size_t),
         ("certificate", ctypes.c_char_p), ("certificate_length", ctypes.c_size_t), ("repertoire", ctypes.c_char_p),
-        ("repertoire_length", ctypes.c_size_t), ("longest", ctypes.c_bool), ("reserved", ctypes.c_void_p * 4),
+        ("repertoire_length", ctypes.c_size_t), ("longest", ctypes.c_bool), ("bundle", ctypes.c_char_p), ("bundle_length", ctypes.c_size_t),
+        ("reserved", ctypes.c_void_p * 2),
     ]  # fmt: skip
 
 
@@ -75,6 +78,8 @@ def _load(path):
         ("table_refeed", None, (table, state)),
         ("table_following", ctypes.c_bool, (table, state, ctypes.c_uint32, words, words, text, words)),
         ("characters", ctypes.c_uint32, (ctypes.c_char_p, ctypes.c_size_t, words, ctypes.c_size_t, words, ctypes.c_size_t, fault)),
+        ("find", ctypes.c_uint32, (ctypes.c_char_p, ctypes.c_size_t) * 8 + (ctypes.POINTER(ctypes.c_size_t), fault)),
+        ("locale_file", ctypes.c_uint32, (ctypes.c_char_p, ctypes.c_size_t) * 5 + (ctypes.POINTER(ctypes.c_size_t),)),
         ("builtin_names", ctypes.c_void_p, (ctypes.POINTER(ctypes.c_size_t),)),
         ("table_result", ctypes.c_uint32, (table, state, ctypes.c_uint32)),
         ("reset", None, (state,)),
@@ -93,12 +98,13 @@ def _bytes(it):
     return it.encode() if isinstance(it, str) else it
 
 
-def _input(sources, header, longest, certificate, repertoire):
+def _input(sources, header, longest, certificate, repertoire, bundle=None):
     rows = [(_bytes(name), _bytes(text)) for name, text in sources.items()]
     array = (_Source * len(rows))(*(_Source(name, text, len(text)) for name, text in rows))
     header, certificate, repertoire = _bytes(header), _bytes(certificate), _bytes(repertoire)
     return _Input(
-        header, len(header or b""), array, len(rows), certificate, len(certificate or b""), repertoire, len(repertoire or b""), longest
+        header, len(header or b""), array, len(rows), certificate, len(certificate or b""), repertoire, len(repertoire or b""), longest,
+        bundle, len(bundle or b""),
     )  # fmt: skip
 
 
@@ -120,17 +126,77 @@ def texts(keysyms, header=None):
     return [chr(it) if it else "" for it in found[: len(keysyms)]]
 
 
+def _pairs(*values):
+    """Returns each of these bytes with its length, one after another."""
+    return [it for value in values for it in (value, len(value))]
+
+
+def locale_file(locale, folder=SYSTEM, compose_dir=None, aliases=None):
+    """Returns the path of the table of a locale, by the folder's files compose.dir and locale.alias, or None where there is none."""
+    compose_dir = (_look(f"{folder}/compose.dir".encode()) or b"") if compose_dir is None else _bytes(compose_dir)
+    aliases = (_look(f"{folder}/locale.alias".encode()) or b"") if aliases is None else _bytes(aliases)
+    room, length = 4096, ctypes.c_size_t()
+    while True:
+        path = ctypes.create_string_buffer(room)
+        done = _library.composecheck_locale_file(*_pairs(_bytes(folder), compose_dir, aliases, _bytes(locale)), path, room, length)
+        if done == 3:
+            raise MemoryError
+        if done != 2:
+            return path.raw[: length.value].decode() if done == 1 else None
+        room = length.value
+
+
+def _look(path):
+    """Returns the bytes of the file at a path, or None where there is none."""
+    try:
+        with open(path, "rb") as file:
+            return file.read()
+    except (OSError, ValueError):
+        return None
+
+
+def _answer(path, found):
+    """Returns an answer of a search: the path, and the bytes of its file or None."""
+    kept = b"\0" if found is None else b"\1" + len(found).to_bytes(4, "big") + found
+    return len(path).to_bytes(2, "big") + path + kept
+
+
+def find(root, system=SYSTEM, locale="", home="", sysroot="", certificate="", look=_look):
+    """Returns the bundle of the table at the path `root`, with all files that it includes, each as `look` returns its bytes, or raises Refused.
+
+    %S is `system`, %L the path `locale`, %H `home`; an absolute path is looked for below `sysroot` first. What is empty is not known."""
+    paths = [_bytes(it) for it in (root, system, locale, home, sysroot)]
+    answers, room, length, fault = [], 1 << 16, ctypes.c_size_t(), Fault()
+    while True:
+        payload, target = len(answers).to_bytes(2, "big") + b"".join(answers), ctypes.create_string_buffer(room)
+        done = _library.composecheck_find(*_pairs(payload, *paths, _bytes(certificate)), target, room, length, fault)
+        given = target.raw[: length.value] if done in (DONE, WANTED) else b""
+        if done == DONE:
+            return given
+        if done == REFUSED:
+            raise Refused(fault, "")
+        if done == TOO_SMALL:
+            room = length.value
+        else:
+            answers.append(_answer(given, look(given)))
+
+
 class Table:
     """A table, read from sources: a dict of names and contents, the root first. Refused says why there is none."""
 
-    def __init__(self, sources, header=None, longest=True, certificate=None, repertoire=None, in_use=None):
-        given, fault = _input(sources, header, longest, certificate, repertoire), Fault()
+    def __init__(self, sources, header=None, longest=True, certificate=None, repertoire=None, in_use=None, bundle=None):
+        given, fault = _input(sources, header, longest, certificate, repertoire, bundle), Fault()
         if in_use is None:
             self._table = _library.composecheck_table_new(given, fault)
         else:
             self._table = _library.composecheck_table_load(in_use._table, given, fault)
         if not self._table:
             raise Refused(fault, _explain(given))
+
+    @classmethod
+    def from_file(cls, path, header=None, longest=True, **places):
+        """Returns the table of the file at this path, with all files that it includes; `find` says what the places are."""
+        return cls({}, header, longest, bundle=find(path, **places))
 
     def __del__(self):
         if getattr(self, "_table", None):

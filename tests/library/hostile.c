@@ -121,7 +121,7 @@ static void rooms(const struct composecheck_input *input)
             fits = fits && room[i] >= needed[i];
         }
         struct composecheck_node *nodes = malloc(room[0] * sizeof *nodes);
-        struct composecheck_edge *edges = malloc(room[1] * sizeof *edges);
+        struct composecheck_edge *edges = calloc(room[1], sizeof *edges);
         uint32_t *offsets = malloc(room[2] * sizeof *offsets);
         uint8_t *texts = malloc(room[3]), *hints = malloc(room[4]);
         size_t count = 999, result_room = table->result_count + chance() % 3 - 1;
@@ -163,7 +163,77 @@ static void lines(void)
     }
 }
 
-int main(void)
+static uint32_t find(const uint8_t *answers, size_t length, uint8_t *target, size_t room, size_t *needed, struct composecheck_fault *fault)
+{
+    static const uint8_t root[] = "/r", system[] = "/s", none[1];
+    return composecheck_find(answers, length, root, 2, system, 2, none, 0, none, 0, none, 0, none, 0, target, room, needed, fault);
+}
+
+/* Answers of any bytes, for targets of any size. */
+static void searches(void)
+{
+    static const char good[] = "\0\3\0\2/r\1\0\0\0\26include \"s\"\n<a> : \"x\"\n\0\1s\0\0\2/s\1\0\0\0\0";
+    int counts[4] = { 0 };
+    for (int round = 0; round < 20000; round++) {
+        size_t size = chance() % 4 ? sizeof good - 1 : chance() % sizeof good, room = chance() % 80, length = 999;
+        uint8_t *answers = copied(good, size), *target = malloc(room ? room : 1);
+        struct composecheck_fault fault = { .part = 77 };
+        if (size)
+            answers[chance() % size] ^= (uint8_t) (chance() % 2 ? 0 : chance() >> chance() % 32);
+        uint32_t done = find(answers, size, target, room, &length, &fault);
+        expect(done <= 3 && (done == COMPOSECHECK_REFUSED) == (fault.part != 77), "what a search answers");
+        expect(done == COMPOSECHECK_REFUSED || (done == COMPOSECHECK_TOO_SMALL) == (length > room), "the room of a search");
+        counts[done & 3]++;
+        if (done == COMPOSECHECK_TOO_SMALL) {
+            size_t again = 999;
+            uint8_t *wider = malloc(length);
+            done = find(answers, size, wider, length, &again, &fault);
+            expect((done == COMPOSECHECK_DONE || done == COMPOSECHECK_WANTED) && again == length && fault.part == 77, "the room that is needed");
+            free(wider);
+        }
+        free(answers);
+        free(target);
+    }
+    printf("searches: %d done, %d refused, %d too small, %d wanted\n", counts[0], counts[1], counts[2], counts[3]);
+    expect(counts[0] > 0 && counts[1] > 0 && counts[2] > 0 && counts[3] > 0, "searches of each kind");
+}
+
+static bool written(const char *path, const char *text)
+{
+    FILE *file = fopen(path, "wb");
+    if (!file)
+        return false;
+    fputs(text, file);
+    return fclose(file) == 0;
+}
+
+/* Files that are read by stdio: the first argument is a folder that may be written to. */
+static void files(const char *folder)
+{
+    char root[256], other[256], text[256];
+    struct composecheck_fault fault;
+    struct composecheck_places places = { folder, NULL, NULL, NULL };
+    expect(!composecheck_table_from_file(folder, NULL, true, &fault, NULL, 0) && fault.part == COMPOSECHECK_SEARCH && fault.code == 2, "a folder is no file");
+    snprintf(root, sizeof root, "%s/root", folder);
+    snprintf(other, sizeof other, "%s/other", folder);
+    expect(!composecheck_table_from_file(root, NULL, true, &fault, text, sizeof text) && fault.code == 2 && strstr(text, "/root: the file isn't there"), "no root");
+    expect(written(root, "include \"%S/other\"\n<b> : \"y\"\n"), "a file that is written");
+    expect(!composecheck_table_from_file(root, &places, true, &fault, text, sizeof text) && fault.code == 3 && strstr(text, "/root:1:9: "), "no file of an include");
+    expect(written(other, ""), "a file that is written");
+    struct composecheck_table *table = composecheck_table_from_file(root, &places, true, &fault, text, sizeof text);
+    expect(table && fault.part == 0 && composecheck_table_is_table(table) == 1, "a table with an empty include");
+    composecheck_table_free(table);
+    expect(written(other, "<a> : \"x\"\n <nosuch> : \"x\"\n"), "a file that is written");
+    expect(!composecheck_table_from_file(root, &places, true, &fault, text, sizeof text) && fault.part == COMPOSECHECK_SOURCE && fault.source == 1
+           && strcmp(text, "%S/other:2:2: no keysym has the name \"nosuch\"") == 0, "a fault of an include");
+    expect(!composecheck_table_from_file(root, &places, true, &fault, text, 9) && strcmp(text, "%S/other") == 0, "a line that is cut");
+    expect(written(other, "include \"root\"\n"), "a file that is written");
+    expect(!composecheck_table_from_file(root, &places, true, &fault, text, sizeof text) && fault.part == COMPOSECHECK_SOURCE && fault.code == 7, "a circle");
+    remove(root);
+    remove(other);
+}
+
+int main(int count, char **arguments)
 {
     struct composecheck_source source = { "root", table_text, sizeof table_text - 1 };
     struct composecheck_input input = { .sources = &source, .source_count = 1, .longest = true };
@@ -175,6 +245,9 @@ int main(void)
     arrays(table);
     rooms(&input);
     lines();
+    searches();
+    if (count > 1)
+        files(arguments[1]);
     composecheck_table_free(table);
     return failed ? 1 : 0;
 }

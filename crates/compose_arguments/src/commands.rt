@@ -621,6 +621,12 @@ static SERVE: CommandRow = CommandRow {
             help: "End a connection that neither sends nor takes anything for so many seconds",
         },
         OptionRow {
+            name: "own-sessions",
+            letter: None,
+            takes: Takes::Nothing,
+            help: "Close each session when the connection on which it was opened ends",
+        },
+        OptionRow {
             name: "mode",
             letter: None,
             takes: Takes::OneOf {

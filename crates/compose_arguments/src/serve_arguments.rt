@@ -39,6 +39,8 @@ pub struct ServeArguments<'a> {
     /// The number of seconds for which a connection may be idle, at least 1; if it is not given,
     /// there is no limit.
     pub idle: Option<u32>,
+    /// Whether a session is closed when the connection on which it was opened ends.
+    pub own_sessions: bool,
     /// The mode of the socket's file.
     pub mode: u32,
     /// Whether a socket on which nobody listens is replaced.
@@ -57,6 +59,7 @@ pub fn serve_arguments<'a>(given: &ArgMatches<'a>) -> Option<ServeArguments<'a>>
         at_once: given.get_one::<u16>("at-once"),
         unsent: given.get_one::<u32>("unsent")?,
         idle: given.get_one::<u32>("idle"),
+        own_sessions: given.get_flag("own-sessions"),
         mode: mode_of(given.get_str("mode")?),
         replace: given.get_flag("replace"),
         unlink: given.get_flag("unlink"),

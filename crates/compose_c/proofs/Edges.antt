@@ -1,4 +1,4 @@
--- Behind keysyms that are no node nothing follows.
+-- No keysym follows keysyms that are not a node.
 use Rattle.std.proofs.Common.{◌≡◌, ℕ, List, [], ◌∷◌, ◌++◌, Bool, true, false, cond, filter, refl, Some, None}
 use Rattle.compose_model.specs.Table.{Definition, is_sequence}
 use Rattle.compose_model.specs.Nodes.{edges, has_edge, keysyms, is_node, number_of}

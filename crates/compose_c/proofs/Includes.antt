@@ -1,4 +1,4 @@
--- A line that says something else includes nothing.
+-- A line that is anything else is not an include.
 use Rattle.std.proofs.Common.{◌≡◌, ℕ, List, Option, Err}
 use Rattle.compose_lex.specs.Line.{IsLine, blank, include, production}
 use Rattle.compose_lex.specs.Fault.{reading_of}

@@ -1,3 +1,6 @@
 pub mod Loads
 pub mod Includes
 pub mod Edges
+pub mod NewPaths
+pub mod AnswerLists
+pub mod Searched

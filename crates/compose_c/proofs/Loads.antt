@@ -1,4 +1,4 @@
--- A certificate that misses, with the names and the bundle that were read.
+-- The failed check of a certificate, with the names and the bundle that were read.
 use Rattle.std.proofs.Common.{◌≡◌, ℕ, List, Ok}
 use Rattle.keysym_core.specs.Names.{KeysymNames}
 use Rattle.keysym_core.specs.Header.{names_of}

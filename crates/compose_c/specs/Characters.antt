@@ -1,4 +1,5 @@
--- The characters of keysyms by the names of a header (xkb_keysym_to_utf32), which a key commits that is part of no sequence.
+-- The characters of keysyms, by the names of a header (xkb_keysym_to_utf32): a key that is part of no sequence
+-- commits its character.
 use Rattle.std.specs.Prelude.{◌≡◌, ℕ, if◌then◌else◌, List, map, Ok, Err, unwrap_or}
 use Rattle.keysym_core.specs.Keysym.{is_keysym}
 use Rattle.keysym_core.specs.Names.{KeysymNames, character_of}
@@ -7,17 +8,17 @@ use Rattle.keysym_core.specs.declared.fault.NameFault.{NameFault}
 use Rattle.compose_c.specs.Faults.{of_names}
 use Rattle.compose_c.specs.declared.fault.Fault.{Fault}
 
--- the character of the keysym k; 0 where it has none, or k is no keysym
+-- the character of the keysym k; 0 if it has none, or if k is not a keysym
 abbrev pub character_number : KeysymNames → ℕ → ℕ
 character_number names k = if is_keysym k then unwrap_or (character_of names k) 0 else 0
 
--- by the names of the header these are the characters of these keysyms
+-- by the names of the header, these are the characters of these keysyms
 pub record AreCharacters (header keysyms characters : List ℕ) : Type 0 where
   pub names : KeysymNames
   pub named : names_of header ≡ Ok names
   pub are : characters ≡ map (character_number names) keysyms
 
--- the numbers say why the header is refused
+-- this fault reports to C why the header is refused
 pub record TellsNames (header : List ℕ) (said : Fault) : Type 0 where
   pub fault : NameFault
   pub refused : NamesGives (Err fault) (names_of header)

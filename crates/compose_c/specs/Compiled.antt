@@ -1,4 +1,4 @@
--- What a compiled table is: the arrays of the table that the sources give.
+-- Compiled tables: the table that the sources define.
 use Rattle.std.specs.Prelude.{◌≡◌, ◌≤◌, ℕ, Bool, true, false, List, Ok}
 use Rattle.keysym_core.specs.Names.{KeysymNames}
 use Rattle.keysym_core.specs.Header.{names_of}
@@ -14,7 +14,7 @@ abbrev pub rule_of : Bool → Rule
 rule_of true = Longest
 rule_of false = Refuse
 
--- the table of the first source of this bundle, by the rule, with the names of this header
+-- the table that the first source of this bundle defines under the rule, with the names of this header
 pub record IsRead (header bundle : List ℕ) (rule : Rule) (table : List Definition) : Type 0 where
   pub names : KeysymNames
   pub sources : Bundle
@@ -31,7 +31,7 @@ pub record IsReadWithResults (header bundle : List ℕ) (rule : Rule) (table : L
   pub is : first_table names sources.sources rule ≡ Ok table
   pub are : AreFirstResults names sources.sources table results
 
--- arrays of these lengths have room for a table of these sizes
+-- a table of these sizes fits into arrays of these lengths
 pub record Fits (s : Sizes) (nodes edges offsets texts hints : ℕ) : Type 0 where
   pub all_nodes : s.nodes ≤ nodes
   pub all_edges : s.edges ≤ edges

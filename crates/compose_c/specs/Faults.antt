@@ -1,4 +1,4 @@
--- Why a call refuses what it is given, and the numbers that tell it in C.
+-- Why a call refuses its arguments, and the numbers that report it to C.
 use Rattle.std.specs.Prelude.{◌≡◌, ℕ, List, [], ◌∷◌, Ok, Err}
 use Rattle.std.specs.Option.{option_map_or}
 use Rattle.keysym_core.specs.Names.{KeysymNames}
@@ -30,7 +30,7 @@ use Rattle.compose_c.specs.declared.fault.Fault.{Fault}
 use Rattle.compose_c.specs.declared.fault.Refusal.{Refusal}
 use Rattle.compose_c.specs.declared.fault.Refusal.TheVariants.{Names, Bundled, Table, Repertoire, Certificate, Unmet}
 
--- ---- numbers
+-- ---- the numbers
 
 abbrev pub of_part : ℕ → ℕ → Fault
 of_part part code = record { part = part; code = code; lexical = 0; value = 0; source = 0; line = 0; column = 0; at = 0; reserved = 0 ∷ 0 ∷ [] }
@@ -129,7 +129,7 @@ of_check condition.FreshNotRising = of_part 9 13
 of_check (condition.FreshIgnored keysym) = of_condition 14 0 keysym
 of_check (condition.FreshUsed keysym) = of_condition 15 0 keysym
 
--- the column in which a fault of these sources stands; 0 where it stands in no line
+-- the column of a fault of these sources; 0 if the fault is not on a line
 abbrev pub column_of : List Source → TableFault → ℕ
 column_of sources (table.Read fault) = option_map_or (λ p. p.1.column) (position_of sources fault) 0
 column_of sources fault = 0
@@ -144,7 +144,7 @@ fault_of (Unmet fault) = of_check fault
 
 -- ---- what is refused
 
--- the names are read and the bundle is one, but its first source gives no table, for this fault in this column
+-- the names are read and the payload is a bundle, but its first source defines no table: this fault is in this column
 pub record GivesNoTable (header payload : List ℕ) (rule : Rule) (fault : TableFault) (column : ℕ) : Type 0 where
   pub names : KeysymNames
   pub sources : Bundle
@@ -161,6 +161,6 @@ IsRefused header payload rule (Repertoire fault) = ⊥
 IsRefused header payload rule (Certificate fault) = ⊥
 IsRefused header payload rule (Unmet fault) = ⊥
 
--- the numbers tell why the sources are refused
+-- this fault reports to C why the sources are refused
 abbrev pub Tells : List ℕ → List ℕ → Rule → Fault → Type 0
 Tells header payload rule told = (r : Refusal) × IsRefused header payload rule r × (told ≡ fault_of r)

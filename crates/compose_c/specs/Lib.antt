@@ -7,3 +7,5 @@ pub mod Loads
 pub mod Arrays
 pub mod Results
 pub mod Characters
+pub mod Answers
+pub mod Finds

@@ -22,9 +22,9 @@ use Rattle.compose_c.specs.declared.fault.Fault.{Fault}
 use Rattle.compose_c.specs.declared.fault.Refusal.{Refusal}
 use Rattle.compose_c.specs.declared.fault.Refusal.TheVariants.{Names, Bundled, Table, Repertoire as OfRepertoire, Certificate as OfCertificate, Unmet}
 
--- ---- with these names
+-- ---- with names that are read
 
--- the certificate is valid, so typing goes on as it promises
+-- the certificate is valid, so typing with the new table is what the certificate promises
 pub record Meets (names : KeysymNames) (old new : List Definition) (repertoire certificate : List ℕ) : Type 0 where
   pub needed : Repertoire
   pub given : Certificate
@@ -35,7 +35,7 @@ pub record Meets (names : KeysymNames) (old new : List Definition) (repertoire c
   pub waits : Waits new given.bound
   pub types : TypesAll names new needed given.typings
 
--- both are read, and this is the first condition that the certificate does not meet
+-- the repertoire and the certificate are read, and this is the first condition that the certificate does not meet
 pub record IsUnmet (names : KeysymNames) (old new : List Definition) (repertoire certificate : List ℕ) (fault : CheckFault) : Type 0 where
   pub needed : Repertoire
   pub given : Certificate
@@ -58,7 +58,7 @@ pub record IsCertified (header : List ℕ) (old new : List Definition) (repertoi
   pub named : names_of header ≡ Ok names
   pub meets : Meets names old new repertoire certificate
 
--- the names are read, and with them the certificate misses
+-- the names are read, and the check with them fails for this reason
 pub record MissesNamed (header : List ℕ) (old new : List Definition) (repertoire certificate : List ℕ) (refusal : Refusal) : Type 0 where
   pub names : KeysymNames
   pub named : names_of header ≡ Ok names
@@ -72,13 +72,14 @@ IsUncertified header old new repertoire certificate (OfRepertoire fault) = Misse
 IsUncertified header old new repertoire certificate (OfCertificate fault) = MissesNamed header old new repertoire certificate (OfCertificate fault)
 IsUncertified header old new repertoire certificate (Unmet fault) = MissesNamed header old new repertoire certificate (Unmet fault)
 
--- the numbers tell why the certificate is not valid
+-- this fault reports to C why the certificate is not valid
 abbrev pub TellsUncertified : List ℕ → List Definition → List Definition → List ℕ → List ℕ → Fault → Type 0
 TellsUncertified header old new repertoire certificate told = (r : Refusal) × IsUncertified header old new repertoire certificate r × (told ≡ faults.fault_of r)
 
 -- ---- loads
 
--- the table is that of the bundle's first source, and the bundle's certificate is valid for a move to it from the old one
+-- the table is the one that the bundle's first source defines, and the bundle's certificate is valid for a move to it
+-- from the old table
 pub record IsLoaded (header : List ℕ) (old : List Definition) (repertoire bundle : List ℕ) (rule : Rule) (new : List Definition) : Type 0 where
   pub names : KeysymNames
   pub sources : Bundle
@@ -87,7 +88,7 @@ pub record IsLoaded (header : List ℕ) (old : List Definition) (repertoire bund
   pub is : first_table names sources.sources rule ≡ Ok new
   pub meets : Meets names old new repertoire sources.certificate
 
--- the table is read, but the bundle's certificate misses
+-- the table is read, but the check of the bundle's certificate fails for this reason
 pub record MissesRead (header : List ℕ) (old : List Definition) (repertoire bundle : List ℕ) (rule : Rule) (refusal : Refusal) : Type 0 where
   pub names : KeysymNames
   pub sources : Bundle
@@ -105,6 +106,6 @@ IsNotLoaded header old repertoire bundle rule (OfRepertoire fault) = MissesRead 
 IsNotLoaded header old repertoire bundle rule (OfCertificate fault) = MissesRead header old repertoire bundle rule (OfCertificate fault)
 IsNotLoaded header old repertoire bundle rule (Unmet fault) = MissesRead header old repertoire bundle rule (Unmet fault)
 
--- the numbers tell why nothing is loaded
+-- this fault reports to C why no table is loaded
 abbrev pub TellsNotLoaded : List ℕ → List Definition → List ℕ → List ℕ → Rule → Fault → Type 0
 TellsNotLoaded header old repertoire bundle rule told = (r : Refusal) × IsNotLoaded header old repertoire bundle rule r × (told ≡ faults.fault_of r)

@@ -1,4 +1,4 @@
--- The sentence that says why sources give no table.
+-- The message why sources define no table.
 use Rattle.std.specs.Prelude.{◌≡◌, ◌⊎◌, ℕ, List, [], Ok, Err, codes}
 use Rattle.keysym_core.specs.Names.{KeysymNames}
 use Rattle.keysym_core.specs.Header.{names_of, NamesGives}
@@ -33,19 +33,19 @@ table_said names sources (table.Build building.TooManyNodes) = codes "the sequen
 table_said names sources (table.Build building.NoMemory) = codes "out of memory"
 table_said names sources table.NoMemory = codes "out of memory"
 
--- the names are refused, for this fault
+-- the names are refused for this fault
 pub record OfNames (header : List ℕ) (text : List ℕ) : Type 0 where
   pub fault : NameFault
   pub is : NamesGives (Err fault) (names_of header)
   pub said : text ≡ name_said fault
 
--- the bytes are no bundle, for this fault
+-- the payload is refused as a bundle for this fault
 pub record OfBundle (payload : List ℕ) (text : List ℕ) : Type 0 where
   pub fault : BundleFault
   pub is : NotRead fault payload
   pub said : text ≡ bundle_said fault
 
--- the names are read and the bundle is one, but its first source gives no table, for this fault
+-- the names are read and the payload is a bundle, but its first source defines no table, for this fault
 pub record OfTable (header payload : List ℕ) (rule : Rule) (text : List ℕ) : Type 0 where
   pub names : KeysymNames
   pub sources : Bundle
@@ -55,12 +55,12 @@ pub record OfTable (header payload : List ℕ) (rule : Rule) (text : List ℕ) :
   pub is : TableGives (λ (t : List Definition). t) (Err fault) (first_table names sources.sources rule)
   pub said : text ≡ table_said names sources.sources fault
 
--- a table is read, and there is nothing to say
+-- a table is read, and the message is empty
 pub record OfNothing (header payload : List ℕ) (rule : Rule) (text : List ℕ) : Type 0 where
   pub table : List Definition
   pub is : IsRead header payload rule table
   pub said : text ≡ []
 
--- the text says why the sources give no table, or nothing where they give one
+-- the text is the message why the sources define no table; it is empty if they define one
 abbrev pub IsSentence : List ℕ → List ℕ → Rule → List ℕ → Type 0
 IsSentence header payload rule text = OfNothing header payload rule text ⊎ (OfNames header text ⊎ (OfBundle payload text ⊎ OfTable header payload rule text))

@@ -7,7 +7,7 @@ use crate::fault::{Fault, of_names};
 use keysym_core::{Keysym, Names};
 use std::alloc::Global;
 
-/// As `composecheck_characters`.
+/// Does the work of `composecheck_characters`.
 pub fn characters(
     alloc: Global,
     header: &[u8],
@@ -37,7 +37,7 @@ pub fn characters(
     }
 }
 
-/// Puts the characters of the keysyms at the front. O(keysyms).
+/// Puts the characters of the keysyms at the front of the target. O(keysyms).
 fn put_characters(names: &Names, keysyms: &[u32], target: &mut [u32])
     requires { length keysyms.now ≤ length target.old }
     ensures { take (length keysyms.now) target.new
@@ -48,7 +48,8 @@ fn put_characters(names: &Names, keysyms: &[u32], target: &mut [u32])
     }
 }
 
-/// The character of the keysym of this number; 0 where it has none, or there is no such keysym.
+/// Returns the code point of the character of the keysym with this number; 0 if it has none, or if
+/// the number is not a keysym.
 fn character_number(names: &Names, number: u32) -> u32
     ensures { result ≡ words.character_number names.now number }
 {
@@ -58,7 +59,7 @@ fn character_number(names: &Names, number: u32) -> u32
     }
 }
 
-/// The number of the character, or 0 for none.
+/// Returns the code point of the character, or 0 for none.
 fn number_of(character: Option<char>) -> u32
     ensures { result ≡ unwrap_or character 0 }
 {

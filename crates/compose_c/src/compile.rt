@@ -1,4 +1,4 @@
-//! A table is read, and its arrays are put into the caller's memory.
+//! Compiling: a table is read, and its arrays are put into the caller's memory.
 ghost use Rattle.std.specs.Prelude.{◌≡◌, ◌≢◌, ◌≤◌, true, false, length, take, MatchResult};
 ghost use Rattle.compose_tree.specs.Packed.{IsPacked, unpacked};
 ghost use Rattle.compose_c.specs.Compiled.{IsRead, Fits, rule_of};
@@ -12,25 +12,32 @@ use compose_tree::{LentArrays, PackedEdge, PackedNode, PackedTable, read_first_t
 use keysym_core::Names;
 use std::alloc::Global;
 
-/// How many entries the arrays of a table have. What is reserved is 0.
+/// The numbers of entries in the arrays of a table.
 #[repr(C)]
 #[derive(Clone, Copy)]
 pub struct Sizes {
+    /// The length of `nodes`: an entry for each node, and one for the end of the edges.
     pub nodes: usize,
+    /// The length of `edges`: an entry for each edge.
     pub edges: usize,
+    /// The length of `offsets`: an entry for each text, and one for the end of the texts.
     pub offsets: usize,
+    /// The length of `texts`, in bytes.
     pub texts: usize,
+    /// The length of `hints`, in bytes.
     pub hints: usize,
+    /// Reserved; always 0.
     pub reserved: [usize; 3],
 }
 
+/// Returns the rule for sequences that are prefixes of others. O(1).
 pub fn rule(longest: bool) -> Rule
     ensures { result ≡ rule_of longest }
 {
     if longest { Rule::Longest } else { Rule::Refuse }
 }
 
-/// The table of the bundle's first source.
+/// Returns the table that the bundle's first source defines, or why there is none.
 fn read(alloc: Global, header: &[u8], bundle: &[u8], longest: bool) -> Result<PackedTable, Refusal>
     ensures { MatchResult result (λ table. IsRead header.now bundle.now (rule_of longest) table)
         (λ refusal. IsRefused header.now bundle.now (rule_of longest) refusal) }
@@ -46,7 +53,7 @@ fn read(alloc: Global, header: &[u8], bundle: &[u8], longest: bool) -> Result<Pa
     }
 }
 
-/// How many entries the arrays have. O(1).
+/// Returns the number of entries in each array. O(1).
 fn sizes_of(arrays: &LentArrays<'_>) -> Sizes
     ensures nodes { result.nodes ≡ length arrays.now.nodes.now }
     ensures edges { result.edges ≡ length arrays.now.edges.now }
@@ -64,7 +71,8 @@ fn sizes_of(arrays: &LentArrays<'_>) -> Sizes
     }
 }
 
-/// Puts the arrays of the table into the caller's, and says how many entries count; or says that they don't fit, and changes nothing else.
+/// Puts the arrays of the table into the caller's, and the number of entries of each into `sizes`.
+/// Returns false if they don't fit; then only `sizes` is changed.
 pub fn put_table(
     table: &PackedTable,
     nodes: &mut [PackedNode],
@@ -103,7 +111,7 @@ pub fn put_table(
     true
 }
 
-/// As `composecheck_compile`.
+/// Does the work of `composecheck_compile`.
 pub fn compile(
     alloc: Global,
     header: &[u8],

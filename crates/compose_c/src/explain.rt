@@ -1,4 +1,4 @@
-//! The sentence that says why sources give no table.
+//! The message why sources define no table.
 ghost use Rattle.std.specs.Prelude.{◌≡◌, IfOk, string_bytes};
 ghost use Rattle.compose_c.specs.Compiled.{rule_of};
 ghost use Rattle.compose_c.specs.Sentences as words;
@@ -13,7 +13,7 @@ use keysym_core::Names;
 use std::alloc::{AllocError, Global};
 use std::fmt::Write;
 
-/// Why a bundle is none.
+/// Returns the message why a bundle can't be read.
 fn bundle_words(fault: &BundleFault) -> &'static str
     ensures { result.now ≡ words.bundle_said fault.now }
 {
@@ -24,7 +24,7 @@ fn bundle_words(fault: &BundleFault) -> &'static str
     }
 }
 
-/// Why the sources give no table.
+/// Returns the message why the sources define no table.
 fn table_text(
     alloc: Global,
     names: &Names,
@@ -51,7 +51,10 @@ fn table_text(
     }
 }
 
-/// The sentence that says why the first source of the bundle gives no table, or nothing where it gives one.
+/// Returns the message why the first source of the bundle defines no table; it is empty if the
+/// source defines one. Takes as long as compiling.
+///
+/// `Err` if there is no memory for the message.
 pub fn sentence(
     alloc: Global,
     header: &[u8],

@@ -1,4 +1,4 @@
-//! Why a call refuses what it is given, as numbers for C.
+//! Why a call refuses its arguments, as numbers for C.
 ghost use Rattle.std.specs.Prelude.{◌≡◌};
 ghost use Rattle.compose_c.specs.Faults as words;
 
@@ -11,33 +11,49 @@ use compose_read::{ReadFault, Sources};
 use compose_tree::TableFault;
 use keysym_core::{Keysym, NameFault};
 
-/// Why a call refuses what it is given. `part` is 1 for the names, 2 for the bundle, 3 for a source, 4 for two sequences of which one is a
-/// prefix of the other, 5 for too many nodes, 6 for memory, 7 for the repertoire, 8 for the certificate's text, 9 for a condition that the
-/// certificate does not meet; `code` is the number of the fault there, and `lexical` that of a faulty line. `source` is the index of a
-/// source; `line` and `column`, in characters, count from 1; `at` is the offset in the line's bytes of a lexical fault, or the index of an
-/// event, a pair or a node; `value` the keysym or the character of a condition. What a fault doesn't have is 0, and so is what is reserved.
+/// Why a call refuses its arguments, in numbers. `docs/LIBRARY.md` lists the codes of each part. A
+/// number that a fault does not have is 0.
 #[repr(C)]
 #[derive(Clone, Copy)]
 pub struct Fault {
+    /// The part that is refused: 1 the names, 2 the bundle, 3 a source, 4 two sequences, one of
+    /// which is a prefix of the other, 5 too many nodes, 6 memory, 7 the repertoire, 8 the text of
+    /// the certificate, 9 a condition that the certificate doesn't meet, 10 the search for files.
     pub part: u32,
+    /// The number of the fault in its part.
     pub code: u32,
+    /// The number of the lexical fault on a line.
     pub lexical: u32,
+    /// The keysym, or the code point of the character, of a condition.
     pub value: u32,
+    /// The index of the source, or of the answer in a search, counted from 0.
     pub source: u64,
+    /// The number of the line, counted from 1.
     pub line: u64,
+    /// The column in the line, in characters from 1.
     pub column: u64,
+    /// The offset of a lexical fault in its line, in bytes, or the index of a key in its sequence,
+    /// or of a pair or a node, counted from 0.
     pub at: u64,
+    /// Reserved; always 0.
     pub reserved: [u64; 2],
 }
 
-/// Why a call refuses what it is given. Of a table the column of its fault, in characters.
+/// Why a call refuses its arguments.
 #[derive(Drop)]
 pub enum Refusal {
+    /// The header of keysym names is refused.
     Names(NameFault),
+    /// The bundle is refused.
     Bundled(BundleFault),
+    /// The sources define no table. The second field is the column of the fault, in characters
+    /// from 1, or 0 if the fault is not on a line.
     Table(TableFault, usize),
+    /// The repertoire is refused.
     Repertoire(RepertoireFault),
+    /// The text of the certificate is refused.
     Certificate(CertFault),
+    /// The certificate doesn't meet a condition.
     Unmet(CheckFault),
 }
 
@@ -85,7 +101,8 @@ impl From<CertFault> for Refusal {
     }
 }
 
-fn of_part(part: u32, code: u32) -> Fault
+/// Returns a fault with this part and this code alone. O(1).
+pub fn of_part(part: u32, code: u32) -> Fault
     ensures { result ≡ words.of_part part code }
 {
     Fault {
@@ -128,7 +145,7 @@ fn of_condition(code: u32, at: usize, value: u32) -> Fault
     fault
 }
 
-/// The numbers of a fault of a header.
+/// Returns the fault of a header. O(1).
 pub fn of_names(fault: &NameFault) -> Fault
     ensures { result ≡ words.of_names fault.now }
 {
@@ -152,8 +169,8 @@ fn of_bundle(fault: &BundleFault) -> Fault
     }
 }
 
-/// The number of a lexical fault, and its place.
-fn of_lexical(fault: &LexFault) -> (u32, usize)
+/// Returns the number of a lexical fault, and its offset in bytes, 0 if it has none. O(1).
+pub fn of_lexical(fault: &LexFault) -> (u32, usize)
     ensures number { result.0 ≡ words.lexical_number fault.now }
     ensures place { result.1 ≡ words.lexical_place fault.now }
 {
@@ -266,7 +283,8 @@ fn of_check(fault: &CheckFault) -> Fault
     }
 }
 
-/// The column in which the fault of these sources stands, in characters from 1; 0 where it stands in no line.
+/// Returns the column of the fault of these sources, in characters from 1; 0 if the fault is not on
+/// a line.
 pub fn column_of(sources: &Sources, fault: &TableFault) -> usize
     ensures { result ≡ words.column_of sources.now fault.now }
 {
@@ -279,7 +297,7 @@ pub fn column_of(sources: &Sources, fault: &TableFault) -> usize
     }
 }
 
-/// The refusal as numbers.
+/// Returns the refusal as numbers. O(1).
 pub fn fault_of(refusal: &Refusal) -> Fault
     ensures { result ≡ words.fault_of refusal.now }
 {

@@ -1,5 +1,5 @@
-//! One key fed to a state where it lies in C's memory: as `ComposeState::feed_alone` does, without a
-//! copy of the state.
+//! Feeds one key to a state in C's memory, as `ComposeState::feed_alone` does, without a copy of
+//! the state.
 ghost use Rattle.std.specs.Prelude.{◌≡◌, ◌≤◌, ◌<◌, true, length, take, get_or, [], ◌∷◌, ◌++◌, Some, option_map, IsTrue, IsFalse, if◌then◌else◌};
 ghost use Rattle.std.specs.List.{list_all};
 ghost use Rattle.keysym_core.specs.Keysym.{is_keysym, is_ignored};
@@ -21,8 +21,8 @@ use compose_state::{Fed, FedText};
 use compose_tree::{ComposeTable, NodeId, Target};
 use keysym_core::Keysym;
 
-/// The node behind the keysym, if a sequence goes on there. Looks at this index among the node's
-/// edges first.
+/// Returns the node after the keysym, if the keysym leads to a node. The edge with the index `hint`
+/// is tried first.
 #[inline(always)]
 fn child_at<T: ComposeTable>(table: &T, node: NodeId, keysym: Keysym, hint: u32) -> Option<NodeId>
     requires { node.0 < length (nodes (T.definitions table.now)) }
@@ -42,7 +42,7 @@ fn child_at<T: ComposeTable>(table: &T, node: NodeId, keysym: Keysym, hint: u32)
     child(table, node, keysym)
 }
 
-/// The keysym at this index. O(1).
+/// Returns the keysym at this index. O(1).
 #[inline(always)]
 fn keysym_at(numbers: &[u32], index: usize) -> Keysym
     requires in_range { index < length numbers.now }
@@ -55,7 +55,7 @@ fn keysym_at(numbers: &[u32], index: usize) -> Keysym
     }
 }
 
-/// The node of the keysyms with these numbers, if they are a node of the table.
+/// Returns the node of the keysyms with these numbers, if they are a node of the table.
 #[inline(always)]
 fn node_of<T: ComposeTable>(table: &T, numbers: &[u32], hints: &[u32; 31]) -> Option<NodeId>
     requires few { length numbers.now ≤ 31 }
@@ -70,8 +70,8 @@ fn node_of<T: ComposeTable>(table: &T, numbers: &[u32], hints: &[u32; 31]) -> Op
     Some(node)
 }
 
-/// The index of the keysym's edge and where it leads behind the pending ones, if they are a node of the
-/// table and it has such an edge.
+/// Returns the index and the target of the keysym's edge after the pending keysyms, if they are a
+/// node of the table and it has such an edge.
 #[inline(always)]
 fn target<T: ComposeTable>(
     table: &T,
@@ -88,7 +88,7 @@ fn target<T: ComposeTable>(
     ensures leaf { (edge_index : _) → (leaf : _) → result ≡ Some (edge_index, Target.Leaf leaf)
         → leaf.0 < length (leaves (T.definitions table.now)) }
 {
-    // every table is settled, which its count of nodes tells
+    // called for its contract, which says that the table is settled
     let _nodes = table.node_count();
     let node = node_of(table, numbers, hints)?;
     let edge_index = table.find(node, keysym)?;
@@ -96,8 +96,9 @@ fn target<T: ComposeTable>(
     Some((edge_index, target))
 }
 
-/// Feeds one key, and knows no names. Takes no memory; O(pending keysyms + log edges of a node) where
-/// the pending keysyms were fed with this table, and else O(pending keysyms × log edges of a node).
+/// Feeds one key, without keysym names. Allocates nothing; O(pending keysyms + log edges of a node)
+/// if the pending keysyms were fed with this table, otherwise O(pending keysyms × log edges of a
+/// node).
 #[inline(always)]
 pub fn feed<'t, T: ComposeTable>(state: &mut State, table: &'t T, keysym: Keysym) -> Fed<'t>
     ensures state { session_of state.new
@@ -120,7 +121,8 @@ pub fn feed<'t, T: ComposeTable>(state: &mut State, table: &'t T, keysym: Keysym
     }
 }
 
-/// Feeds a key that leads to this target behind what is pending, by the edge at this index.
+/// Feeds a key that leads to this target from the pending keysyms, by the edge with the index
+/// `hint`.
 #[inline(always)]
 fn follow<'t, T: ComposeTable>(
     state: &mut State,
@@ -161,7 +163,7 @@ fn follow<'t, T: ComposeTable>(
     }
 }
 
-/// Adds a keysym to the pending ones, which are so many, and its hint.
+/// Adds a keysym and its hint to the pending ones; `count` is their number.
 #[inline(always)]
 fn extend(state: &mut State, count: usize, keysym: Keysym, hint: u32)
     requires pending { take count state.old.pending ≡ (session_of state.old).pending }
@@ -175,7 +177,7 @@ fn extend(state: &mut State, count: usize, keysym: Keysym, hint: u32)
     state.status = number_of(Status::Composing);
 }
 
-/// Leaves nothing pending, with this status.
+/// Clears the pending keysyms, and sets this status.
 #[inline(always)]
 fn finish(state: &mut State, status: Status)
     ensures { session_of state.new ≡ record { pending = []; status = status } }
@@ -184,7 +186,7 @@ fn finish(state: &mut State, status: Status)
     state.status = number_of(status);
 }
 
-/// Takes a key that no sequence has behind what is pending, which is so many keysyms.
+/// Feeds a key that continues no sequence from the pending keysyms; `count` is their number.
 #[inline(always)]
 fn break_off(state: &mut State, count: usize) -> Fed<'static>
     requires { length (session_of state.old).pending ≡ count }

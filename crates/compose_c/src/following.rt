@@ -1,4 +1,4 @@
-//! What may follow the pending keysyms of a state.
+//! The keysyms that may follow the pending ones of a state.
 ghost use Rattle.std.specs.Prelude.{◌≡◌, ◌≤◌, ◌<◌, ◌++◌, ◌∷◌, [], length, MatchOption, slice_get, Some};
 ghost use Rattle.compose_model.specs.Nodes as words;
 ghost use Rattle.compose_model.specs.Nodes.{nodes, edges};
@@ -7,7 +7,7 @@ ghost use Rattle.compose_state.specs.NodeIds.{node_id};
 use compose_tree::{ComposeTable, NodeId, Target};
 use keysym_core::Keysym;
 
-/// The node behind the keysym, if a sequence goes on there. O(log edges of the node).
+/// Returns the node after the keysym, if the keysym leads to a node. O(log edges of the node).
 pub fn child<T: ComposeTable>(table: &T, node: NodeId, keysym: Keysym) -> Option<NodeId>
     requires { node.0 < length (nodes (T.definitions table.now)) }
     ensures { result
@@ -20,7 +20,8 @@ pub fn child<T: ComposeTable>(table: &T, node: NodeId, keysym: Keysym) -> Option
     }
 }
 
-/// The node of these keysyms, if they are a node of the table.
+/// Returns the node of these keysyms, if they are a node of the table. O(keysyms × log edges of a
+/// node).
 pub fn node_of<T: ComposeTable>(table: &T, keysyms: &[Keysym]) -> Option<NodeId>
     ensures { result ≡ node_id (T.definitions table.now) keysyms.now }
 {
@@ -31,7 +32,7 @@ pub fn node_of<T: ComposeTable>(table: &T, keysyms: &[Keysym]) -> Option<NodeId>
     Some(node)
 }
 
-/// The keysym at this index among the edges of the node.
+/// Returns the keysym of the edge at this index of the node, if there is one.
 fn key_at<T: ComposeTable>(table: &T, node: NodeId, index: u32) -> Option<Keysym>
     requires { node.0 < length (nodes (T.definitions table.now)) }
     ensures { MatchOption result
@@ -48,7 +49,9 @@ fn key_at<T: ComposeTable>(table: &T, node: NodeId, index: u32) -> Option<Keysym
     Some(keysym)
 }
 
-/// The keysym at this index among those that may follow the pending ones, in rising order. O(pending keysyms × log edges of a node).
+/// Returns the keysym at this index, counted from 0, among the keysyms that may follow the pending
+/// ones, in increasing order; `None` if there are no more. O(pending keysyms × log edges of a
+/// node).
 pub fn following<T: ComposeTable>(table: &T, pending: &[Keysym], index: u32) -> Option<Keysym>
     ensures { MatchOption result (length (edges (T.definitions table.now) pending.now) ≤ index)
         (λ keysym. slice_get (edges (T.definitions table.now) pending.now) index ≡ Some keysym) }

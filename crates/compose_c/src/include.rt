@@ -1,11 +1,11 @@
-//! The includes of a source.
+//! Include lines.
 ghost use Rattle.std.specs.Prelude.{MatchOption};
 ghost use Rattle.compose_c.specs.Includes.{IsInclude, IncludesNone};
 
 use compose_lex::{Line, lex_line};
 use std::str;
 
-/// The name in the quotes of a line, if it is an include.
+/// Returns the raw name of the line, the text between its quotes, if the line is an include.
 fn included(text: &str) -> Option<&str>
     ensures { MatchOption result ((name : _) → IsInclude text.now name → ⊥)
         (λ name. IsInclude text.now name.now) }
@@ -18,7 +18,8 @@ fn included(text: &str) -> Option<&str>
     }
 }
 
-/// The name in the quotes of an include line, if the line is one.
+/// Returns the raw name of the line, the text between its quotes, if the line is UTF-8 and an
+/// include. O(bytes).
 pub fn include(line: &[u8]) -> Option<&str>
     ensures { MatchOption result (IncludesNone line.now) (λ name. IsInclude line.now name.now) }
 {

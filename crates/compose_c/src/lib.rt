@@ -1,12 +1,13 @@
 //! Proved Compose tables and compose states for C: the static library behind `composecheck.h`.
 //!
-//! Nothing is handed out that the library owns. A table is five arrays in the caller's memory, which `composecheck_compile` fills and
-//! which never change after that: any number of threads and states read them at once. A state is a struct of numbers in the caller's
-//! memory, and zeros are a state at rest. So there is no handle, nothing to free, and no lock; the calls that take memory give all of it
-//! back before they return.
+//! The library hands out nothing that it owns. A table is five arrays in the caller's memory, which
+//! `composecheck_compile` fills and which never change after that: any number of threads and states
+//! can read them at the same time. A state is a struct of numbers in the caller's memory, and all
+//! zeros are a state at rest. So there are no handles, nothing to free and no locks; a call that
+//! allocates memory frees all of it before it returns.
 #![tactic(auto)]
 
-ghost use Rattle.std.specs.Prelude.{◌≡◌, ◌≢◌, ◌≤◌, ◌<◌, true, false, take, map, length, slice_get, Some};
+ghost use Rattle.std.specs.Prelude.{◌≡◌, ◌≢◌, ◌≤◌, ◌<◌, true, false, take, map, length, slice_get, Some, None, option_map};
 ghost use Rattle.compose_model.specs.Nodes.{edges as keys_behind};
 ghost use Rattle.compose_model.specs.Step.{effect};
 ghost use Rattle.compose_model.specs.Session.{rest, fed, loaded};
@@ -18,21 +19,26 @@ ghost use Rattle.compose_c.specs.Arrays.{edge_of};
 ghost use Rattle.compose_c.specs.Characters.{AreCharacters, TellsNames};
 ghost use Rattle.compose_c.specs.Compiled.{IsRead, IsReadWithResults, Fits, rule_of};
 ghost use Rattle.compose_c.specs.Faults.{Tells};
+ghost use Rattle.compose_c.specs.Finds.{Finds, Needs, TellsFind, Wants, locale_path, search_of};
 ghost use Rattle.compose_c.specs.Includes.{IsInclude, IncludesNone};
 ghost use Rattle.compose_c.specs.Loads.{IsCertified, TellsUncertified, IsLoaded, TellsNotLoaded};
 ghost use Rattle.compose_c.specs.Results.{result_at};
 ghost use Rattle.compose_c.specs.Sentences.{IsSentence};
 
+mod answers;
 mod characters;
 mod compile;
 mod copies;
 mod explain;
 mod fault;
 mod feeding;
+mod find;
 mod following;
 mod include;
 mod load;
+mod locale;
 mod packed;
+mod pieces;
 mod results;
 mod state;
 
@@ -45,10 +51,12 @@ use copies::put;
 use explain::sentence;
 pub use fault::Fault;
 use feeding::feed;
+use find::find;
 use following::following;
 use include::include;
 use keysym_core::Keysym;
 use load::{check, load};
+use locale::locale_file;
 pub use packed::LooseEdge;
 use packed::is_table;
 use results::{compile_with_results, result_of};
@@ -56,10 +64,13 @@ pub use state::State;
 use state::{keep, number_of, pending_numbers, put_text, session, status_of};
 use std::alloc::Global;
 
-/// Feeds one keysym to the state and puts the text of a sequence that it completes into `text`, its bytes counted by `text_length`.
+/// Feeds one keysym to the state. If it completes a sequence, the text of the sequence is put at
+/// the front of `text`; `text_length` is its number of bytes, 0 without a text.
 ///
-/// 1 where the keysym is accepted and 0 where it is ignored (`enum xkb_compose_feed_result`); 2 where it is above `0x1fffffff` and so
-/// no keysym: nothing has changed then but the length, which is 0. Takes no memory; O(pending keysyms + log edges of a node).
+/// Returns 1 if the keysym is accepted and 0 if it is ignored (`enum xkb_compose_feed_result`), or
+/// 2 if the number is above `0x1fffffff` and so not a keysym: then the state is not changed, and
+/// `text_length` is 0. Allocates nothing; O(pending keysyms + log edges of a node) if the pending
+/// keysyms were fed with this table, otherwise O(pending keysyms × log edges of a node).
 #[unsafe(no_mangle)]
 pub extern "C" fn composecheck_feed(
     nodes: &[PackedNode],
@@ -96,8 +107,8 @@ pub extern "C" fn composecheck_feed(
     u32::from(fed.accepted)
 }
 
-/// Takes the state to another table in the middle of a sequence: what is pending is typed anew there. No text is committed. Takes no
-/// memory.
+/// Moves the state to another table, in the middle of a sequence too: the pending keysyms are typed
+/// anew with that table. No text is committed. Allocates nothing.
 #[unsafe(no_mangle)]
 pub extern "C" fn composecheck_refeed(
     nodes: &[PackedNode],
@@ -118,7 +129,7 @@ pub extern "C" fn composecheck_refeed(
     keep(state, &now);
 }
 
-/// Puts the state at rest. O(1).
+/// Resets the state: nothing is pending, and the status is 0 (nothing). O(1).
 #[unsafe(no_mangle)]
 pub extern "C" fn composecheck_reset(state: &mut State)
     ensures { session_of state.new ≡ rest }
@@ -126,7 +137,8 @@ pub extern "C" fn composecheck_reset(state: &mut State)
     keep(state, &ComposeState::new());
 }
 
-/// The number of the state's status, as `enum xkb_compose_status`: 0 nothing, 1 composing, 2 composed, 3 cancelled. O(1).
+/// Returns the status of the state, as the number in `enum xkb_compose_status`: 0 nothing, 1
+/// composing, 2 composed, 3 cancelled. O(1).
 #[unsafe(no_mangle)]
 pub extern "C" fn composecheck_status(state: &State) -> u32
     ensures value { result ≡ status_number (session_of state.now).status }
@@ -135,7 +147,8 @@ pub extern "C" fn composecheck_status(state: &State) -> u32
     number_of(status_of(state.status))
 }
 
-/// Puts the pending keysyms at the front of `keysyms`, and gives their count, at most 31. O(pending keysyms).
+/// Puts the pending keysyms at the front of `keysyms`, and returns their number, at most 31.
+/// O(pending keysyms).
 #[unsafe(no_mangle)]
 pub extern "C" fn composecheck_pending(state: &State, keysyms: &mut [u32; 31]) -> u32
     ensures value { take result keysyms.new ≡ (session_of state.now).pending }
@@ -146,8 +159,12 @@ pub extern "C" fn composecheck_pending(state: &State, keysyms: &mut [u32; 31]) -
     pending.len() as u32
 }
 
-/// The keysym at this index among those that may follow the pending ones, in rising order; and what feeding it to the state would do:
-/// its status, and the text that it would commit. False where no more keysyms may follow. The state stays as it is. Takes no memory;
+/// Finds the keysym at this index, counted from 0, among the keysyms that may follow the pending
+/// ones, in increasing order, and what feeding it to the state would do. Puts the keysym into
+/// `key`, the status after it into `status`, and the text that it would commit into `text` and
+/// `text_length`.
+///
+/// Returns false if there are no more such keysyms. The state is not changed. Allocates nothing;
 /// O(pending keysyms × log edges of a node).
 #[unsafe(no_mangle)]
 pub extern "C" fn composecheck_following(
@@ -199,12 +216,14 @@ pub extern "C" fn composecheck_following(
 
 /// Reads a table and puts its arrays into the caller's memory.
 ///
-/// `header` holds the names of keysyms, lines as those of `keysymdef.h`; `bundle` the sources, the root first, in the form that
-/// `read_bundle` reads; its certificate is not looked at. A table in which a sequence is a prefix of another one is refused, unless
-/// `longest`: the longer sequence overrides the shorter one then, as in libxkbcommon.
+/// `header` holds the names of keysyms, in lines like those of `keysymdef.h`. `bundle` holds the
+/// sources, the root first, in the form that `read_bundle` reads; its certificate is not used. A
+/// table in which one sequence is a prefix of another one is refused unless `longest` is set: then
+/// the longer sequence overrides the shorter one, as in libxkbcommon.
 ///
-/// 0 where it is done, and `sizes` then says how many entries of each array count; 1 where the sources or the header are refused, as
-/// `fault` says; 2 where an array is too small, and `sizes` says what is needed.
+/// Returns 0 if the table is compiled; `sizes` is then the number of entries used in each array.
+/// Returns 1 if the sources or the header are refused, for the reason in `fault`. Returns 2 if an
+/// array is too small; `sizes` is then the number of entries needed.
 #[unsafe(no_mangle)]
 pub extern "C" fn composecheck_compile(
     alloc: Global,
@@ -238,14 +257,16 @@ pub extern "C" fn composecheck_compile(
     )
 }
 
-/// Reads a table as `composecheck_compile` does, and puts besides the result keysym of each of its
-/// leaves, in the order of their texts, into `results`; `result_count` says how many they are, one
-/// less than offsets. It is the keysym that the line names which counts for the sequence; where it
-/// names none, the least keysym of the text's character; and 0 (`XKB_KEY_NoSymbol`) where the text
-/// isn't one character or no keysym has it.
+/// Reads a table as `composecheck_compile` does, and also puts the result keysym of each of its
+/// leaves into `results`, in the order of their texts. `result_count` is their number, one less
+/// than the number of offsets.
 ///
-/// 0 where it is done, 1 where the sources or the header are refused, as `fault` says, 2 where an
-/// array is too small.
+/// The result keysym is the one on the line that defines the sequence; if that line names none, it
+/// is the least keysym of the text's character, or 0 (`XKB_KEY_NoSymbol`) if the text isn't one
+/// character or no keysym has that character.
+///
+/// Returns 0 if the table is compiled, 1 if the sources or the header are refused, for the reason
+/// in `fault`, and 2 if an array is too small.
 #[unsafe(no_mangle)]
 pub extern "C" fn composecheck_compile_with_results(
     alloc: Global,
@@ -295,9 +316,10 @@ pub extern "C" fn composecheck_compile_with_results(
     )
 }
 
-/// The result keysym, of these of the table's leaves, of the sequence that feeding the keysym to the
-/// state would complete; 0 where it completes none, or has none. The state stays as it is. Takes no
-/// memory; O(pending keysyms × log edges of a node).
+/// Returns the result keysym of the sequence that feeding the keysym to the state would complete:
+/// its entry in `results`, the result keysyms of the table's leaves. Returns 0 if no sequence would
+/// be completed, if the sequence has no result keysym, or if `results` ends before it. The state is
+/// not changed. Allocates nothing; O(pending keysyms × log edges of a node).
 #[unsafe(no_mangle)]
 pub extern "C" fn composecheck_result(
     nodes: &[PackedNode],
@@ -324,9 +346,11 @@ pub extern "C" fn composecheck_result(
     result_of(&table, session(state).pending(), keysym, results)
 }
 
-/// The sentence that says why `composecheck_compile` refuses the sources, put into `text`; no bytes where it does not. The bytes are UTF-8.
+/// Puts the message why `composecheck_compile` refuses the sources into `text`, in UTF-8; it is
+/// empty if they are not refused. `text_length` is its number of bytes.
 ///
-/// 0 where it is done, 1 where the sentence has no room and `text_length` says what is needed, 2 where memory was refused. O(as compiling).
+/// Returns 0 if the message is written, 1 if it doesn't fit into `text`, which needs `text_length`
+/// bytes, and 2 if memory runs out. Takes as long as compiling.
 #[unsafe(no_mangle)]
 pub extern "C" fn composecheck_explain(
     alloc: Global,
@@ -352,9 +376,12 @@ pub extern "C" fn composecheck_explain(
     0
 }
 
-/// Looks at a certificate for a move from an old table to a new one, with the names of the header and a repertoire, as the command
-/// `check` does. True where it is valid: typing goes on as it promises. False where a part is refused or a condition isn't met, as
-/// `fault` says.
+/// Checks a certificate for a move from an old table to a new one, with the names of the header and
+/// a repertoire, as the command `check` does.
+///
+/// Returns true if the certificate is valid: then typing with the new table is what the certificate
+/// promises. Returns false if a part is refused or a condition isn't met, for the reason in
+/// `fault`.
 #[unsafe(no_mangle)]
 pub extern "C" fn composecheck_check(
     alloc: Global,
@@ -392,10 +419,11 @@ pub extern "C" fn composecheck_check(
     check(alloc, header, &old, &new, repertoire, certificate, fault)
 }
 
-/// Reads a table as `composecheck_compile` does, and puts its arrays into the caller's memory only where the bundle's certificate is
-/// valid for a move to it from the table in use.
+/// Reads a table as `composecheck_compile` does, but puts its arrays into the caller's memory only
+/// if the bundle's certificate is valid for a move to it from the table in use.
 ///
-/// 0 where it is done, 1 where a part is refused or the certificate isn't valid, as `fault` says, 2 where an array is too small.
+/// Returns 0 if the table is loaded, 1 if a part is refused or the certificate isn't valid, for the
+/// reason in `fault`, and 2 if an array is too small.
 #[unsafe(no_mangle)]
 pub extern "C" fn composecheck_load(
     alloc: Global,
@@ -443,8 +471,9 @@ pub extern "C" fn composecheck_load(
     )
 }
 
-/// Whether these arrays, of any numbers, are a table as `composecheck_compile` writes one: 1 where they are, and 0 where they are not; 2
-/// where memory was refused. Any bytes are hints. About as dear as compiling the table.
+/// Returns 1 if these arrays, of any numbers, are a table as `composecheck_compile` writes one, 0
+/// if they are not, and 2 if memory runs out. The hints of a table are not checked, since any bytes
+/// are hints. Takes about as long as compiling the table.
 #[unsafe(no_mangle)]
 pub extern "C" fn composecheck_is_table(
     alloc: Global,
@@ -464,12 +493,12 @@ pub extern "C" fn composecheck_is_table(
     }
 }
 
-/// The characters of keysyms by the names of a header, each at the index of its keysym in `target`; 0
-/// where a keysym has none, or the number is above `0x1fffffff`. In UTF-8 a character is the text of
-/// a key that is part of no sequence.
+/// Puts the character of each keysym, by the names of a header, into `target` at the index of the
+/// keysym: its code point, or 0 if the keysym has none or the number is above `0x1fffffff`. A key
+/// that is part of no sequence commits its character, in UTF-8.
 ///
-/// 0 where it is done, 1 where the header is refused, as `fault` says, 2 where there is less room than
-/// keysyms. O(header + keysyms).
+/// Returns 0 if the characters are written, 1 if the header is refused, for the reason in `fault`,
+/// and 2 if `target` has less room than there are keysyms. O(header + keysyms).
 #[unsafe(no_mangle)]
 pub extern "C" fn composecheck_characters(
     alloc: Global,
@@ -488,11 +517,12 @@ pub extern "C" fn composecheck_characters(
     characters(alloc, header, keysyms, target, fault)
 }
 
-/// Whether the line is an include, and its name, as it stands between the quotes, put into `name`. Takes no memory; O(bytes).
+/// Finds the name in an include line, the bytes between its quotes, and puts it into `name`. The
+/// caller can find the sources of a table with it, without a callback: it searches the lines of
+/// each source that it has, and adds the sources that they include. Allocates nothing; O(bytes).
 ///
-/// So the sources of a table are found without a callback: the caller looks at the lines of a source that it has, and adds those that
-/// are named there. 0 where the line includes nothing, or is no text; 1 where it does; 2 where the name has no room, and `name_length`
-/// says what is needed.
+/// Returns 0 if the line is not an include or is not UTF-8, and 1 if it is an include. Returns 2 if
+/// the name doesn't fit into `name`, which needs `name_length` bytes.
 #[unsafe(no_mangle)]
 pub extern "C" fn composecheck_include(line: &[u8], name: &mut [u8], name_length: &mut usize) -> u32
     ensures none { result ≡ 0 → IncludesNone line.now }
@@ -511,4 +541,109 @@ pub extern "C" fn composecheck_include(line: &[u8], name: &mut [u8], name_length
         }
         None => 0,
     }
+}
+
+/// Finds the files of a table, one path after another: the caller looks for a file at each path,
+/// and keeps what it found. The library opens no file, and keeps nothing between two calls.
+///
+/// `answers` holds what was found so far: the number of answers (2 bytes), and for each answer the
+/// length of its path (2 bytes), the path, and then either 1, the length of the file (4 bytes) and
+/// its bytes, or 0 if there is no file. All numbers are big-endian. `root` is the path of the
+/// table; `system`, `locale` and `home` are the expansions of `%S`, `%L` and `%H`, and `sysroot` is
+/// the folder in which an absolute path is looked for first. `locale`, `home` and `sysroot` may be
+/// empty, and are not known then.
+///
+/// Returns 3 if a path has to be looked for, which is put into `target`; no answer has this path
+/// yet. Returns 0 if all files are found: `target` is then the bundle of their sources and the
+/// certificate, as `composecheck_compile` and `composecheck_load` read it. Returns 2 if `target` is
+/// too small; it needs `target_length` bytes. Returns 1 for the reason in `fault`: the root or an
+/// included file is missing, an include can't be resolved, the answers are malformed, a path is not
+/// UTF-8, the bundle is too large, or memory runs out. The `source` of a fault in a file is the
+/// index of its answer. O(bytes of all answers, and sources × includes).
+#[unsafe(no_mangle)]
+pub extern "C" fn composecheck_find(
+    alloc: Global,
+    answers: &[u8],
+    root: &[u8],
+    system: &[u8],
+    locale: &[u8],
+    home: &[u8],
+    sysroot: &[u8],
+    certificate: &[u8],
+    target: &mut [u8],
+    target_length: &mut usize,
+    fault: &mut Fault,
+) -> u32
+    ensures found { result ≡ 0 → Finds
+        (search_of answers.now root.now system.now locale.now home.now sysroot.now)
+        certificate.now (take target_length.new target.new) }
+    ensures refused { result ≡ 1 → TellsFind
+        (search_of answers.now root.now system.now locale.now home.now sysroot.now)
+        certificate.now fault.new }
+    ensures wide { result ≡ 2 → length target.old < target_length.new }
+    ensures needed { result ≡ 2 → Needs
+        (search_of answers.now root.now system.now locale.now home.now sysroot.now)
+        certificate.now target_length.new }
+    ensures wanted { result ≡ 3 → Wants
+        (search_of answers.now root.now system.now locale.now home.now sysroot.now)
+        (take target_length.new target.new) }
+    ensures few { result ≤ 3 }
+    ensures same_fault { result ≢ 1 → fault.new ≡ fault.old }
+{
+    find(
+        alloc,
+        answers,
+        root,
+        system,
+        locale,
+        home,
+        sysroot,
+        certificate,
+        target,
+        target_length,
+        fault,
+    )
+}
+
+/// Puts the path of a locale's table into `path`: the file in this folder that `compose_dir` lists
+/// for the locale. If `aliases` lists the locale as an alias, its target is looked up instead.
+/// `compose_dir` and `aliases` are the bytes of the folder's files `compose.dir` and
+/// `locale.alias`.
+///
+/// Returns 1 if there is such a path, and 0 if there is none, or if the folder or the locale is not
+/// UTF-8. Returns 2 if the path doesn't fit into `path`, which needs `path_length` bytes, and 3 if
+/// memory runs out. O(bytes).
+#[unsafe(no_mangle)]
+pub extern "C" fn composecheck_locale_file(
+    alloc: Global,
+    folder: &[u8],
+    compose_dir: &[u8],
+    aliases: &[u8],
+    locale: &[u8],
+    path: &mut [u8],
+    path_length: &mut usize,
+) -> u32
+    ensures some { result ≡ 1
+        → locale_path folder.now compose_dir.now aliases.now locale.now
+        ≡ Some (take path_length.new path.new) }
+    ensures none { result ≡ 0
+        → locale_path folder.now compose_dir.now aliases.now locale.now ≡ None }
+    ensures wide { result ≡ 2 → length path.old < path_length.new }
+    ensures needed { result ≡ 2
+        → option_map length (locale_path folder.now compose_dir.now aliases.now locale.now)
+        ≡ Some path_length.new }
+    ensures few { result ≤ 3 }
+{
+    let Ok(found) = locale_file(alloc, folder, compose_dir, aliases, locale) else {
+        return 3;
+    };
+    let Some(file) = found else {
+        return 0;
+    };
+    *path_length = file.len();
+    if file.len() > path.len() {
+        return 2;
+    }
+    put(file.as_bytes(), path);
+    1
 }

@@ -1,4 +1,4 @@
-//! A certificate is checked, and a table is loaded only with a valid one.
+//! Loading: a certificate is checked, and a table is loaded only with a valid one.
 ghost use Rattle.std.specs.Prelude.{◌≡◌, ◌≢◌, ◌≤◌, true, false, length, take, MatchResult};
 ghost use Rattle.compose_tree.specs.Packed.{IsPacked, unpacked};
 ghost use Rattle.compose_c.specs.Compiled.{Fits, rule_of};
@@ -15,7 +15,7 @@ use compose_tree::{
 use keysym_core::Names;
 use std::alloc::Global;
 
-/// Looks at the certificate for a move from the old table to the new one.
+/// Checks the certificate for a move from the old table to the new one.
 fn meet<T: ComposeTable, U: ComposeTable>(
     alloc: Global,
     names: &Names,
@@ -38,7 +38,7 @@ fn meet<T: ComposeTable, U: ComposeTable>(
     }
 }
 
-/// Reads the names, and looks at the certificate.
+/// Reads the names, and checks the certificate with them.
 fn certify<T: ComposeTable, U: ComposeTable>(
     alloc: Global,
     header: &[u8],
@@ -57,7 +57,7 @@ fn certify<T: ComposeTable, U: ComposeTable>(
     meet(alloc, &names, old, new, repertoire, certificate)
 }
 
-/// As `composecheck_check`, over tables.
+/// Does the work of `composecheck_check`, with tables.
 pub fn check<T: ComposeTable, U: ComposeTable>(
     alloc: Global,
     header: &[u8],
@@ -82,7 +82,8 @@ pub fn check<T: ComposeTable, U: ComposeTable>(
     }
 }
 
-/// The table of the bundle's first source, if its certificate is valid for a move from the old table.
+/// Returns the table that the bundle's first source defines, if the bundle's certificate is valid
+/// for a move to it from the old table.
 fn read<T: ComposeTable>(
     alloc: Global,
     header: &[u8],
@@ -112,7 +113,7 @@ fn read<T: ComposeTable>(
     }
 }
 
-/// As `composecheck_load`, over the table in use.
+/// Does the work of `composecheck_load`; `old` is the table in use.
 pub fn load<T: ComposeTable>(
     alloc: Global,
     header: &[u8],

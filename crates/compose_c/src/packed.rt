@@ -1,7 +1,8 @@
-//! Whether arrays from elsewhere are those of a table.
+//! Tests whether arrays of unchecked numbers are a table.
 //!
-//! The sequences that the arrays spell are written down as a Compose file and read again: the arrays are a table's where they are
-//! those of the table that is read. So nothing has to be believed of how they are walked here.
+//! The sequences that the arrays spell are written as a Compose file, and the file is read: the
+//! arrays are a table if they equal the arrays of the table that is read. So the proof needs no
+//! fact about how the arrays are walked here.
 ghost use Rattle.std.specs.Prelude.{◌≡◌, true, IfOk, map};
 ghost use Rattle.compose_tree.specs.Packed.{IsPacked, unpacked};
 ghost use Rattle.compose_c.specs.Arrays.{edge_of};
@@ -14,39 +15,41 @@ use keysym_core::Names;
 use std::alloc::{AllocError, Global};
 use std::fmt::Write;
 
-/// The most keysyms of a sequence.
+/// The greatest number of keysyms in a sequence.
 const MOST_KEYSYMS: usize = 32;
 
-/// An edge whose numbers come from elsewhere: any keysym's number, and any target.
+/// An edge of unchecked numbers.
 #[repr(C)]
 #[derive(Clone, Copy)]
 pub struct LooseEdge {
+    /// The number of the keysym; it may be too large for one.
     pub keysym: u32,
+    /// The target, as in `PackedEdge`; it may be out of range.
     pub target: u32,
 }
 
-/// Where an edge leads from: a node, and the keysym's number.
+/// The start of an edge: its node, and the keysym's number.
 #[derive(Clone, Copy)]
 struct Origin {
     node: usize,
     keysym: u32,
 }
 
-/// Where the edges lead from to each node, and to each leaf.
+/// For each node and for each leaf, the start of an edge that leads to it, if there is one.
 #[derive(Drop)]
 struct Origins {
     nodes: Vec<Option<Origin>>,
     leaves: Vec<Option<Origin>>,
 }
 
-/// Notes an origin at this index, if there is one. O(1).
+/// Notes an origin at this index, if the index is in range. O(1).
 fn note(origins: &mut [Option<Origin>], index: usize, origin: Origin) {
     if index < origins.len() {
         origins[index] = Some(origin);
     }
 }
 
-/// Notes where these edges of a node lead. O(edges).
+/// Notes the edges of a node at their targets. O(edges).
 fn note_edges(edges: &[LooseEdge], node: usize, origins: &mut Origins) {
     for edge in edges {
         let index = (edge.target / 2) as usize;
@@ -62,7 +65,8 @@ fn note_edges(edges: &[LooseEdge], node: usize, origins: &mut Origins) {
     }
 }
 
-/// Where the edges of these nodes lead from. O(nodes + edges + leaves).
+/// Returns the origins of all nodes and leaves, by the edges of these nodes. O(nodes + edges +
+/// leaves).
 fn origins_of(
     alloc: Global,
     nodes: &[PackedNode],
@@ -82,7 +86,8 @@ fn origins_of(
     Ok(origins)
 }
 
-/// The numbers of the keysyms that lead to a leaf, the last one first. O(keysyms).
+/// Returns the numbers of the keysyms that lead to a leaf, the last one first, at most 32.
+/// O(keysyms).
 fn path_to(alloc: Global, origins: &Origins, leaf: Option<Origin>) -> Result<Vec<u32>, AllocError> {
     let mut path = Vec::new(alloc);
     let mut origin = leaf;
@@ -99,7 +104,8 @@ fn path_to(alloc: Global, origins: &Origins, leaf: Option<Origin>) -> Result<Vec
     Ok(path)
 }
 
-/// Adds a line of a Compose file: these keysyms, the last one first, and the text; nothing where the bytes are no text.
+/// Adds a line of a Compose file for these keysyms, the last one first, and this text; adds nothing
+/// if the bytes are not UTF-8.
 fn push_line(
     alloc: Global,
     source: &mut String,
@@ -119,7 +125,8 @@ fn push_line(
     source.push_str("\n")
 }
 
-/// The sequences that the arrays spell, as a Compose file. O(nodes + edges + keysyms of all sequences + bytes).
+/// Returns the sequences that the arrays spell, as a Compose file. O(nodes + edges + keysyms of all
+/// sequences + bytes).
 fn written(
     alloc: Global,
     nodes: &[PackedNode],
@@ -142,7 +149,7 @@ fn written(
     Ok(source)
 }
 
-/// The table of a Compose file, if it gives one.
+/// Returns the table of a Compose file, or `None` if it is faulty.
 fn read(alloc: Global, source: &str) -> Result<Option<PackedTable>, AllocError> {
     let Ok(names) = Names::core(alloc) else {
         return Err(AllocError);
@@ -160,7 +167,7 @@ fn read(alloc: Global, source: &str) -> Result<Option<PackedTable>, AllocError> 
     }
 }
 
-/// Whether these are the same nodes. O(nodes).
+/// Returns whether these are the same nodes. O(nodes).
 fn same_nodes(nodes: &[PackedNode], others: &[PackedNode]) -> bool
     ensures { result ≡ true → nodes.now ≡ others.now }
 {
@@ -176,7 +183,7 @@ fn same_nodes(nodes: &[PackedNode], others: &[PackedNode]) -> bool
     true
 }
 
-/// Whether these are the same edges. O(edges).
+/// Returns whether these are the same edges. O(edges).
 fn same_edges(edges: &[PackedEdge], others: &[LooseEdge]) -> bool
     ensures { result ≡ true → edges.now ≡ map edge_of others.now }
 {
@@ -192,7 +199,7 @@ fn same_edges(edges: &[PackedEdge], others: &[LooseEdge]) -> bool
     true
 }
 
-/// As `composecheck_is_table`.
+/// Returns whether the arrays are a table, for `composecheck_is_table`. `Err` if memory runs out.
 pub fn is_table(
     alloc: Global,
     nodes: &[PackedNode],

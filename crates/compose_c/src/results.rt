@@ -1,4 +1,4 @@
-//! Result keysyms: read with a table, and found by the keys that complete a sequence.
+//! Result keysyms: they are read with a table, and found by the keys that complete a sequence.
 ghost use Rattle.std.specs.Prelude.{◌≡◌, ◌≢◌, ◌≤◌, ◌<◌, true, false, length, take, slice_get, unwrap_or, MatchResult};
 ghost use Rattle.compose_model.specs.Nodes as words;
 ghost use Rattle.compose_model.specs.Nodes.{nodes};
@@ -18,7 +18,8 @@ use compose_tree::{ComposeTable, NodeId, PackedEdge, PackedNode, PackedTable, Ta
 use keysym_core::{Keysym, Names};
 use std::alloc::Global;
 
-/// The table of the bundle's first source, and its result keysyms.
+/// Returns the table that the bundle's first source defines, with its result keysyms, or why there
+/// is none.
 fn read(
     alloc: Global,
     header: &[u8],
@@ -41,7 +42,7 @@ fn read(
     }
 }
 
-/// As `composecheck_compile_with_results`.
+/// Does the work of `composecheck_compile_with_results`.
 pub fn compile_with_results(
     alloc: Global,
     header: &[u8],
@@ -88,8 +89,8 @@ pub fn compile_with_results(
     }
 }
 
-/// Puts the result keysyms into the caller's array, and says how many they are; or says that they
-/// don't fit.
+/// Puts the result keysyms into the caller's array, and their number into `count`. Returns false if
+/// they don't fit; then only `count` is changed.
 fn put_results(found: &[Keysym], results: &mut [u32], count: &mut usize) -> bool
     ensures same { result ≡ true → take count.new results.new ≡ found.now }
     ensures wide { result ≡ false → count.new ≤ length results.old → ⊥ }
@@ -102,8 +103,9 @@ fn put_results(found: &[Keysym], results: &mut [u32], count: &mut usize) -> bool
     true
 }
 
-/// Of these result keysyms, one for each leaf, that of the leaf to which the keysym leads behind the
-/// pending ones; 0 where it leads to none. O(pending keysyms × log edges of a node).
+/// Returns the result keysym of the leaf to which the keysym leads after the pending ones, from
+/// these, one for each leaf. It is 0 if the keysym leads to no leaf, or to one without an entry.
+/// O(pending keysyms × log edges of a node).
 pub fn result_of<T: ComposeTable>(
     table: &T,
     pending: &[Keysym],
@@ -119,7 +121,7 @@ pub fn result_of<T: ComposeTable>(
     }
 }
 
-/// The same behind a node.
+/// Does the same after a node.
 fn result_behind<T: ComposeTable>(table: &T, node: NodeId, keysym: Keysym, results: &[u32]) -> u32
     requires { node.0 < length (nodes (T.definitions table.now)) }
     ensures { result
@@ -133,7 +135,7 @@ fn result_behind<T: ComposeTable>(table: &T, node: NodeId, keysym: Keysym, resul
     }
 }
 
-/// The number at this index, or 0 behind the last one.
+/// Returns the number at this index, or 0 after the last one.
 fn entry(numbers: &[u32], index: usize) -> u32
     ensures { result ≡ unwrap_or (slice_get numbers.now index) 0 }
 {

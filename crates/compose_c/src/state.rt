@@ -12,18 +12,23 @@ use compose_model::Status;
 use compose_state::{ComposeState, Fed, FedText};
 use keysym_core::Keysym;
 
-/// A compose state. All zeros are one at rest, and any numbers are a state: where the count is above 31, or one of so many pending
-/// numbers is no keysym, nothing is pending; a status above 3 is nothing; any numbers are hints.
+/// A compose state. All zeros are a state at rest, and any numbers are a state: nothing is pending
+/// if the count is above 31 or one of the pending numbers is not a keysym, a status above 3 means
+/// nothing, and any numbers are hints.
 #[repr(C)]
 #[derive(Clone, Copy)]
 pub struct State {
+    /// The numbers of the pending keysyms, at the front.
     pub pending: [u32; 31],
+    /// For each pending keysym, a hint for the index of its edge.
     pub hints: [u32; 31],
+    /// The number of pending keysyms, at most 31.
     pub count: u32,
+    /// The status, as the number in `enum xkb_compose_status`, from 0 to 3.
     pub status: u32,
 }
 
-/// The pending keysyms.
+/// Returns the pending keysyms.
 fn pending_of(state: &State) -> ArrayVec<Keysym, 31>
     ensures { result.items ≡ words.pending_of state.now }
 {
@@ -34,7 +39,7 @@ fn pending_of(state: &State) -> ArrayVec<Keysym, 31>
     keysyms_of(numbers)
 }
 
-/// The pending keysyms, as numbers, at most 31. O(pending keysyms).
+/// Returns the pending keysyms as numbers, at most 31. O(pending keysyms).
 #[inline(always)]
 pub fn pending_numbers(state: &State) -> &[u32]
     ensures value { result.now ≡ (session_of state.now).pending }
@@ -53,7 +58,7 @@ pub fn pending_numbers(state: &State) -> &[u32]
     none
 }
 
-/// Whether all of the numbers are those of keysyms. O(numbers).
+/// Returns whether all of the numbers are keysyms. O(numbers).
 #[inline(always)]
 fn are_keysyms(numbers: &[u32]) -> bool
     ensures { result ≡ list_all is_keysym numbers.now }
@@ -66,7 +71,7 @@ fn are_keysyms(numbers: &[u32]) -> bool
     true
 }
 
-/// The keysyms of these numbers; none where one of them is no keysym.
+/// Returns the keysyms with these numbers, or none if one of the numbers is not a keysym.
 fn keysyms_of(numbers: &[u32]) -> ArrayVec<Keysym, 31>
     requires { length numbers.now ≤ 31 }
     ensures { result.items ≡ words.keysyms_of numbers.now }
@@ -81,7 +86,7 @@ fn keysyms_of(numbers: &[u32]) -> ArrayVec<Keysym, 31>
     keysyms
 }
 
-/// The status of this number.
+/// Returns the status with this number; any number above 3 means `Nothing`. O(1).
 #[inline(always)]
 pub fn status_of(number: u32) -> Status
     ensures { result ≡ words.status_of number }
@@ -94,7 +99,7 @@ pub fn status_of(number: u32) -> Status
     }
 }
 
-/// The number of the status.
+/// Returns the number of the status, from 0 to 3. O(1).
 pub fn number_of(status: Status) -> u32
     ensures { result ≡ status_number status }
 {
@@ -106,14 +111,14 @@ pub fn number_of(status: Status) -> u32
     }
 }
 
-/// The state that the numbers are. O(pending keysyms).
+/// Returns the state that the numbers mean. O(pending keysyms).
 pub fn session(state: &State) -> ComposeState
     ensures { result ≡ session_of state.now }
 {
     ComposeState::restored(pending_of(state), state.hints, status_of(state.status))
 }
 
-/// Puts the numbers of the keysyms at the front, and gives their count. O(keysyms).
+/// Puts the numbers of the keysyms at the front, and returns their number. O(keysyms).
 pub fn put_keysyms(keysyms: &[Keysym], target: &mut [u32; 31]) -> u32
     requires { length keysyms.now ≤ 31 }
     ensures count { result ≡ length keysyms.now }
@@ -124,7 +129,7 @@ pub fn put_keysyms(keysyms: &[Keysym], target: &mut [u32; 31]) -> u32
     keysyms.len() as u32
 }
 
-/// Keeps the state as numbers. O(pending keysyms).
+/// Stores the state as numbers. O(pending keysyms).
 pub fn keep(state: &mut State, session: &ComposeState)
     ensures { session_of state.new ≡ session.now }
 {
@@ -133,7 +138,8 @@ pub fn keep(state: &mut State, session: &ComposeState)
     state.status = number_of(session.status());
 }
 
-/// Puts the text of the answer into the array, and gives its length. O(its bytes).
+/// Puts the text of the answer at the front of the array, and returns its length in bytes, at most
+/// 255. O(its bytes).
 pub fn put_text(fed: &Fed<'_>, target: &mut [u8; 255]) -> u32
     ensures text { take result target.new ≡ text_bytes fed.now.text }
     ensures few { result ≤ 255 }
@@ -148,7 +154,7 @@ pub fn put_text(fed: &Fed<'_>, target: &mut [u8; 255]) -> u32
     }
 }
 
-/// The same, by way of a text of its own.
+/// Does the same for a text that is a character.
 fn put_character(fed: &Fed<'_>, target: &mut [u8; 255]) -> u32
     ensures text { take result target.new ≡ text_bytes fed.now.text }
     ensures few { result ≤ 255 }

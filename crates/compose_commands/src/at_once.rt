@@ -44,6 +44,7 @@ pub fn serve_many<S: Answer>(
         connections: arguments.connections,
         unsent: arguments.unsent as usize,
         idle: arguments.idle,
+        own_sessions: arguments.own_sessions,
     };
     match poll_all(rt, listener, service, limits, &mut lines) {
         Ok(()) => Ok(lines.finish()),

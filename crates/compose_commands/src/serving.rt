@@ -64,17 +64,18 @@ fn serve_on_socket<T: ComposeTable>(
 }
 
 /// Serves the connections to a listener, several at once or one after another. If connections may
-/// not be idle, one after another is one at once, since a service on a stream waits for its client.
+/// not be idle, or their sessions end with them, one after another is one at once, since a service
+/// on a stream waits for its client and doesn't know whose a session is.
 fn serve_listener<T: ComposeTable>(
     rt: &(impl Clock + Net + Print + Eprint + AllocGlobal),
     listener: UnixListener,
     service: &mut Service<T>,
     arguments: &ServeArguments<'_>,
 ) -> Result<Ended, Fault> {
-    match (arguments.at_once, arguments.idle) {
-        (Some(at_once), _) => serve_many(rt, listener, service, arguments, at_once),
-        (None, Some(_)) => serve_many(rt, listener, service, arguments, 1),
-        (None, None) => serve_connections(rt, &listener, service, arguments),
+    match (arguments.at_once, arguments.idle, arguments.own_sessions) {
+        (Some(at_once), _, _) => serve_many(rt, listener, service, arguments, at_once),
+        (None, None, false) => serve_connections(rt, &listener, service, arguments),
+        (None, _, _) => serve_many(rt, listener, service, arguments, 1),
     }
 }
 

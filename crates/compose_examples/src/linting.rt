@@ -1,5 +1,5 @@
 //! The findings in the lines of worked tables.
-use crate::helpers::{core, expect_text, two_sources};
+use crate::helpers::{expect_text, two_sources};
 use compose_answer::Answer;
 use compose_lint::{LintForm, LintInput, LintTable, Readers, lint_tables, lost_count};
 use std::alloc::Global;
@@ -100,7 +100,6 @@ fn faults_of_includes_stay(rt: HostRuntime) -> Result<(), Fail> {
 fn lost_lines_are_counted_once(rt: HostRuntime) -> Result<(), Fail> {
     let root = "\u{feff}<a> <b> : \"x\"\n< a> <NoSymbol> : \"y\"\n<a> <c> : \"\\0\"\n";
     let sources = two_sources(rt.alloc(), root.as_bytes(), "<a> <d> : \"z\"")?;
-    let names = core(rt.alloc())?;
-    assert_eq!(rt; lost_count(rt.alloc(), &names, &sources)?, 3);
+    assert_eq!(rt; lost_count(rt.alloc(), &sources)?, 3);
     Ok(())
 }

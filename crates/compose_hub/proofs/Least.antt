@@ -1,4 +1,4 @@
--- Which slot has the least number.
+-- The slot with the least number.
 use Rattle.std.proofs.Common.{◌≡◌, ℕ, ◌+◌, ◌<◌, ◌≤◌, List, Bool, true, false, cond, get_or, refl, sym, ◌∙◌, subst, inl, inr, arith}
 use Rattle.std.proofs.lemmas.Bool.{ltb-true, ltb-false}
 use Rattle.std.specs.Prelude.{◌==◌, ◌⊎◌, Option, Some, None, nat_lt}
@@ -10,7 +10,7 @@ last_or : (j i : ℕ) → j < i + 1 → (j < i) ⊎ (j ≡ i)
 last_or j i h = elim (same_or j i (j == i) refl) [ inl e ↦ inr e | inr ne ↦ inl (omega arith) ]
 
 module _ (of : Option Client → Option ℕ) (slots : List (Option Client)) (i : ℕ) where
-  -- one slot more, which has none
+  -- one more slot, which has no number
   none_more : (least : Option (ℕ × ℕ)) → LeastTo of slots i least → of (get_or slots i None) ≡ None → LeastTo of slots (i + 1) least
   none_more None h e = λ j lt. by j (last_or j i lt)
     where
@@ -23,7 +23,7 @@ module _ (of : Option Client → Option ℕ) (slots : List (Option Client)) (i :
       by j n f (inl l) = h.2 j n l f
       by j n f (inr s) = let g = subst (λ (m : ℕ). of (get_or slots m None) ≡ Some n) s f in let no : None ≡ Some n = sym e ∙ g in absurd (cc)
 
-  -- one slot more, which has this one
+  -- one more slot, which has this number
   module _ (m : ℕ) (e : of (get_or slots i None) ≡ Some m) where
     is_own : (n : ℕ) → of (get_or slots i None) ≡ Some n → m ≤ n
     is_own n f = let same : Some m ≡ Some n = sym e ∙ f in let is : m ≡ n = cc in omega arith
@@ -57,7 +57,7 @@ module _ (of : Option Client → Option ℕ) (slots : List (Option Client)) (i :
       either true t = sooner (ltb-true m w.1 t)
       either false t = later (ltb-false m w.1 t)
 
-  -- one slot more
+  -- one more slot
   pub least_more : (least : Option (ℕ × ℕ)) (number : Option ℕ) → LeastTo of slots i least → of (get_or slots i None) ≡ number → LeastTo of slots (i + 1) (lesser least i number)
   least_more least None h e = none_more least h e
   least_more None (Some m) h e = first_more m e h

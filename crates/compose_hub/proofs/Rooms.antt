@@ -26,7 +26,7 @@ one_at_most : (b : Bool) → cond b 1 0 ≤ 1
 one_at_most true = omega arith
 one_at_most false = omega arith
 
--- where two tests agree at each place they count the same
+-- if two tests agree at each index, they count the same
 pub count_same : (p q : Option Client → Bool) (slots : List (Option Client)) → ((key : ℕ) → p (get_or slots key None) ≡ q (get_or slots key None)) → count_by p slots ≡ count_by q slots
 count_same p q [] h = refl
 count_same p q (x ∷ slots) h =
@@ -43,7 +43,7 @@ module _ (slots : List (Option Client)) (key : ℕ) (x : Option Client) (lt : ke
     | inr ne ↦ ap slot_is_fair (get_or-set_other slots key j x None ne) ∙ all j
   ]
 
-  -- a slot that keeps its room is written
+  -- writing a slot that keeps its room keeps the rooms
   pub rooms_set : (d : Option Client) → AreWithinRooms slots → KeepsRoom (get_or slots key d) x → AreWithinRooms (set slots key x)
   rooms_set d all one =
       let same : get_or slots key d ≡ get_or slots key None = get_or_default slots key d None lt in
@@ -53,7 +53,7 @@ module _ (slots : List (Option Client)) (key : ℕ) (x : Option Client) (lt : ke
       let few = all.few in
       record { few = omega arith; fair = fair_at all.fair (kept.fair (all.fair key)) }
 
-  -- one room more is given at most
+  -- at most one more room is given
   pub rooms_more : (n : ℕ) → count_by slot_has_room slots ≤ n → count_by slot_has_room (set slots key x) ≤ n + 1
   rooms_more n few = let set_to = set_room in let le = one_at_most (slot_has_room x) in omega arith
 
@@ -63,7 +63,7 @@ module _ (slots : List (Option Client)) (key : ℕ) (x : Option Client) (lt : ke
 pub rooms_kept : (a b c : List (Option Client)) → KeepsRooms a b → KeepsRooms b c → KeepsRooms a c
 rooms_kept a b c h k all = k (h all)
 
--- where no slot has a client no room is given
+-- if no slot has a client, no room is given
 pub no_rooms : (slots : List (Option Client)) → ((key : ℕ) → get_or slots key None ≡ None) → AreWithinRooms slots
 no_rooms slots none = record {
   few = (let none_has = count_same slot_has_room (λ s. false) slots (λ key. ap slot_has_room (none key)) in let zero_of = count_none slots in omega arith);
@@ -74,13 +74,13 @@ no_rooms slots none = record {
     count_none [] = refl
     count_none (x ∷ xs) = sum_by-cons (λ s. cond false 1 0) x xs ∙ ap (λ (n : ℕ). 0 + n) (count_none xs)
 
--- so many of eight rooms are used, and so many more were given
+-- the numbers of rooms, of eight, that are used and that were given since
 pub record HasRooms (used given : ℕ) (slots : List (Option Client)) : Type 0 where
   pub within : used ≤ max_rooms
   pub few : count_by slot_has_room slots ≤ used + given
   pub fair : (key : ℕ) → slot_is_fair (get_or slots key None) ≡ true
 
--- a room more is given
+-- one more room is given
 pub room_given : (used given : ℕ) (slots : List (Option Client)) (key : ℕ) (x : Option Client) → key < length slots → slot_is_fair x ≡ true → HasRooms used given slots → HasRooms used (given + 1) (set slots key x)
 room_given used given slots key x lt one h = record {
   within = h.within;
@@ -95,7 +95,7 @@ fair_given time (Some c) = refl
 
 -- ---- rooms that are not used
 
--- the first slots have room where they use it
+-- the first slots have room if and only if they use it
 abbrev pub UseRooms : ℕ → List (Option Client) → Type 0
 UseRooms count slots = (key : ℕ) → key < count → slot_has_room (get_or slots key None) ≡ slot_uses_room (get_or slots key None)
 
@@ -113,6 +113,6 @@ use_all : (slots : List (Option Client)) (i : ℕ) → length slots ≤ i → Us
 use_all slots i le h key (inl below) = h key below
 use_all slots i le h key (inr past) = let none : get_or slots key None ≡ None = get_or_past slots key None (omega (arith, le, past)) in ap slot_has_room none ∙ sym (ap slot_uses_room none)
 
--- where all slots have room where they use it, as many have some as use it
+-- if all slots have room only while they use it, as many have room as use it
 pub used_all : (slots : List (Option Client)) (i : ℕ) → length slots ≤ i → UseRooms i slots → count_by slot_has_room slots ≡ count_by slot_uses_room slots
 used_all slots i le h = count_same slot_has_room slot_uses_room slots (λ key. use_all slots i le h key (below_or key i))

@@ -1,14 +1,18 @@
--- What happened on all connections, by one step more.
+-- What happened on all connections, after one more step.
 use Rattle.std.proofs.Common.{◌≡◌, ◌≢◌, ℕ, ◌+◌, ◌-◌, ◌<◌, ◌≤◌, List, [], ◌∷◌, ◌++◌, Bool, true, false, cond, length, get_or, set, max, refl, sym, ◌∙◌, ap, subst, inl, inr, eq-eqb, eqb-true, append_assoc, append-nil, length-append, arith}
 use Rattle.std.proofs.lemmas.Bool.{eqb-false, leb-true}
 use Rattle.std.proofs.lemmas.List.{get_or_default, set-get_or}
-use Rattle.std.specs.Prelude.{◌==◌, ◌&&◌, ◌⊎◌, Option, Some, None, Ok, Err, filter, nat_le, IsSome}
+use Rattle.std.specs.Prelude.{◌==◌, ◌&&◌, ◌⊎◌, map, Option, Some, None, Ok, Err, filter, nat_le, IsSome}
 use Rattle.std.specs.List.{AllByRecursion, list_all}
 use Rattle.std.specs.Option.{is_none}
 use Rattle.std.specs.Io.KnownBytes.{Consumes, Appends}
 use Rattle.std.proofs.KnownBytes.{Consumes-nil, Appends-nil}
 use Rattle.compose_machine.specs.Machine.{ServiceState, Reading}
-use Rattle.compose_many.specs.Connection.{ConnectionState, new_connection, Event, received, sent}
+use Rattle.compose_machine.specs.Laws.{Exchange}
+use Rattle.compose_many.specs.Connection.{ConnectionState, new_connection, Event, closes, received, exchanges, closings, sent}
+use Rattle.compose_many.specs.Owners.{owners_by, owners_of, ClosesOwn, ClosedNone, ClosedAtEnd}
+use Rattle.compose_many.specs.declared.owners.Owner.{Owner}
+use Rattle.compose_many.proofs.Owning.{turn_closed, exchanges_closed, owners_both, owners_more, none_closed_own, none_closed_other, closed_other, ended_own}
 use Rattle.compose_many.specs.Service.{NumberedEvent, events_of, numbered}
 use Rattle.compose_many.specs.Turns.{IsTurn}
 use Rattle.compose_many.specs.Numbered.{StreamState}
@@ -19,8 +23,8 @@ use Rattle.compose_hub.specs.Ends.{ToldEnd, told_more, HasEnded, times_told, max
 use Rattle.compose_many.specs.Streams.{is_failed}
 use Rattle.compose_many.specs.declared.turn.Turn.{Turn}
 use Rattle.compose_many.specs.declared.turn.Turn.TheVariants.{GoesOn, Loaded, Waits, NeedsRoom, Ends}
-use Rattle.compose_hub.specs.Turns.{AreTurns, LeavesSo}
-use Rattle.compose_hub.specs.Serving.{World, world, AreNumberedTo, ServesMany, EachIsTold, StandsAs, GoesOnOrEnds, SlotFollows, ClosesSo, SlotGoesOn, SlotTurnsSo, AcceptsSo, AllAreStill, IsIn, HasNone, IsServed, ServedSoFar}
+use Rattle.compose_hub.specs.Turns.{OwnedService, AreTurns, LeavesSo}
+use Rattle.compose_hub.specs.Serving.{World, world, Now, at_now, world_now, ClosesLast, ClosesAfter, AreNumberedTo, ServesMany, EachIsTold, StandsAs, GoesOnOrEnds, SlotFollows, ClosesSo, SlotGoesOn, SlotTurnsSo, AcceptsSo, AllAreStill, IsIn, HasNone, IsServed, ServedSoFar}
 use Rattle.compose_hub.specs.Rounds.{is_done, why_ended, SlotGivesUp}
 use Rattle.compose_hub.specs.Slots.{uses_room, patience, is_stalled, is_idle}
 use Rattle.compose_hub.specs.declared.client.Client.{Client}
@@ -28,7 +32,7 @@ use Rattle.compose_hub.specs.declared.client.Limits.{Limits}
 use Rattle.compose_many.specs.Ends.{EndsSo}
 use Rattle.compose_hub.specs.declared.ends.ConnectionEnd.{ConnectionEnd}
 use Rattle.compose_hub.specs.declared.ends.ConnectionEnd.TheVariants.{Served, Stalled, Idle}
-use Rattle.compose_hub.proofs.Turns.{closed, are_closed}
+use Rattle.compose_hub.proofs.Turns.{closed, are_both, are_closed}
 use Rattle.compose_hub.proofs.Slots.{IsAt, at_slot, in_slot, same_or, still_at_first, still_back, still_forth, all_free}
 
 -- ---- lists
@@ -70,7 +74,7 @@ not_told : (b : Bool) (e : ToldEnd) (rest : List ToldEnd) → length (cond b (e 
 not_told true e rest h = absurd (omega arith)
 not_told false e rest h = (refl, h)
 
--- what holds of the ends of others holds of all, where the end of this one isn't told
+-- if the end of this connection isn't reported, what holds for the ends of all others holds for all
 pub others_ended : (P Q : ToldEnd → Type 0) (n : ℕ) → ((e : ToldEnd) → e.number == n ≡ false → P e → Q e) → (ends : List ToldEnd) → times_told n ends ≡ 0 → AllByRecursion P ends → AllByRecursion Q ends
 others_ended P Q n f [] none a = tt
 others_ended P Q n f (e ∷ ends) none a =
@@ -81,17 +85,17 @@ pub differ : (m n : ℕ) (b : Bool) → m == n ≡ b → (m ≡ n → ⊥) → m
 differ m n true e f = absurd (f (eqb-true m n e))
 differ m n false e f = e
 
--- a connection has ended so whatever else is known of its stream than the bytes that are left
+-- whether a connection has ended this way depends only on the bytes that are left of its stream
 pub has_ended_on : (limits : Limits) (how : ConnectionEnd) (a b : StreamState) (state : ConnectionState) → b.left ≡ a.left → HasEnded limits how a state → HasEnded limits how b state
 has_ended_on limits (Served end) a b state e h = (h.0, h.1, subst (λ (l : Option (List ℕ)). EndsSo end l h.0 h.1 state) (sym e) h.2)
 has_ended_on limits Stalled a b state e h = h
 has_ended_on limits Idle a b state e h = h
 
--- ---- where nothing happens
+-- ---- when nothing happens
 
-module _ (limits : Limits) (reading : Reading) (first : World) (state : ServiceState) (streams streams' : ℕ → StreamState) (told : Option (List ToldEnd)) (stay : BytesStay streams streams') where
-  -- where all streams stay, what happened so far is as before
-  abbrev pub serves_stay : ServesMany limits reading first (world state streams told) → ServesMany limits reading first (world state streams' told)
+module _ (limits : Limits) (reading : Reading) (first : World) (state : OwnedService) (streams streams' : ℕ → StreamState) (told : Option (List ToldEnd)) (stay : BytesStay streams streams') where
+  -- if all streams stay, what happened so far is as before
+  abbrev pub serves_stay : ServesMany limits reading first (world state.service streams told) → ServesMany limits reading first (world state.service streams' told)
   serves_stay s = record {
     all = s.all;
     after = s.after;
@@ -106,6 +110,8 @@ module _ (limits : Limits) (reading : Reading) (first : World) (state : ServiceS
     ended =
         all_map (λ (e : ToldEnd). HasEnded limits e.how (streams e.number) (s.after e.number)) (λ (e : ToldEnd). HasEnded limits e.how (streams' e.number) (s.after e.number))
         (λ e h. has_ended_on limits e.how (streams e.number) (streams' e.number) (s.after e.number) (stay e.number).0 h) s.ends s.ended;
+    closed = s.closed;
+    others = s.others;
   }
 
   module _ (accepted accepted' : ℕ) (slots now : List (Option Client)) (same : accepted' ≡ accepted) (still : AllAreStill slots now) where
@@ -115,8 +121,8 @@ module _ (limits : Limits) (reading : Reading) (first : World) (state : ServiceS
     served_forth : (n : ℕ) → IsServed slots n → IsServed now n
     served_forth n h = let p = still_forth (get_or slots h.0 None) (get_or now h.0 None) h.1 (still h.0) h.2 in (h.0, p.0, p.1, p.2.0 ∙ h.3)
 
-    -- and where also no further connection is accepted and all clients are still, what was true stays true
-    pub still_so_far : ServedSoFar limits reading first (world state streams told) accepted slots → ServedSoFar limits reading first (world state streams' told) accepted' now
+    -- and if also no further connection is accepted and all clients are unchanged, what was true stays true
+    pub still_so_far : ServedSoFar limits reading first (at_now state streams told) accepted slots → ServedSoFar limits reading first (at_now state streams' told) accepted' now
     still_so_far s = record {
       so_far = serves_stay s.so_far;
       within = (let within = s.within in omega arith);
@@ -131,13 +137,16 @@ module _ (limits : Limits) (reading : Reading) (first : World) (state : ServiceS
       untold = λ n past. s.untold n (omega arith);
       served = λ n h. s.served n (served_back n h);
       ended = λ n some le. elim (s.ended n some (omega arith)) [ inl h ↦ inl (served_forth n h) | inr e ↦ inr e ];
+      owners = s.owners;
+      none_closed = s.none_closed;
     }
 
 -- ---- the turns of a client
 
-module _ (limits : Limits) (reading : Reading) (first : World) (old new : ServiceState) (streams streams' : ℕ → StreamState) (told : Option (List ToldEnd)) (accepted : ℕ) (slots : List (Option Client))
-    (s : ServedSoFar limits reading first (world old streams told) accepted slots) (key : ℕ) (lt : key < length slots) (c : Client) (here : IsIn slots key c) (events : List Event) (state : ConnectionState)
-    (are : AreTurns limits.unsent reading old new c.number streams streams' c.connection state events) where
+module _ (limits : Limits) (reading : Reading) (first : World) (old new : OwnedService) (streams streams' : ℕ → StreamState) (told : Option (List ToldEnd)) (accepted : ℕ) (slots : List (Option Client))
+    (s : ServedSoFar limits reading first (at_now old streams told) accepted slots) (key : ℕ) (lt : key < length slots) (c : Client) (here : IsIn slots key c) (events : List Event) (state : ConnectionState)
+    (are : AreTurns limits.unsent reading old.service new.service c.number streams streams' c.connection state events) (owners : new.owners ≡ owners_by c.number old.owners (exchanges events))
+    (at_own : ClosedNone c.number (s.so_far.all ++ numbered c.number events) ⊎ ClosedAtEnd limits.own_sessions c.number (s.so_far.all ++ numbered c.number events)) where
   abbrev after : ℕ → ConnectionState
   after n = cond (c.number == n) state (s.so_far.after n)
 
@@ -150,17 +159,31 @@ module _ (limits : Limits) (reading : Reading) (first : World) (old new : Servic
   pub own_untold : times_told c.number s.so_far.ends ≡ 0
   own_untold = s.served c.number (key, c, here, refl)
 
+  abbrev pub all_turned : List NumberedEvent
+  all_turned = s.so_far.all ++ numbered c.number events
+
+  owners_turned : new.owners ≡ owners_of all_turned
+  owners_turned = owners ∙ ap (λ (o : List Owner). owners_by c.number o (exchanges events)) s.owners ∙ sym (owners_more c.number s.so_far.all events)
+
+  -- the sessions that were closed for each connection, once this one had its turns
+  pub others_turned : (n : ℕ) (b : Bool) → c.number == n ≡ b → ClosedNone n all_turned ⊎ ClosedAtEnd limits.own_sessions n all_turned
+  others_turned n true e = subst (λ (m : ℕ). ClosedNone m all_turned ⊎ ClosedAtEnd limits.own_sessions m all_turned) (eqb-true c.number n e) at_own
+  others_turned n false e = elim (s.so_far.others n) [
+    | inl none ↦ inl (none_closed_other c.number s.so_far.all events n e none)
+    | inr h ↦ inr (closed_other c.number s.so_far.all events limits.own_sessions n e h)
+  ]
+
   -- what happened so far, and these turns
-  abbrev pub serves_turned : ServesMany limits reading first (world new streams' told)
+  abbrev pub serves_turned : ServesMany limits reading first (world new.service streams' told)
   serves_turned = record {
     all = s.so_far.all ++ numbered c.number events;
     after = after;
     streamed =
-        streamed_one_after_another (max limits.unsent 1) reading first.service old new (λ n. new_connection) s.so_far.after after first.streams streams streams' s.so_far.all (numbered c.number events) s.so_far.streamed
-        (turns_are_streamed (max limits.unsent 1) reading old new s.so_far.after after streams streams' events c.number
-        (subst (λ (t : ConnectionState). IsTurn (max limits.unsent 1) reading old new t (after c.number) (streams c.number).left (streams' c.number).left (streams c.number).written (streams' c.number).written events)
+        streamed_one_after_another (max limits.unsent 1) reading first.service old.service new.service (λ n. new_connection) s.so_far.after after first.streams streams streams' s.so_far.all (numbered c.number events) s.so_far.streamed
+        (turns_are_streamed (max limits.unsent 1) reading old.service new.service s.so_far.after after streams streams' events c.number
+        (subst (λ (t : ConnectionState). IsTurn (max limits.unsent 1) reading old.service new.service t (after c.number) (streams c.number).left (streams' c.number).left (streams c.number).written (streams' c.number).written events)
         (s.each key c here)
-        (subst (λ (t : ConnectionState). IsTurn (max limits.unsent 1) reading old new c.connection t (streams c.number).left (streams' c.number).left (streams c.number).written (streams' c.number).written events)
+        (subst (λ (t : ConnectionState). IsTurn (max limits.unsent 1) reading old.service new.service c.connection t (streams c.number).left (streams' c.number).left (streams c.number).written (streams' c.number).written events)
         (sym after_own) are.turn))
         (λ d ne. after_other d (differ c.number d (c.number == d) refl (λ same. ne (sym same)))) are.others);
     numbered =
@@ -173,12 +196,17 @@ module _ (limits : Limits) (reading : Reading) (first : World) (old new : Servic
         (λ e ne h. subst (λ (t : ConnectionState). HasEnded limits e.how (streams' e.number) t)
         (sym (after_other e.number (differ c.number e.number (c.number == e.number) refl (λ same. eqb-false e.number c.number ne (sym same)))))
         (subst (λ (t : StreamState). HasEnded limits e.how t (s.so_far.after e.number)) (sym (are.others e.number (eqb-false e.number c.number ne))) h)) s.so_far.ends own_untold s.so_far.ended;
+    closed =
+        others_ended (λ (e : ToldEnd). ClosedAtEnd limits.own_sessions e.number s.so_far.all) (λ (e : ToldEnd). ClosedAtEnd limits.own_sessions e.number all_turned) c.number
+        (λ e ne h. closed_other c.number s.so_far.all events limits.own_sessions e.number
+        (differ c.number e.number (c.number == e.number) refl (λ same. eqb-false e.number c.number ne (sym same))) h) s.so_far.ends own_untold s.so_far.closed;
+    others = λ n. others_turned n (c.number == n) refl;
   }
 
   later_on : (n : ℕ) → accepted < n → after n ≡ new_connection
   later_on n past = let le = (s.few key c here).1 in after_other n (differ c.number n (c.number == n) refl (λ same. absurd (omega arith))) ∙ s.later n past
 
-  -- the client that was at a slot, where another slot is written
+  -- the client that was in a slot, when another slot is written
   number_apart : (j : ℕ) (d : Client) → j ≢ key → IsIn slots j d → c.number == d.number ≡ false
   number_apart j d ne h = differ c.number d.number (c.number == d.number) refl (λ same. ne (s.apart j key d c h here (sym same)))
 
@@ -186,8 +214,12 @@ module _ (limits : Limits) (reading : Reading) (first : World) (old new : Servic
   is_own d h = let same : Some d ≡ Some c = sym h ∙ here in cc
 
   module _ (x : Option Client) where
-    -- where it goes on, this is true of what happened so far
-    module _ (stands : StandsAs c.number state x) where
+    -- if it goes on, this is true of what happened so far
+    module _ (none : ClosedNone c.number all_turned) (stands : StandsAs c.number state x) where
+      none_turned : (n : ℕ) (b : Bool) → c.number == n ≡ b → times_told n s.so_far.ends ≡ 0 → ClosedNone n all_turned
+      none_turned n true e h = subst (λ (m : ℕ). ClosedNone m all_turned) (eqb-true c.number n e) none
+      none_turned n false e h = none_closed_other c.number s.so_far.all events n e (s.none_closed n h)
+
       own_at : (d : Client) → x ≡ Some d → (d.number ≡ c.number) × (d.connection ≡ state)
       own_at d h =
           let same : Some stands.0 ≡ Some d = sym stands.1 ∙ h in
@@ -218,7 +250,7 @@ module _ (limits : Limits) (reading : Reading) (first : World) (old new : Servic
           (key, stands.0, in_slot slots key x lt key stands.0 (inl (refl, stands.1)), stands.2 ∙ ap (λ (t : Client). t.number) (sym is) ∙ e)
       still_served n j d e h (inr ne) = (j, d, in_slot slots key x lt j d (inr (ne, h)), e)
 
-      client_turned : ServedSoFar limits reading first (world new streams' told) accepted (set slots key x)
+      client_turned : ServedSoFar limits reading first (at_now new streams' told) accepted (set slots key x)
       client_turned = record {
         so_far = serves_turned;
         within = s.within;
@@ -229,10 +261,12 @@ module _ (limits : Limits) (reading : Reading) (first : World) (old new : Servic
         untold = s.untold;
         served = λ n h. served_at n h.0 h.1 h.3 (at_slot slots key x lt h.0 h.1 h.2);
         ended = λ n some le. elim (s.ended n some le) [ inl h ↦ inl (still_served n h.0 h.1 h.3 h.2 (same_or h.0 key (h.0 == key) refl)) | inr e ↦ inr e ];
+        owners = owners_turned;
+        none_closed = λ n h. none_turned n (c.number == n) refl h;
       }
 
-    -- where it ended and that is told, its slot is empty, and this is true
-    module _ (empty : x ≡ None) (how : ConnectionEnd) (has_ended : HasEnded limits how (streams' c.number) state) (told' : Option (List ToldEnd))
+    -- if it ended and that is reported, its slot is empty, and this is true
+    module _ (at_end : ClosedAtEnd limits.own_sessions c.number all_turned) (empty : x ≡ None) (how : ConnectionEnd) (has_ended : HasEnded limits how (streams' c.number) state) (told' : Option (List ToldEnd))
         (tells : told' ≡ told_more told (record { number = c.number; how = how } ∷ [])) where
       abbrev end : ToldEnd
       end = record { number = c.number; how = how }
@@ -256,7 +290,7 @@ module _ (limits : Limits) (reading : Reading) (first : World) (old new : Servic
       own_told : times_told c.number ends ≡ 1
       own_told = times_more c.number s.so_far.ends end true (eq-eqb c.number c.number refl) ∙ ap (λ (m : ℕ). m + 1) own_untold
 
-      abbrev serves_ended : ServesMany limits reading first (world new streams' told')
+      abbrev serves_ended : ServesMany limits reading first (world new.service streams' told')
       serves_ended = record {
         all = serves_turned.all;
         after = after;
@@ -267,6 +301,8 @@ module _ (limits : Limits) (reading : Reading) (first : World) (old new : Servic
         ended =
             all_both (λ (e : ToldEnd). HasEnded limits e.how (streams' e.number) (after e.number)) s.so_far.ends (end ∷ []) serves_turned.ended
             (subst (λ (t : ConnectionState). HasEnded limits how (streams' c.number) t) (sym after_own) has_ended, tt);
+        closed = all_both (λ (e : ToldEnd). ClosedAtEnd limits.own_sessions e.number all_turned) s.so_far.ends (end ∷ []) serves_turned.closed (at_end, tt);
+        others = serves_turned.others;
       }
 
       gone : (n j : ℕ) (d : Client) → d.number ≡ n → IsIn slots j d → (j ≡ key) ⊎ (j ≢ key) → IsServed (set slots key x) n ⊎ (times_told n ends ≡ 1)
@@ -281,7 +317,13 @@ module _ (limits : Limits) (reading : Reading) (first : World) (old new : Servic
           (differ c.number n (c.number == n) refl (λ same. let none : times_told n s.so_far.ends ≡ 0 = subst (λ (m : ℕ). times_told m s.so_far.ends ≡ 0) same own_untold in absurd (omega arith)))
           ∙ e
 
-      client_ended : ServedSoFar limits reading first (world new streams' told') accepted (set slots key x)
+      none_ended : (n : ℕ) (b : Bool) → c.number == n ≡ b → times_told n ends ≡ 0 → ClosedNone n all_turned
+      none_ended n true e h =
+          let once : times_told n ends ≡ 1 = subst (λ (m : ℕ). times_told m ends ≡ 1) (eqb-true c.number n e) own_told in
+          absurd (omega arith)
+      none_ended n false e h = none_closed_other c.number s.so_far.all events n e (s.none_closed n (sym (once_more n e) ∙ h))
+
+      client_ended : ServedSoFar limits reading first (at_now new streams' told') accepted (set slots key x)
       client_ended = record {
         so_far = serves_ended;
         within = s.within;
@@ -295,16 +337,18 @@ module _ (limits : Limits) (reading : Reading) (first : World) (old new : Servic
             once_more n (subst (λ (m : ℕ). c.number == m ≡ false) h.3 (number_apart h.0 h.1 p.0 p.1)) ∙ s.served n (h.0, h.1, p.1, h.3);
         ended =
             λ n some le. elim (s.ended n some le) [ inl h ↦ gone n h.0 h.1 h.3 h.2 (same_or h.0 key (h.0 == key) refl) | inr e ↦ inr (told_before n e) ];
+        owners = owners_turned;
+        none_closed = λ n h. none_ended n (c.number == n) refl h;
       }
 
-  pub turned_on : (x : Option Client) → StandsAs c.number state x → ServedSoFar limits reading first (world new streams' told) accepted (set slots key x)
-  turned_on x stands = client_turned x stands
+  pub turned_on : (x : Option Client) → ClosedNone c.number all_turned → StandsAs c.number state x → ServedSoFar limits reading first (at_now new streams' told) accepted (set slots key x)
+  turned_on x none stands = client_turned x none stands
 
-  pub turned_out : (x : Option Client) → x ≡ None → (how : ConnectionEnd) → HasEnded limits how (streams' c.number) state → (told' : Option (List ToldEnd))
-      → told' ≡ told_more told (record { number = c.number; how = how } ∷ []) → ServedSoFar limits reading first (world new streams' told') accepted (set slots key x)
-  turned_out x empty how has_ended told' tells = client_ended x empty how has_ended told' tells
+  pub turned_out : (x : Option Client) → ClosedAtEnd limits.own_sessions c.number all_turned → x ≡ None → (how : ConnectionEnd) → HasEnded limits how (streams' c.number) state → (told' : Option (List ToldEnd))
+      → told' ≡ told_more told (record { number = c.number; how = how } ∷ []) → ServedSoFar limits reading first (at_now new streams' told') accepted (set slots key x)
+  turned_out x at_end empty how has_ended told' tells = client_ended x at_end empty how has_ended told' tells
 
--- where both tests together hold, each does
+-- if both tests together hold, each does
 pub both_hold : (a b : Bool) → (a && b) ≡ true → (a ≡ true) × (b ≡ true)
 both_hold true true h = (refl, refl)
 both_hold true false h = absurd (cc)
@@ -337,7 +381,7 @@ goes_on_as limits c after state stream now ended same none stands =
     subst (λ (e : Option (ℕ × ConnectionEnd)). GoesOnOrEnds limits c after stream now e) (sym none)
     (subst (λ (s : ConnectionState). StandsAs c.number s now) same stands)
 
--- a slot after turns goes on with its connection as they left it, or its connection ended
+-- after turns, a slot goes on with its connection as they left it, or its connection ended
 slot_follows : (limits : Limits) (turn : Turn) (time : ℕ) (c : Client) (after state : ConnectionState) (stream stream' : StreamState) (now : Option Client) (ended : Option (ℕ × ConnectionEnd)) → stream'.left ≡ stream.left
     → LeavesSo turn after state stream → SlotFollows turn time c state now ended → GoesOnOrEnds limits c after stream' now ended
 slot_follows limits GoesOn time c after state stream stream' now ended same leaves h = goes_on_as limits c after state stream' now ended leaves h.0 h.1
@@ -348,9 +392,14 @@ slot_follows limits (Ends how) time c after state stream stream' now ended same 
     subst (λ (e : Option (ℕ × ConnectionEnd)). GoesOnOrEnds limits c after stream' now e) (sym h.1)
     (h.0, refl, has_ended_on limits (Served how) stream stream' after same (is_failed stream.read_mark, is_failed stream.write_mark, leaves))
 
+-- if sessions don't end with their connection, no session is closed without a request
+none_last : (ended : Option (ℕ × ConnectionEnd)) (number : ℕ) (owners : List Owner) (events : List Event) → closings events ≡ [] → ClosesLast ended false number owners events
+none_last None number owners events h = h
+none_last (Some e) number owners events h = h
+
 -- turns of the connection in a slot, if its turn was next
-pub slot_turns : (limits : Limits) (time : ℕ) (reading : Reading) (old new : ServiceState) (streams streams' : ℕ → StreamState) (before now : Option Client) (ended : Option (ℕ × ConnectionEnd))
-    → SlotTurnsSo limits.unsent time reading old new streams streams' before now ended → SlotGoesOn limits reading old new streams streams' before now ended
+pub slot_turns : (limits : Limits) (time : ℕ) (reading : Reading) (old new : OwnedService) (streams streams' : ℕ → StreamState) (before now : Option Client) (ended : Option (ℕ × ConnectionEnd))
+    → SlotTurnsSo limits.unsent time reading old new streams streams' before now ended → SlotGoesOn false limits reading old new streams streams' before now ended
 slot_turns limits time reading old new streams streams' before now ended (inl p) = inl (p.0, p.1, p.2, p.3)
 slot_turns limits time reading old new streams streams' before now ended (inr p) =
     let c = p.0 in
@@ -362,16 +411,18 @@ slot_turns limits time reading old new streams streams' before now ended (inr p)
       p.1,
       t.0,
       t.1,
-      are_closed limits.unsent reading old new c.number streams between streams' c.connection t.1 t.0 t.2 kept,
+      are_closed limits.unsent reading old.service new.service c.number streams between streams' c.connection t.1 t.0 t.2 kept,
       slot_follows limits p.3 time c t.1 p.4 (between c.number) (streams' c.number) now ended kept.left t.5 p.8,
+      t.8,
+      none_last ended c.number old.owners t.0 t.7,
     )
 
--- a connection that is idle is so where connections may not be
+-- a connection can be idle only if there is a limit on that
 idle_is_some : (idle : Option ℕ) (time : ℕ) (c : Client) → is_idle idle time c ≡ true → IsSome idle
 idle_is_some None time c h = absurd (cc)
 idle_is_some (Some seconds) time c h = refl
 
--- the cause of an end, by what holds then
+-- the state of a connection at each cause of its end
 module _ (limits : Limits) (time : ℕ) (c : Client) (stream : StreamState) where
   is_much : is_stalled time c ≡ true → max_held ≤ length c.connection.held
   is_much h =
@@ -393,8 +444,8 @@ module _ (limits : Limits) (time : ℕ) (c : Client) (stream : StreamState) wher
   ended_because others how h = by_stalled others (others && is_stalled time c) how refl h
 
 -- the end of the connection in a slot, if there was a cause
-pub slot_gives_up : (limits : Limits) (others : Bool) (time : ℕ) (reading : Reading) (state : ServiceState) (streams streams' : ℕ → StreamState) (before now : Option Client) (ended : Option (ℕ × ConnectionEnd))
-    → SlotGivesUp limits.idle others time streams streams' before now ended → SlotGoesOn limits reading state state streams streams' before now ended
+pub slot_gives_up : (limits : Limits) (others : Bool) (time : ℕ) (reading : Reading) (state : OwnedService) (streams streams' : ℕ → StreamState) (before now : Option Client) (ended : Option (ℕ × ConnectionEnd))
+    → SlotGivesUp limits.idle others time streams streams' before now ended → SlotGoesOn false limits reading state state streams streams' before now ended
 slot_gives_up limits others time reading state streams streams' before now None p = inl (refl, p.0, p.1, refl)
 slot_gives_up limits others time reading state streams streams' before now (Some e) p =
     let c = p.0 in
@@ -403,19 +454,65 @@ slot_gives_up limits others time reading state streams streams' before now (Some
       p.1,
       [],
       c.connection,
-      closed limits.unsent reading state c.number streams streams' c.connection p.5,
+      closed limits.unsent reading state.service c.number streams streams' c.connection p.5,
       (p.3, p.4, ended_because limits time c (streams' c.number) others e.1 p.2),
+      refl,
+      refl,
     )
 
--- the end was told, if there was one
+-- ---- the sessions of a connection that ended
+
+module _ (limits : Limits) (reading : Reading) (old mid new : OwnedService) (streams streams' : ℕ → StreamState) (before now : Option Client) where
+  -- Closes after the turns of a connection that ended
+  closes_more : (e : ℕ × ConnectionEnd) → ClosesAfter (Some e) true reading mid new → SlotGoesOn false limits reading old mid streams streams' before now (Some e)
+      → SlotGoesOn true limits reading old new streams streams' before now (Some e)
+  closes_more e q (inl p) = let no = p.3 in absurd (cc)
+  closes_more e q (inr p) =
+      let c = p.0 in
+      let h = q.0 in
+      let number : e.0 ≡ c.number = p.5.1 in
+      let own : ClosesOwn c.number mid.owners h = subst (λ (n : ℕ). ClosesOwn n mid.owners h) number q.1 in
+      let owners : new.owners ≡ owners_by c.number mid.owners h = q.3 ∙ ap (λ (n : ℕ). owners_by n mid.owners h) number in
+      inr (
+        c,
+        p.1,
+        p.2 ++ map closes h,
+        p.3,
+        are_both limits.unsent reading old.service mid.service new.service c.number streams streams' streams' c.connection p.3 p.3 p.2 (map closes h) p.4
+            (record {
+              turn = turn_closed (max limits.unsent 1) reading mid.service new.service c.number mid.owners p.3 (streams' c.number).left (streams' c.number).written h own q.2;
+              others = λ d ne. refl;
+            }),
+        p.5,
+        owners ∙ ap (λ (o : List Owner). owners_by c.number o h) p.6 ∙ ap (λ (g : List Exchange). owners_by c.number (owners_by c.number old.owners (exchanges p.2)) g) (sym (exchanges_closed h))
+            ∙ sym (owners_both c.number old.owners p.2 (map closes h)),
+        (p.2, h, refl, p.7, subst (λ (o : List Owner). ClosesOwn c.number o h) p.6 own),
+      )
+
+  -- nothing more
+  closes_none : (own : Bool) (ended : Option (ℕ × ConnectionEnd)) → ((number : ℕ) (owners : List Owner) (events : List Event) → ClosesLast ended false number owners events → ClosesLast ended own number owners events)
+      → new ≡ mid → SlotGoesOn false limits reading old mid streams streams' before now ended → SlotGoesOn own limits reading old new streams streams' before now ended
+  closes_none own ended f same (inl p) = inl (same ∙ p.0, p.1, p.2, p.3)
+  closes_none own ended f same (inr p) =
+      subst (λ (t : OwnedService). SlotGoesOn own limits reading old t streams streams' before now ended) (sym same)
+      (inr (p.0, p.1, p.2, p.3, p.4, p.5, p.6, f p.0.number old.owners p.2 p.7))
+
+  -- the slot of a connection; if it ended and its sessions end with it, these were closed
+  pub slot_closes : (own : Bool) (ended : Option (ℕ × ConnectionEnd)) → ClosesAfter ended own reading mid new → SlotGoesOn false limits reading old mid streams streams' before now ended
+      → SlotGoesOn own limits reading old new streams streams' before now ended
+  slot_closes true (Some e) q h = closes_more e q h
+  slot_closes false (Some e) q h = closes_none false (Some e) (λ n o es l. l) q h
+  slot_closes own None q h = closes_none own None (λ n o es l. l) q h
+
+-- the end was reported, if there was one
 abbrev pub Tells : Option (List ToldEnd) → Option (List ToldEnd) → Option (ℕ × ConnectionEnd) → Type 0
 Tells told told' ended = TellsEnd {X = Unit {0}} {Y = Unit {0}} told told' ended (Ok tt)
 
--- there was one, and it wasn't told
+-- there was an end, and it wasn't reported
 abbrev pub NotTold : Option (List ToldEnd) → Option (List ToldEnd) → Option (ℕ × ConnectionEnd) → Type 0
 NotTold told told' ended = TellsEnd {X = Unit {0}} {Y = Unit {0}} told told' ended (Err tt)
 
--- what was told is told whatever it gives, and so is what wasn't
+-- whether an end was reported doesn't depend on the values of the result
 pub tells : (X Y : Type 0) (x : X) (told told' : Option (List ToldEnd)) (ended : Option (ℕ × ConnectionEnd)) → TellsEnd {X = X} {Y = Y} told told' ended (Ok x) → Tells told told' ended
 tells X Y x told told' None h = h
 tells X Y x told told' (Some e) h = h
@@ -424,49 +521,65 @@ pub not_told_end : (X Y : Type 0) (y : Y) (told told' : Option (List ToldEnd)) (
 not_told_end X Y y told told' None h = absurd h
 not_told_end X Y y told told' (Some e) h = h
 
-module _ (limits : Limits) (reading : Reading) (first : World) (old new : ServiceState) (streams streams' : ℕ → StreamState) (told told' : Option (List ToldEnd)) (accepted : ℕ) (slots : List (Option Client))
-    (s : ServedSoFar limits reading first (world old streams told) accepted slots) (key : ℕ) (x : Option Client) (lt : key < length slots) where
-  same_slots : AllStay streams streams' → new ≡ old → x ≡ get_or slots key None → told' ≡ told → ServedSoFar limits reading first (world new streams' told') accepted (set slots key x)
+-- the sessions that were closed once this connection had its turns, or ended
+closed_then : (own : Bool) (number : ℕ) (owners : List Owner) (all : List NumberedEvent) (events : List Event) (e : ℕ × ConnectionEnd) → owners ≡ owners_of all → ClosedNone number all
+    → ClosesLast (Some e) own number owners events → ClosedAtEnd own number (all ++ numbered number events)
+closed_then true number owners all events e same none h =
+    subst (λ (es : List Event). ClosedAtEnd true number (all ++ numbered number es)) (sym h.2)
+    (ended_own number all h.0 h.1 none h.3 (subst (λ (o : List Owner). ClosesOwn number (owners_by number o (exchanges h.0)) h.1) same h.4))
+closed_then false number owners all events e same none h = none_closed_own number all events none h
+
+module _ (limits : Limits) (reading : Reading) (first : World) (old new : OwnedService) (streams streams' : ℕ → StreamState) (told told' : Option (List ToldEnd)) (accepted : ℕ) (slots : List (Option Client))
+    (s : ServedSoFar limits reading first (at_now old streams told) accepted slots) (key : ℕ) (x : Option Client) (lt : key < length slots) where
+  same_slots : AllStay streams streams' → new ≡ old → x ≡ get_or slots key None → told' ≡ told → ServedSoFar limits reading first (at_now new streams' told') accepted (set slots key x)
   same_slots stay e same t =
-      subst (λ (now : List (Option Client)). ServedSoFar limits reading first (world new streams' told') accepted now) (sym (ap (λ (o : Option Client). set slots key o) same ∙ set-get_or slots key None))
-      (subst (λ (state : ServiceState). ServedSoFar limits reading first (world state streams' told') accepted slots) (sym e)
-      (subst (λ (r : Option (List ToldEnd)). ServedSoFar limits reading first (world old streams' r) accepted slots) (sym t)
+      subst (λ (now : List (Option Client)). ServedSoFar limits reading first (at_now new streams' told') accepted now) (sym (ap (λ (o : Option Client). set slots key o) same ∙ set-get_or slots key None))
+      (subst (λ (state : OwnedService). ServedSoFar limits reading first (at_now state streams' told') accepted slots) (sym e)
+      (subst (λ (r : Option (List ToldEnd)). ServedSoFar limits reading first (at_now old streams' r) accepted slots) (sym t)
       (still_so_far limits reading first old streams streams' told (stays streams streams' stay) accepted accepted slots slots refl (still_at_first slots) s)))
 
-  goes_on : (ended : Option (ℕ × ConnectionEnd)) → Tells told told' ended → SlotGoesOn limits reading old new streams streams' (get_or slots key None) x ended
-      → ServedSoFar limits reading first (world new streams' told') accepted (set slots key x)
+  -- no session was closed for a connection that is served
+  none_own : (c : Client) → IsIn slots key c → ClosedNone c.number s.so_far.all
+  none_own c here = s.none_closed c.number (s.served c.number (key, c, here, refl))
+
+  goes_on : (ended : Option (ℕ × ConnectionEnd)) → Tells told told' ended → SlotGoesOn limits.own_sessions limits reading old new streams streams' (get_or slots key None) x ended
+      → ServedSoFar limits reading first (at_now new streams' told') accepted (set slots key x)
   goes_on None t (inl p) = same_slots p.1 p.0 p.2 t
   goes_on None t (inr p) =
-      subst (λ (r : Option (List ToldEnd)). ServedSoFar limits reading first (world new streams' r) accepted (set slots key x)) (sym t)
-      (turned_on limits reading first old new streams streams' told accepted slots s key lt p.0 p.1 p.2 p.3 p.4 x p.5)
+      let none = none_closed_own p.0.number s.so_far.all p.2 (none_own p.0 p.1) p.7 in
+      subst (λ (r : Option (List ToldEnd)). ServedSoFar limits reading first (at_now new streams' r) accepted (set slots key x)) (sym t)
+      (turned_on limits reading first old new streams streams' told accepted slots s key lt p.0 p.1 p.2 p.3 p.4 p.6 (inl none) x none p.5)
   goes_on (Some e) t (inl p) = let no = p.3 in absurd (cc)
   goes_on (Some e) t (inr p) =
-      turned_out limits reading first old new streams streams' told accepted slots s key lt p.0 p.1 p.2 p.3 p.4 x p.5.0 e.1 p.5.2 told'
+      let at_end = closed_then limits.own_sessions p.0.number old.owners s.so_far.all p.2 e s.owners (none_own p.0 p.1) p.7 in
+      turned_out limits reading first old new streams streams' told accepted slots s key lt p.0 p.1 p.2 p.3 p.4 p.6 (inr at_end) x at_end p.5.0 e.1 p.5.2 told'
       (t ∙ ap (λ (n : ℕ). told_more told (record { number = n; how = e.1 } ∷ [])) p.5.1)
 
-  fails : (ended : Option (ℕ × ConnectionEnd)) → NotTold told told' ended → SlotGoesOn limits reading old new streams streams' (get_or slots key None) x ended
-      → ServesMany limits reading first (world new streams' told')
+  fails : (ended : Option (ℕ × ConnectionEnd)) → NotTold told told' ended → SlotGoesOn limits.own_sessions limits reading old new streams streams' (get_or slots key None) x ended
+      → ServesMany limits reading first (world new.service streams' told')
   fails None t h = absurd t
   fails (Some e) t (inl p) = let no = p.3 in absurd (cc)
   fails (Some e) t (inr p) =
-      subst (λ (r : Option (List ToldEnd)). ServesMany limits reading first (world new streams' r)) (sym t)
-      (serves_turned limits reading first old new streams streams' told accepted slots s key lt p.0 p.1 p.2 p.3 p.4)
+      let at_end = closed_then limits.own_sessions p.0.number old.owners s.so_far.all p.2 e s.owners (none_own p.0 p.1) p.7 in
+      subst (λ (r : Option (List ToldEnd)). ServesMany limits reading first (world new.service streams' r)) (sym t)
+      (serves_turned limits reading first old new streams streams' told accepted slots s key lt p.0 p.1 p.2 p.3 p.4 p.6 (inr at_end))
 
-  module _ (d : Option Client) (ended : Option (ℕ × ConnectionEnd)) (h : SlotGoesOn limits reading old new streams streams' (get_or slots key d) x ended) where
-    at_none : SlotGoesOn limits reading old new streams streams' (get_or slots key None) x ended
-    at_none = subst (λ (o : Option Client). SlotGoesOn limits reading old new streams streams' o x ended) (get_or_default slots key d None lt) h
+  module _ (d : Option Client) (ended : Option (ℕ × ConnectionEnd)) (h : SlotGoesOn limits.own_sessions limits reading old new streams streams' (get_or slots key d) x ended) where
+    at_none : SlotGoesOn limits.own_sessions limits reading old new streams streams' (get_or slots key None) x ended
+    at_none = subst (λ (o : Option Client). SlotGoesOn limits.own_sessions limits reading old new streams streams' o x ended) (get_or_default slots key d None lt) h
 
-    -- once the connection in a slot had its turns and its end was told, what happened so far is what happened before and these turns
-    pub slot_goes_on : Tells told told' ended → ServedSoFar limits reading first (world new streams' told') accepted (set slots key x)
+    -- once the connection in a slot had its turns and its end was reported, what happened so far is what happened
+    -- before, followed by these turns
+    pub slot_goes_on : Tells told told' ended → ServedSoFar limits reading first (at_now new streams' told') accepted (set slots key x)
     slot_goes_on t = goes_on ended t at_none
 
-    -- where its end couldn't be told, nothing more was told
-    pub slot_fails : NotTold told told' ended → ServesMany limits reading first (world new streams' told')
+    -- if its end couldn't be reported, no further end was reported
+    pub slot_fails : NotTold told told' ended → ServesMany limits reading first (world new.service streams' told')
     slot_fails t = fails ended t at_none
 
 -- ---- a further connection
 
-module _ (limits : Limits) (reading : Reading) (first now : World) (accepted : ℕ) (slots : List (Option Client)) (key : ℕ) (x : Option Client) (lt : key < length slots)
+module _ (limits : Limits) (reading : Reading) (first : World) (now : Now) (accepted : ℕ) (slots : List (Option Client)) (key : ℕ) (x : Option Client) (lt : key < length slots)
     (s : ServedSoFar limits reading first now accepted slots) (below : accepted < limits.connections) (free : get_or slots key None ≡ None) (stands : StandsAs (accepted + 1) new_connection x) where
   new_at : (d : Client) → x ≡ Some d → (d.number ≡ accepted + 1) × (d.connection ≡ new_connection)
   new_at d h =
@@ -515,26 +628,28 @@ module _ (limits : Limits) (reading : Reading) (first now : World) (accepted : �
     untold = λ n past. s.untold n (omega arith);
     served = λ n h. more_served n h.0 h.1 h.3 (at_slot slots key x lt h.0 h.1 h.2);
     ended = λ n some le. more_ended n some (last_or n le);
+    owners = s.owners;
+    none_closed = s.none_closed;
   }
 
-module _ (limits : Limits) (reading : Reading) (first : World) (state : ServiceState) (streams streams' : ℕ → StreamState) (told : Option (List ToldEnd)) (accepted accepted' : ℕ) (slots : List (Option Client))
-    (key : ℕ) (slot x : Option Client) (lt : key < length slots) (s : ServedSoFar limits reading first (world state streams told) accepted slots) (below : accepted < limits.connections) (free : slot ≡ None)
+module _ (limits : Limits) (reading : Reading) (first : World) (state : OwnedService) (streams streams' : ℕ → StreamState) (told : Option (List ToldEnd)) (accepted accepted' : ℕ) (slots : List (Option Client))
+    (key : ℕ) (slot x : Option Client) (lt : key < length slots) (s : ServedSoFar limits reading first (at_now state streams told) accepted slots) (below : accepted < limits.connections) (free : slot ≡ None)
     (here : slot ≡ get_or slots key slot) (stay : BytesStay streams streams') where
   at_key : get_or slots key None ≡ slot
   at_key = sym (here ∙ get_or_default slots key slot None lt)
 
-  before : ServedSoFar limits reading first (world state streams' told) accepted slots
+  before : ServedSoFar limits reading first (at_now state streams' told) accepted slots
   before = still_so_far limits reading first state streams streams' told stay accepted accepted slots slots refl (still_at_first slots) s
 
-  -- once it was tried to accept a connection into a free slot
-  pub slot_accepted : AcceptsSo accepted accepted' slot x → ServedSoFar limits reading first (world state streams' told) accepted' (set slots key x)
+  -- after an attempt to accept a connection into a free slot
+  pub slot_accepted : AcceptsSo accepted accepted' slot x → ServedSoFar limits reading first (at_now state streams' told) accepted' (set slots key x)
   slot_accepted (inl p) =
-      subst (λ (n : ℕ). ServedSoFar limits reading first (world state streams' told) n (set slots key x)) (sym p.0)
-      (subst (λ (now : List (Option Client)). ServedSoFar limits reading first (world state streams' told) accepted now)
+      subst (λ (n : ℕ). ServedSoFar limits reading first (at_now state streams' told) n (set slots key x)) (sym p.0)
+      (subst (λ (now : List (Option Client)). ServedSoFar limits reading first (at_now state streams' told) accepted now)
       (sym (ap (λ (o : Option Client). set slots key o) (p.1 ∙ sym at_key) ∙ set-get_or slots key None)) before)
   slot_accepted (inr p) =
-      subst (λ (n : ℕ). ServedSoFar limits reading first (world state streams' told) n (set slots key x)) (sym p.0)
-      (one_accepted limits reading first (world state streams' told) accepted slots key x lt before below (at_key ∙ free) (subst (λ (n : ℕ). StandsAs n new_connection x) p.0 p.1))
+      subst (λ (n : ℕ). ServedSoFar limits reading first (at_now state streams' told) n (set slots key x)) (sym p.0)
+      (one_accepted limits reading first (at_now state streams' told) accepted slots key x lt before below (at_key ∙ free) (subst (λ (n : ℕ). StandsAs n new_connection x) p.0 p.1))
 
 -- ---- the start and the end
 
@@ -549,15 +664,17 @@ nothing_happened limits reading state streams told = record {
   ends = [];
   told = told_none told;
   ended = tt;
+  closed = tt;
+  others = λ n. inl refl;
 }
 
 no_client : (slots : List (Option Client)) → HasNone slots → {P : Type 0} → (key : ℕ) (c : Client) → IsIn slots key c → P
 no_client slots none key c h = let no : None ≡ Some c = sym (none key) ∙ h in absurd (cc)
 
--- where no slot has a client and none was accepted, nothing happened on any connection so far
-pub none_served : (limits : Limits) (reading : Reading) (state : ServiceState) (streams : ℕ → StreamState) (told : Option (List ToldEnd)) (accepted : ℕ) (slots : List (Option Client)) → HasNone slots → accepted ≡ 0
-    → ServedSoFar limits reading (world state streams told) (world state streams told) accepted slots
-none_served limits reading state streams told accepted slots none zero = record {
+-- if no slot has a client and none was accepted, nothing happened on any connection so far
+pub none_served : (limits : Limits) (reading : Reading) (state : ServiceState) (owners : List Owner) (streams : ℕ → StreamState) (told : Option (List ToldEnd)) (accepted : ℕ) (slots : List (Option Client))
+    → HasNone slots → accepted ≡ 0 → owners ≡ [] → ServedSoFar limits reading (world state streams told) (at_now (record { service = state; owners = owners }) streams told) accepted slots
+none_served limits reading state owners streams told accepted slots none zero no_owner = record {
   so_far = nothing_happened limits reading state streams told;
   within = omega arith;
   few = λ key c h. no_client slots none key c h;
@@ -567,10 +684,12 @@ none_served limits reading state streams told accepted slots none zero = record 
   untold = λ n past. refl;
   served = λ n h. refl;
   ended = λ n some le. absurd (omega arith);
+  owners = no_owner;
+  none_closed = λ n h. refl;
 }
 
--- where as many were accepted as were asked for and no slot has a client, each was told as ended, once
-pub all_told : (limits : Limits) (reading : Reading) (first now : World) (accepted : ℕ) (slots : List (Option Client)) → is_done limits accepted slots ≡ true
+-- if as many were accepted as were asked for and no slot has a client, each was reported as ended, once
+pub all_told : (limits : Limits) (reading : Reading) (first : World) (now : Now) (accepted : ℕ) (slots : List (Option Client)) → is_done limits accepted slots ≡ true
     → (s : ServedSoFar limits reading first now accepted slots) → EachIsTold limits.connections s.so_far.ends
 all_told limits reading first now accepted slots done s n some le =
     let both = both_hold (nat_le limits.connections accepted) (list_all is_none slots) done in

@@ -1,4 +1,4 @@
--- What is in the slots.
+-- The content of the slots.
 use Rattle.std.proofs.Common.{◌≡◌, ◌≢◌, ℕ, zero, suc, ◌<◌, List, [], ◌∷◌, ◌++◌, Bool, true, false, length, get_or, set, get_or-set_same, get_or-set_other, refl, sym, ◌∙◌, subst, inl, inr, eqb-true}
 use Rattle.std.proofs.lemmas.Bool.{eqb-false}
 use Rattle.std.specs.Prelude.{◌==◌, ◌&&◌, ◌⊎◌, Option, Some, None}
@@ -35,12 +35,12 @@ same_or j key false e = inr (eqb-false j key e)
 
 -- ---- clients that are still
 
--- a client in a slot that is still was there
+-- a client that is in an unchanged slot was there before
 pub still_back : (before now : Option Client) (d : Client) → SlotIsStill before now → now ≡ Some d → (c : Client) × (before ≡ Some c) × IsStill c d
 still_back None now d h e = let no : None ≡ Some d = sym h ∙ e in absurd (cc)
 still_back (Some c) now d h e = let same : Some h.0 ≡ Some d = sym h.1 ∙ e in let is : h.0 ≡ d = cc in (c, refl, subst (λ (t : Client). IsStill c t) is h.2)
 
--- and one that was there is there
+-- and one that was there before is there
 pub still_forth : (before now : Option Client) (c : Client) → SlotIsStill before now → before ≡ Some c → (d : Client) × (now ≡ Some d) × IsStill c d
 still_forth None now c h e = absurd (cc)
 still_forth (Some b) now c h e = let is : b ≡ c = cc in (h.0, h.1, subst (λ (t : Client). IsStill t h.0) is h.2)
@@ -84,7 +84,7 @@ is_empty None true h = (refl, refl)
 is_empty None false h = absurd (cc)
 is_empty (Some c) rest h = absurd (cc)
 
--- where all slots test as free, there is no client
+-- if all slots test as free, there is no client
 pub all_free : (slots : List (Option Client)) → list_all is_none slots ≡ true → HasNone slots
 all_free [] h zero = refl
 all_free [] h (suc key) = refl

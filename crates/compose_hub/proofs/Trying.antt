@@ -11,7 +11,7 @@ use Rattle.compose_hub.specs.declared.client.Client.{Client}
 use Rattle.compose_hub.specs.declared.client.Limits.{Limits}
 use Rattle.compose_hub.specs.declared.server.Queue.{Queue}
 
--- it was tried, or it was not yet: all that is known is as it was, and the first slots are not free
+-- there was an attempt, or not yet: then all that is known is as before, and the first slots are not free
 pub record NotYet (before now : Option ℕ) (was is : Queue) (had has : ℕ) (count : ℕ) (slots : List (Option Client)) : Type 0 where
   pub attempts : now ≡ before
   pub queue : is ≡ was
@@ -56,7 +56,7 @@ tried_not limits before now was queue had accepted i slots waits below lt unwant
     let wanted : is_wanted queue accepted limits ≡ true = both (is_waits queue) (nat_lt accepted limits.connections) (ap is_waits h.queue ∙ waits) (ap (λ (n : ℕ). nat_lt n limits.connections) h.accepted ∙ below) in
     inr (record { attempts = h.attempts; queue = h.queue; accepted = h.accepted; none_free = none_more slots i lt h.none_free (not_free (is_none (get_or slots i None)) (is_wanted queue accepted limits) unwanted wanted) })
 
--- where a slot was free it was tried
+-- if a slot was free, there was an attempt
 pub tried_all : (before now : Option ℕ) (was queue : Queue) (had accepted count : ℕ) (slots : List (Option Client)) → take count slots ≡ slots → list_any is_none slots ≡ true → Tried before now was queue had accepted count slots
     → IsMore before now
 tried_all before now was queue had accepted count slots whole free (inl h) = h

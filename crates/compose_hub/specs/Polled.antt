@@ -7,7 +7,7 @@ use Rattle.compose_many.specs.declared.streams.TryError.{TryError}
 use Rattle.compose_many.specs.declared.streams.TryError.TheVariants.{Failed}
 use Rattle.compose_hub.specs.declared.polled.PolledStream.{PolledStream}
 
--- why a stream gave or took no bytes; one that isn't open has failed
+-- why a stream read or wrote no bytes; a stream that isn't open has failed
 abbrev pub read_mark_of : Option PolledStream → Option TryError
 read_mark_of None = Some Failed
 read_mark_of (Some s) = s.read_mark
@@ -16,6 +16,6 @@ abbrev pub write_mark_of : Option PolledStream → Option TryError
 write_mark_of None = Some Failed
 write_mark_of (Some s) = s.write_mark
 
--- of the stream with a number no bytes are known
+-- the stream with a number, whose bytes are not known
 abbrev pub polled_at : {S : Type 0} → IndexMap ℕ PolledStream S → ℕ → StreamState
 polled_at streams c = record { left = None; written = None; read_mark = read_mark_of (get nat_eq streams c); write_mark = write_mark_of (get nat_eq streams c) }

@@ -1,4 +1,4 @@
--- A round of the service: what it waits for, who has room, and who gives up.
+-- A round of the service: what it waits for, who has room, and which connections it ends.
 use Rattle.std.specs.Prelude.{◌≡◌, ℕ, ◌==◌, ◌+◌, ◌-◌, ◌^◌, ◌<◌, ◌≤◌, min, Bool, true, false, ◌&&◌, ◌||◌, nat_le, nat_lt, if◌then◌else◌, List, length, get_or, count_by, Option, Some, None}
 use Rattle.std.specs.List.{list_any, list_all}
 use Rattle.std.specs.Option.{is_none}
@@ -18,14 +18,14 @@ use Rattle.compose_hub.specs.declared.sockets.Accepted.TheVariants.{Connection, 
 
 -- ---- the queue
 
--- what is known of the queue after an attempt: only where none waits is it empty
+-- what is known of the queue after an attempt: it is empty only if no connection waits
 abbrev pub queue_after : Accepted → Queue
 queue_after Connection = Waits
 queue_after GivenUp = Waits
 queue_after NoneWaits = Empty
 queue_after Fails = Failed
 
--- where none could be accepted it is tried again
+-- if none could be accepted, it is tried again
 abbrev pub retried : Queue → Queue
 retried Failed = Waits
 retried queue = queue
@@ -38,7 +38,7 @@ has_turns slots = list_any slot_has_turn slots
 abbrev pub waits_for_room : List (Option Client) → Bool
 waits_for_room slots = list_any slot_waits_for_room slots
 
--- a further connection is served where fewer were accepted than are asked for and a slot is free
+-- a further connection can be served: fewer were accepted than are asked for, and a slot is free
 abbrev pub has_slot : Limits → ℕ → List (Option Client) → Bool
 has_slot limits accepted slots = nat_lt accepted limits.connections && list_any is_none slots
 
@@ -54,17 +54,17 @@ abbrev pub is_failed_queue : Queue → Bool
 is_failed_queue Failed = true
 is_failed_queue _ = false
 
--- a further connection is accepted into a free slot where one may wait and fewer were accepted than are asked for
+-- a further connection is accepted into a free slot: one may wait, and fewer were accepted than are asked for
 abbrev pub is_wanted : Queue → ℕ → Limits → Bool
 is_wanted queue accepted limits = is_waits queue && nat_lt accepted limits.connections
 
--- of two connections, or of one, the one with the lesser number: its slot, and the number
+-- the least so far, or this slot if it has a number and that is less: the slot, and its number
 abbrev pub lesser : Option (ℕ × ℕ) → ℕ → Option ℕ → Option (ℕ × ℕ)
 lesser least key None = least
 lesser None key (Some n) = Some (key, n)
 lesser (Some w) key (Some n) = if nat_lt n w.1 then Some (key, n) else Some w
 
--- of what the first slots have as their number, this one has the least; or none has one
+-- this is the least number that one of the first slots has, with its slot; or none of them has a number
 abbrev pub LeastTo : (Option Client → Option ℕ) → List (Option Client) → ℕ → Option (ℕ × ℕ) → Type 0
 LeastTo of slots count None = (j : ℕ) → j < count → of (get_or slots j None) ≡ None
 LeastTo of slots count (Some w) = (w.0 < count) × (of (get_or slots w.0 None) ≡ Some w.1) × ((j n : ℕ) → j < count → of (get_or slots j None) ≡ Some n → w.1 ≤ n)
@@ -76,35 +76,36 @@ WaitsLongest slots (Some k) = (since : ℕ) × LeastTo waits_since slots (length
 
 -- ---- time
 
--- the time in nanoseconds, once so much more has passed; it stays within 64 bits
+-- the time in nanoseconds, once this much more has passed; it stays within 64 bits
 abbrev pub later : ℕ → ℕ → ℕ
 later time passed = min (time + passed) (2 ^ 64 - 1)
 
 -- ---- how long it waits
 
--- in so many nanoseconds the first connection is idle; or none waits for its stream
+-- the number of nanoseconds until the first connection is idle; or none waits for its stream
 abbrev pub IsNextIdle : Option ℕ → ℕ → List (Option Client) → Option ℕ → Type 0
 IsNextIdle idle time slots None = LeastTo (slot_idle_in idle time) slots (length slots) None
 IsNextIdle idle time slots (Some n) = (k : ℕ) × LeastTo (slot_idle_in idle time) slots (length slots) (Some (k, n))
 
--- the shorter of two waits, where one is no limit
+-- the shorter of two waits, where None is no limit
 abbrev pub sooner : Option ℕ → Option ℕ → Option ℕ
 sooner None wait = wait
 sooner wait None = wait
 sooner (Some m) (Some n) = Some (if nat_lt n m then n else m)
 
--- so many nanoseconds it waits at most, whoever becomes idle: not at all where a connection has its turn or one may be accepted into a slot; a
--- second where none could be accepted, a connection waits for room, or an end could not be reported; and else until something is ready
+-- the maximum wait in nanoseconds, apart from connections that become idle: 0 if a connection has its turn or one may
+-- be accepted into a slot; a second if none could be accepted, a connection waits for room, or an end could not be
+-- reported; otherwise no limit
 abbrev pub wait_for_work : Queue → Bool → Bool → Bool → Option ℕ
 wait_for_work queue slot turns waits = if turns || (is_waits queue && slot) then Some 0 else if is_failed_queue queue || waits then Some 1000000000 else None
 
 -- ---- who is ended
 
--- how a connection is ended that keeps others waiting, or the limit of time: because it is stalled, where others wait for room, or because it is idle
+-- why a connection is ended, if it is: it is stalled while others wait for room, or it is idle
 abbrev pub why_ended : Option ℕ → Bool → ℕ → Client → Option ConnectionEnd
 why_ended idle others time c = if others && is_stalled time c then Some Stalled else if is_idle idle time c then Some Idle else None
 
--- the connection in a slot is ended where there is a cause, and else nothing happened
+-- the connection in a slot is ended if there is a cause, and otherwise nothing happened
 abbrev pub SlotGivesUp : Option ℕ → Bool → ℕ → (ℕ → StreamState) → (ℕ → StreamState) → Option Client → Option Client → Option (ℕ × ConnectionEnd) → Type 0
 SlotGivesUp idle others time streams streams' before now None = AllStay streams streams' × (now ≡ before) × ((c : Client) → before ≡ Some c → why_ended idle others time c ≡ None)
 SlotGivesUp idle others time streams streams' before now (Some e) =
@@ -120,7 +121,7 @@ abbrev pub is_key : ℕ → Ready → Bool
 is_key key Listener = false
 is_key key (Key k) = k == key
 
--- where the listener is ready connections may wait
+-- if the listener is ready, connections may wait
 abbrev pub queue_with : List Ready → Queue → Queue
 queue_with ready queue = if list_any is_listener ready then Waits else queue
 
@@ -130,11 +131,11 @@ MarksReady ready before now = (key : ℕ) → get_or now key None ≡ (let slot 
 
 -- ---- room
 
--- the most connections that have room for more than their share
+-- the maximum number of connections that have room for more than their share
 abbrev pub max_rooms : ℕ
 max_rooms = 8
 
--- at most eight connections have room, and each other holds no more than its share
+-- at most eight connections have room, and each other one holds no more than its share
 pub record AreWithinRooms (slots : List (Option Client)) : Type 0 where
   pub few : count_by slot_has_room slots ≤ max_rooms
   pub fair : (key : ℕ) → slot_is_fair (get_or slots key None) ≡ true
@@ -142,7 +143,7 @@ pub record AreWithinRooms (slots : List (Option Client)) : Type 0 where
 abbrev pub KeepsRooms : List (Option Client) → List (Option Client) → Type 0
 KeepsRooms before now = AreWithinRooms before → AreWithinRooms now
 
--- a slot has room only where it had, and is fair where it was
+-- a slot has room only if it had room before, and stays fair if it was fair
 pub record KeepsRoom (before now : Option Client) : Type 0 where
   pub room : slot_has_room now ≡ true → slot_has_room before ≡ true
   pub fair : slot_is_fair before ≡ true → slot_is_fair now ≡ true

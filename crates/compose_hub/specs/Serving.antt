@@ -1,15 +1,18 @@
 -- The connections in the slots of a server, and what happened on all connections since the first.
-use Rattle.std.specs.Prelude.{◌≡◌, ◌≢◌, ◌⊎◌, ℕ, ◌+◌, ◌<◌, ◌≤◌, true, false, if◌then◌else◌, max, List, [], ◌∷◌, flat_map, get_or, Option, Some, None}
+use Rattle.std.specs.Prelude.{◌≡◌, ◌≢◌, ◌⊎◌, ℕ, ◌+◌, ◌<◌, ◌≤◌, Bool, true, false, if◌then◌else◌, max, List, [], ◌∷◌, ◌++◌, map, flat_map, get_or, Option, Some, None}
 use Rattle.std.specs.List.{AllByRecursion}
 use Rattle.compose_machine.specs.Machine.{ServiceState, Reading}
-use Rattle.compose_many.specs.Connection.{ConnectionState, new_connection, Event}
+use Rattle.compose_machine.specs.Laws.{Exchange}
+use Rattle.compose_many.specs.Connection.{ConnectionState, new_connection, Event, closes, exchanges, closings}
+use Rattle.compose_many.specs.Owners.{owners_by, owners_of, ClosesOwn, ClosesSo as SessionsCloseSo, ClosedNone, ClosedAtEnd}
+use Rattle.compose_many.specs.declared.owners.Owner.{Owner}
 use Rattle.compose_many.specs.Service.{NumberedEvent}
 use Rattle.compose_many.specs.Numbered.{StreamState, AllStreamed}
 use Rattle.compose_many.specs.declared.turn.Turn.{Turn}
 use Rattle.compose_many.specs.declared.turn.Turn.TheVariants.{Waits, NeedsRoom, Ends}
 use Rattle.compose_hub.specs.Sockets.{AllStay, KeepsBytes}
 use Rattle.compose_hub.specs.Ends.{ToldEnd, told_more, HasEnded, times_told}
-use Rattle.compose_hub.specs.Turns.{max_turns, TurnsSo, AreTurns}
+use Rattle.compose_hub.specs.Turns.{OwnedService, max_turns, TurnsSo, AreTurns}
 use Rattle.compose_hub.specs.Slots.{slot_has_turn, clients_in}
 use Rattle.compose_hub.specs.declared.client.Client.{Client}
 use Rattle.compose_hub.specs.declared.client.Limits.{Limits}
@@ -18,7 +21,7 @@ use Rattle.compose_hub.specs.declared.client.WaitsFor.TheVariants.{Turn as ForTu
 use Rattle.compose_hub.specs.declared.ends.ConnectionEnd.{ConnectionEnd}
 use Rattle.compose_hub.specs.declared.ends.ConnectionEnd.TheVariants.{Served}
 
--- the service, the streams of all connections, and what was told of those that ended
+-- the service, the streams of all connections, and the ends that were reported
 pub record World : Type 0 where
   pub service : ServiceState
   pub streams : ℕ → StreamState
@@ -31,9 +34,11 @@ world service streams told = record { service = service; streams = streams; told
 abbrev pub AreNumberedTo : ℕ → List NumberedEvent → Type 0
 AreNumberedTo last all = AllByRecursion (λ (e : NumberedEvent). (0 < e.connection) × (e.connection ≤ last)) all
 
--- everything that happened, in order, each with the number of its connection: all connections were new, the service goes on by the
--- exchanges of all of them, what each stream gave and took is what came and was sent in the events of its own connection, and
--- each connection that was told as ended has ended so
+-- everything that happened, in order, each event with the number of its connection. All connections were new, and the
+-- service goes on by the exchanges of all of them. The bytes that were read from a stream and written to it are those
+-- that came and were sent in the events of its own connection. Each connection that was reported as ended has ended in
+-- that way, and its sessions with it if they end with their connection. No session was closed for any other connection,
+-- except for one whose end could not be reported
 pub record ServesMany (limits : Limits) (reading : Reading) (first now : World) : Type 0 where
   pub all : List NumberedEvent
   pub after : ℕ → ConnectionState
@@ -42,26 +47,28 @@ pub record ServesMany (limits : Limits) (reading : Reading) (first now : World) 
   pub ends : List ToldEnd
   pub told : now.told ≡ told_more first.told ends
   pub ended : AllByRecursion (λ (e : ToldEnd). HasEnded limits e.how (now.streams e.number) (after e.number)) ends
+  pub closed : AllByRecursion (λ (e : ToldEnd). ClosedAtEnd limits.own_sessions e.number all) ends
+  pub others : (n : ℕ) → ClosedNone n all ⊎ ClosedAtEnd limits.own_sessions n all
 
--- each of the connections that were asked for was told as ended, and once
+-- each of the connections that were asked for was reported as ended, exactly once
 abbrev pub EachIsTold : ℕ → List ToldEnd → Type 0
 EachIsTold connections ends = (n : ℕ) → 0 < n → n ≤ connections → times_told n ends ≡ 1
 
--- everything that happened, where all connections that were asked for have ended
+-- everything that happened, when all connections that were asked for have ended
 abbrev pub ServesAll : Limits → Reading → World → World → Type 0
 ServesAll limits reading first now = (s : ServesMany limits reading first now) × EachIsTold limits.connections s.ends
 
 -- ---- the slots
 
--- the connection in a slot, if there is one, has this number and stands so
+-- the connection in a slot has this number and this state
 abbrev pub StandsAs : ℕ → ConnectionState → Option Client → Type 0
 StandsAs number state slot = (c : Client) × (slot ≡ Some c) × (c.number ≡ number) × (c.connection ≡ state)
 
--- a client is on the same connection, which stands as before
+-- a client is on the same connection, whose state is as before
 abbrev pub IsStill : Client → Client → Type 0
 IsStill before now = (now.number ≡ before.number) × (now.connection ≡ before.connection)
 
--- a slot has a client where it had one, and its connection stands as before
+-- a slot has a client if it had one, and the state of its connection is as before
 abbrev pub SlotIsStill : Option Client → Option Client → Type 0
 SlotIsStill None now = now ≡ None
 SlotIsStill (Some c) now = (d : Client) × (now ≡ Some d) × IsStill c d
@@ -69,30 +76,47 @@ SlotIsStill (Some c) now = (d : Client) × (now ≡ Some d) × IsStill c d
 abbrev pub AllAreStill : List (Option Client) → List (Option Client) → Type 0
 AllAreStill before now = (key : ℕ) → SlotIsStill (get_or before key None) (get_or now key None)
 
--- a slot once the next connection was accepted into it, if one could be: so many were accepted before, and so many now
+-- a slot once the next connection was accepted into it, if one could be; the numbers of accepted connections, before
+-- and after
 abbrev pub AcceptsSo : ℕ → ℕ → Option Client → Option Client → Type 0
 AcceptsSo accepted accepted' before now = ((accepted' ≡ accepted) × (now ≡ before)) ⊎ ((accepted' ≡ accepted + 1) × StandsAs accepted' new_connection now)
 
--- a client waits for this since then
+-- the client in a slot waits for this since this time
 abbrev pub WaitsSince : WaitsFor → ℕ → Option Client → Type 0
 WaitsSince waits_for time slot = (c : Client) → slot ≡ Some c → (c.waits_for ≡ waits_for) × (c.since ≡ time)
 
 -- up to this number of turns of a client are turns of its connection
-abbrev pub ClientTurnsSo : ℕ → ℕ → Reading → Turn → ServiceState → ServiceState → (ℕ → StreamState) → (ℕ → StreamState) → Client → Client → Type 0
+abbrev pub ClientTurnsSo : ℕ → ℕ → Reading → Turn → OwnedService → OwnedService → (ℕ → StreamState) → (ℕ → StreamState) → Client → Client → Type 0
 ClientTurnsSo most unsent reading turn old new streams streams' before now =
     TurnsSo most unsent reading turn old new before.number streams streams' before.connection now.connection × (now.number ≡ before.number)
 
--- the connection goes on, or it ended, its slot is empty and its end is said
+-- the connection goes on; or it ended, its slot is empty and its end is the result
 abbrev pub GoesOnOrEnds : Limits → Client → ConnectionState → StreamState → Option Client → Option (ℕ × ConnectionEnd) → Type 0
 GoesOnOrEnds limits c after stream now None = StandsAs c.number after now
 GoesOnOrEnds limits c after stream now (Some told) = (now ≡ None) × (told.0 ≡ c.number) × HasEnded limits told.1 stream after
 
--- the client in a slot has had turns, which are events of its connection, or nothing happened; its end is said, if it ended
-abbrev pub SlotGoesOn : Limits → Reading → ServiceState → ServiceState → (ℕ → StreamState) → (ℕ → StreamState) → Option Client → Option Client → Option (ℕ × ConnectionEnd) → Type 0
-SlotGoesOn limits reading old new streams streams' before now ended =
+-- if the connection with this number ended and sessions end with it, a Close was answered for each of its sessions
+-- after its last request; otherwise no session was closed without a request
+abbrev pub ClosesLast : Option (ℕ × ConnectionEnd) → Bool → ℕ → List Owner → List Event → Type 0
+ClosesLast (Some e) true number owners events =
+    (before : List Event) × (h : List Exchange) × (events ≡ before ++ map closes h) × (closings before ≡ []) × ClosesOwn number (owners_by number owners (exchanges before)) h
+ClosesLast (Some e) false number owners events = closings events ≡ []
+ClosesLast None own number owners events = closings events ≡ []
+
+-- a Close is answered for each session of a connection that ended, if sessions end with it; otherwise nothing happens
+abbrev pub ClosesAfter : Option (ℕ × ConnectionEnd) → Bool → Reading → OwnedService → OwnedService → Type 0
+ClosesAfter (Some e) true reading old new = SessionsCloseSo e.0 old.owners new.owners reading old.service new.service
+ClosesAfter (Some e) false reading old new = new ≡ old
+ClosesAfter None own reading old new = new ≡ old
+
+-- the client in a slot has had turns, which are events of its connection, or nothing happened. If it ended, its end is
+-- the result, and its sessions are closed if they end with it
+abbrev pub SlotGoesOn : Bool → Limits → Reading → OwnedService → OwnedService → (ℕ → StreamState) → (ℕ → StreamState) → Option Client → Option Client → Option (ℕ × ConnectionEnd) → Type 0
+SlotGoesOn own limits reading old new streams streams' before now ended =
     ((new ≡ old) × AllStay streams streams' × (now ≡ before) × (ended ≡ None))
     ⊎ ((c : Client) × (before ≡ Some c) × (events : List Event) × (after : ConnectionState)
-    × AreTurns limits.unsent reading old new c.number streams streams' c.connection after events × GoesOnOrEnds limits c after (streams' c.number) now ended)
+    × AreTurns limits.unsent reading old.service new.service c.number streams streams' c.connection after events × GoesOnOrEnds limits c after (streams' c.number) now ended
+    × (new.owners ≡ owners_by c.number old.owners (exchanges events)) × ClosesLast ended own c.number old.owners events)
 
 -- what a connection waits for after its turns
 abbrev pub waits_after : Turn → WaitsFor
@@ -100,19 +124,19 @@ waits_after Waits = ForStream
 waits_after NeedsRoom = ForRoom
 waits_after _ = ForTurn
 
--- the slot of a connection after its turns: it goes on as they leave it and waits from this time on as the last one demands, or it ended, and its
--- end is the result
+-- the slot of a connection after its turns: the connection goes on as they leave it, and waits from this time on for
+-- what the last one demands; or it ended, and its end is the result
 abbrev pub SlotFollows : Turn → ℕ → Client → ConnectionState → Option Client → Option (ℕ × ConnectionEnd) → Type 0
 SlotFollows (Ends end) time c state now ended = (now ≡ None) × (ended ≡ Some (c.number, Served end))
 SlotFollows turn time c state now ended = (ended ≡ None) × StandsAs c.number state now × WaitsSince (waits_after turn) time now
 
--- the stream of a connection is closed where it ended, and else all streams stay
+-- the stream of a connection is closed if the connection ended; otherwise all streams stay
 abbrev pub ClosesSo : Turn → ℕ → (ℕ → StreamState) → (ℕ → StreamState) → Type 0
 ClosesSo (Ends end) number streams streams' = KeepsBytes number streams streams'
 ClosesSo _ number streams streams' = AllStay streams streams'
 
--- the client in a slot has had its turns if its turn was next, and else nothing happened; this is the time then
-abbrev pub SlotTurnsSo : ℕ → ℕ → Reading → ServiceState → ServiceState → (ℕ → StreamState) → (ℕ → StreamState) → Option Client → Option Client → Option (ℕ × ConnectionEnd) → Type 0
+-- the client in a slot has had its turns, if its turn was next, and otherwise nothing happened; this is the time then
+abbrev pub SlotTurnsSo : ℕ → ℕ → Reading → OwnedService → OwnedService → (ℕ → StreamState) → (ℕ → StreamState) → Option Client → Option Client → Option (ℕ × ConnectionEnd) → Type 0
 SlotTurnsSo unsent time reading old new streams streams' before now ended =
     ((new ≡ old) × AllStay streams streams' × (now ≡ before) × (ended ≡ None) × (slot_has_turn before ≡ false))
     ⊎ ((c : Client) × (before ≡ Some c) × (slot_has_turn before ≡ true) × (turn : Turn) × (state : ConnectionState) × (between : ℕ → StreamState)
@@ -124,19 +148,25 @@ SlotTurnsSo unsent time reading old new streams streams' before now ended =
 abbrev pub with_turn : List (Option Client) → List Client
 with_turn slots = flat_map (λ slot. if slot_has_turn slot then clients_in slot else []) slots
 
--- each of these clients has its turns, one after another, and is closed where it ended; nothing else happens
-abbrev pub AreRound : ℕ → Reading → ServiceState → ServiceState → (ℕ → StreamState) → (ℕ → StreamState) → List Client → Type 0
-AreRound unsent reading old new streams streams' [] = (new ≡ old) × AllStay streams streams'
-AreRound unsent reading old new streams streams' (c ∷ clients) =
-    (turn : Turn) × (state : ConnectionState) × (mid : ServiceState) × (between : ℕ → StreamState) × (closed : ℕ → StreamState)
-    × TurnsSo max_turns unsent reading turn old mid c.number streams between c.connection state × ClosesSo turn c.number between closed
-    × AreRound unsent reading mid new closed streams' clients
+-- how a connection ended by its last turn, if it did
+abbrev pub end_of : ℕ → Turn → Option (ℕ × ConnectionEnd)
+end_of number (Ends end) = Some (number, Served end)
+end_of number _ = None
 
--- the client that is in a slot
+-- each of these clients has its turns, one after another; if its connection ended, its stream is closed, and its
+-- sessions too if they end with it; nothing else happens
+abbrev pub AreRound : Bool → ℕ → Reading → OwnedService → OwnedService → (ℕ → StreamState) → (ℕ → StreamState) → List Client → Type 0
+AreRound own unsent reading old new streams streams' [] = (new ≡ old) × AllStay streams streams'
+AreRound own unsent reading old new streams streams' (c ∷ clients) =
+    (turn : Turn) × (state : ConnectionState) × (mid : OwnedService) × (between : ℕ → StreamState) × (closed : ℕ → StreamState)
+    × TurnsSo max_turns unsent reading turn old mid c.number streams between c.connection state × ClosesSo turn c.number between closed
+    × (last : OwnedService) × ClosesAfter (end_of c.number turn) own reading mid last × AreRound own unsent reading last new closed streams' clients
+
+-- this client is in this slot
 abbrev pub IsIn : List (Option Client) → ℕ → Client → Type 0
 IsIn slots key c = get_or slots key None ≡ Some c
 
--- there is no client
+-- no slot has a client
 abbrev pub HasNone : List (Option Client) → Type 0
 HasNone slots = (key : ℕ) → get_or slots key None ≡ None
 
@@ -144,10 +174,23 @@ HasNone slots = (key : ℕ) → get_or slots key None ≡ None
 abbrev pub IsServed : List (Option Client) → ℕ → Type 0
 IsServed slots n = (key : ℕ) × (c : Client) × IsIn slots key c × (c.number ≡ n)
 
--- what happened since the first connection was accepted: each connection in a slot stands as its events left it, no two have one number,
--- so many were accepted, and each of these is served or was told as ended once
-pub record ServedSoFar (limits : Limits) (reading : Reading) (first now : World) (accepted : ℕ) (slots : List (Option Client)) : Type 0 where
-  pub so_far : ServesMany limits reading first now
+-- the service with the owners of its sessions, the streams of all connections, and the ends that were reported
+pub record Now : Type 0 where
+  pub state : OwnedService
+  pub streams : ℕ → StreamState
+  pub told : Option (List ToldEnd)
+
+abbrev pub at_now : OwnedService → (ℕ → StreamState) → Option (List ToldEnd) → Now
+at_now state streams told = record { state = state; streams = streams; told = told }
+
+abbrev pub world_now : Now → World
+world_now now = world now.state.service now.streams now.told
+
+-- what happened since the first connection was accepted: each connection in a slot is as its events left it; no two
+-- have the same number; this number was accepted; each of these is served, or was reported as ended once; the sessions
+-- have their owners; and no session was closed for a connection that was not reported as ended
+pub record ServedSoFar (limits : Limits) (reading : Reading) (first : World) (now : Now) (accepted : ℕ) (slots : List (Option Client)) : Type 0 where
+  pub so_far : ServesMany limits reading first (world_now now)
   pub within : accepted ≤ limits.connections
   pub few : (key : ℕ) (c : Client) → IsIn slots key c → (0 < c.number) × (c.number ≤ accepted)
   pub each : (key : ℕ) (c : Client) → IsIn slots key c → c.connection ≡ so_far.after c.number
@@ -156,12 +199,14 @@ pub record ServedSoFar (limits : Limits) (reading : Reading) (first now : World)
   pub untold : (n : ℕ) → accepted < n → times_told n so_far.ends ≡ 0
   pub served : (n : ℕ) → IsServed slots n → times_told n so_far.ends ≡ 0
   pub ended : (n : ℕ) → 0 < n → n ≤ accepted → IsServed slots n ⊎ (times_told n so_far.ends ≡ 1)
+  pub owners : now.state.owners ≡ owners_of so_far.all
+  pub none_closed : (n : ℕ) → times_told n so_far.ends ≡ 0 → ClosedNone n so_far.all
 
--- what was true of all that happened stays true where the connections go on so
-abbrev pub GoesOnServing : Limits → Reading → World → World → ℕ → ℕ → List (Option Client) → List (Option Client) → Type 0
+-- what was true of all that happened stays true when the connections go on this way
+abbrev pub GoesOnServing : Limits → Reading → Now → Now → ℕ → ℕ → List (Option Client) → List (Option Client) → Type 0
 GoesOnServing limits reading old new accepted accepted' slots slots' =
     (first : World) → ServedSoFar limits reading first old accepted slots → ServedSoFar limits reading first new accepted' slots'
 
--- everything that happened, whether or not its last end was told
-abbrev pub HasServed : Limits → Reading → World → World → ℕ → List (Option Client) → Type 0
+-- everything that happened, whether or not its last end was reported
+abbrev pub HasServed : Limits → Reading → Now → World → ℕ → List (Option Client) → Type 0
 HasServed limits reading old new accepted slots = (first : World) → ServedSoFar limits reading first old accepted slots → ServesMany limits reading first new

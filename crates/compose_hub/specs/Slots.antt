@@ -22,11 +22,11 @@ abbrev pub for_room : WaitsFor → Bool
 for_room Room = true
 for_room _ = false
 
--- a connection uses its room where it holds much of a load
+-- a connection uses its room while it holds much of a load
 abbrev pub uses_room : Client → Bool
 uses_room c = c.has_room && nat_le max_held (length c.connection.held)
 
--- a connection's share: fewer bytes than these it holds without room
+-- a connection's share: without room it holds fewer bytes than this
 abbrev pub share : ℕ
 share = max_held + max_piece
 
@@ -34,12 +34,12 @@ share = max_held + max_piece
 abbrev pub is_fair : Client → Bool
 is_fair c = c.has_room || nat_lt (length c.connection.held) share
 
--- it keeps its room, and unless it ends it is fair where it was
+-- it keeps its room, and unless it ends it stays fair if it was fair
 abbrev pub KeepsShare : Follows → Client → Client → Type 0
 KeepsShare (Ends end) before now = now.has_room ≡ before.has_room
 KeepsShare _ before now = (now.has_room ≡ before.has_room) × (is_fair before ≡ true → is_fair now ≡ true)
 
--- a second and ten of them, in nanoseconds
+-- a second and ten seconds, in nanoseconds
 abbrev pub second : ℕ
 second = 1000000000
 
@@ -55,7 +55,7 @@ abbrev pub is_idle : Option ℕ → ℕ → Client → Bool
 is_idle None time c = false
 is_idle (Some seconds) time c = for_stream c.waits_for && nat_le (seconds * second) (time - c.since)
 
--- so many nanoseconds from now it is idle, unless its stream is ready before
+-- the number of nanoseconds until it is idle, unless its stream is ready before
 abbrev pub idle_in : Option ℕ → ℕ → Client → Option ℕ
 idle_in None time c = None
 idle_in (Some seconds) time c = if for_stream c.waits_for then Some (seconds * second - (time - c.since)) else None
@@ -91,12 +91,12 @@ abbrev pub slot_uses_room : Option Client → Bool
 slot_uses_room None = false
 slot_uses_room (Some c) = uses_room c
 
--- since when the connection in a slot waits for room, if it does
+-- the time since which the connection in a slot waits for room, if it does
 abbrev pub waits_since : Option Client → Option ℕ
 waits_since None = None
 waits_since (Some c) = if for_room c.waits_for then Some c.since else None
 
--- in how many nanoseconds the connection in a slot is idle, if it waits for its stream
+-- the number of nanoseconds until the connection in a slot is idle, if it waits for its stream
 abbrev pub slot_idle_in : Option ℕ → ℕ → Option Client → Option ℕ
 slot_idle_in idle time None = None
 slot_idle_in idle time (Some c) = idle_in idle time c

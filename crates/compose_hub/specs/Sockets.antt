@@ -1,4 +1,4 @@
--- What accepting, waiting and closing leave of the streams.
+-- What accepting, waiting and closing change of the streams.
 use Rattle.std.specs.Prelude.{◌≡◌, ℕ, ◌+◌, ◌<◌, Option, Some, None}
 use Rattle.compose_many.specs.Numbered.{StreamState, OthersStay}
 
@@ -6,17 +6,17 @@ use Rattle.compose_many.specs.Numbered.{StreamState, OthersStay}
 abbrev pub AllStay : (ℕ → StreamState) → (ℕ → StreamState) → Type 0
 AllStay before now = (c : ℕ) → now c ≡ before c
 
--- of each stream the bytes stay: those that it will give, and those that it took
+-- the bytes of each stream stay: those that are left to read, and those that were written
 abbrev pub BytesStay : (ℕ → StreamState) → (ℕ → StreamState) → Type 0
 BytesStay before now = (c : ℕ) → ((now c).left ≡ (before c).left) × ((now c).written ≡ (before c).written)
 
--- of the stream with this number the bytes stay, and every other stream is as before
+-- the bytes of the stream with this number stay, and every other stream is as before
 pub record KeepsBytes (number : ℕ) (before now : ℕ → StreamState) : Type 0 where
   pub left : (now number).left ≡ (before number).left
   pub written : (now number).written ≡ (before number).written
   pub others : OthersStay number before now
 
--- ---- attempts to accept, where they are counted
+-- ---- attempts to accept, if they are counted
 
 abbrev pub one_more : Option ℕ → Option ℕ
 one_more None = None

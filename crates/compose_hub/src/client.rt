@@ -1,48 +1,52 @@
-//! A connection that is served.
+//! A connection that is served, and what it waits for.
 ghost use Rattle.std.specs.Prelude.{◌≡◌, true, false, if◌then◌else◌};
 ghost use Rattle.compose_many.specs.Connection.{new_connection};
 ghost use Rattle.compose_hub.specs.Ends.{max_held};
-ghost use Rattle.compose_hub.specs.Turns.{max_turns};
+ghost use Rattle.compose_hub.specs.Turns.{max_turns, owned};
 ghost use Rattle.compose_hub.specs.Serving.{ClientTurnsSo};
 ghost use Rattle.compose_hub.specs.Slots.{uses_room, is_stalled, is_idle, idle_in, KeepsShare};
 
-use compose_many::{Connection, Limits as TurnLimits, Streams, Turn, turn_on};
+use compose_many::{Connection, Limits as TurnLimits, Owner, Streams, Turn, turn_on};
 use compose_serve::Answer;
 use std::alloc::Global;
 
-/// So many turns a connection has before the others have theirs.
+/// The number of turns per connection before the next one's.
 const TURNS: u32 = 4;
 
-/// So many bytes a connection may hold without more room.
+/// The number of bytes that a connection may hold without more room.
 const HELD: usize = 65_536;
 
 /// A second, in nanoseconds.
 const SECOND: u64 = 1_000_000_000;
 
-/// For so long, in nanoseconds, nothing of a load may come while others wait for its room.
+/// How long nothing of a load may come while others wait for room, in nanoseconds.
 const PATIENCE: u64 = 10_000_000_000;
 
-/// How much is served.
+/// The limits of a service.
 #[derive(Clone, Copy, Debug, PartialEq, Eq, Drop)]
 pub struct Limits {
-    /// So many connections are served at once; 0 is as 1.
+    /// The number of connections that are served at once; 0 counts as 1.
     pub at_once: usize,
-    /// After so many connections the service ends.
+    /// The number of connections after which the service ends.
     pub connections: u32,
-    /// Where so many bytes of replies to a connection are unsent, no more of its requests are answered; 0 is as 1.
+    /// No request of a connection is answered while this many bytes of its replies, or more, are
+    /// unsent; 0 counts as 1.
     pub unsent: usize,
-    /// A connection that has waited for so many seconds for its stream is ended; none is where this is not given.
+    /// The number of seconds after which a connection that waits for its stream is ended; if
+    /// `None`, no connection is ended for that.
     pub idle: Option<u32>,
+    /// Whether sessions end with the connection on which they were opened.
+    pub own_sessions: bool,
 }
 
 /// What a connection waits for.
 #[derive(Clone, Copy, Debug, PartialEq, Eq, Drop)]
 pub(crate) enum WaitsFor {
-    /// For its next turn alone.
+    /// Only its next turn.
     Turn,
-    /// For its stream.
+    /// Its stream, until that is ready.
     Stream,
-    /// For room, to hold more of a load.
+    /// Room, to hold more of a load.
     Room,
 }
 
@@ -53,12 +57,12 @@ pub(crate) struct Client {
     number: u32,
     pub(crate) waits_for: WaitsFor,
     has_room: bool,
-    /// Since when it waits, in nanoseconds.
+    /// The time since which it waits, in nanoseconds.
     since: u64,
 }
 
 impl Client {
-    /// A client that has had no turn, at this time.
+    /// Returns a client that has had no turn, at this time.
     pub(crate) fn new(alloc: Global, number: u32, time: u64) -> Client
         ensures new { (result.number ≡ number) × (result.connection ≡ new_connection)
             × (result.has_room ≡ false) }
@@ -73,35 +77,35 @@ impl Client {
         }
     }
 
-    /// The number of its connection, from 1.
+    /// Returns the number of its connection, counted from 1.
     pub(crate) fn number(&self) -> u32
         ensures { result ≡ self.now.number }
     {
         self.number
     }
 
-    /// How many bytes it may hold before it needs room.
+    /// Returns the number of bytes that it may hold before it needs room.
     fn most_held(&self) -> usize
         ensures { result ≡ (if self.now.has_room then usize.MAX else max_held) }
     {
         if self.has_room { usize::MAX } else { HELD }
     }
 
-    /// Whether it uses the room that it was given.
+    /// Returns whether it uses the room that it was given.
     pub(crate) fn uses_room(&self) -> bool
         ensures { result ≡ uses_room self.now }
     {
         self.has_room && self.connection.held() >= HELD
     }
 
-    /// Whether it uses its room, and nothing came for ten seconds.
+    /// Returns whether it uses its room, and nothing came for ten seconds.
     pub(crate) fn is_stalled(&self, time: u64) -> bool
         ensures { result ≡ is_stalled time self.now }
     {
         self.uses_room() && time.saturating_sub(self.since) >= PATIENCE
     }
 
-    /// Whether it has waited for its stream for so many seconds.
+    /// Returns whether it has waited for its stream for `idle` seconds or longer.
     pub(crate) fn is_idle(&self, idle: Option<u32>, time: u64) -> bool
         ensures { result ≡ is_idle idle time self.now }
     {
@@ -114,7 +118,8 @@ impl Client {
         }
     }
 
-    /// In how many nanoseconds it will have waited for its stream for so many seconds, if it waits for it.
+    /// Returns the nanoseconds that are left until it has waited for its stream for `idle` seconds,
+    /// if it waits for its stream.
     pub(crate) fn idle_in(&self, idle: Option<u32>, time: u64) -> Option<u64>
         ensures { result ≡ idle_in idle time self.now }
     {
@@ -126,14 +131,14 @@ impl Client {
         Some((u64::from(seconds) * SECOND).saturating_sub(waited))
     }
 
-    /// Since when it waits.
+    /// Returns the time since which it waits.
     pub(crate) fn since(&self) -> u64
         ensures { result ≡ self.now.since }
     {
         self.since
     }
 
-    /// Takes room that it does not use.
+    /// Takes back its room, unless it uses it.
     pub(crate) fn give_back_room(&mut self)
         ensures { self.new ≡ record self.old { has_room = uses_room self.old } }
     {
@@ -149,7 +154,7 @@ impl Client {
         self.since = time;
     }
 
-    /// Waits for this from now on.
+    /// Sets what it waits for, from this time on.
     pub(crate) fn wait(&mut self, waits_for: WaitsFor, time: u64)
         ensures { self.new ≡ record self.old { waits_for = waits_for; since = time } }
     {
@@ -157,21 +162,24 @@ impl Client {
         self.since = time;
     }
 
-    /// So many turns, as long as it goes on and answers no load; says what follows the last.
+    /// Takes up to 4 turns, as long as it goes on and no load is answered. Returns what follows the
+    /// last turn.
     pub(crate) fn take_turns<N: Streams, A: Answer>(
         &mut self,
         streams: &mut N,
         service: &mut A,
+        owners: &mut Vec<Owner>,
         alloc: Global,
         unsent: usize,
     ) -> Turn
-        ensures turns { ClientTurnsSo max_turns unsent A.reading result (A.state service.old)
-            (A.state service.new) (N.stream streams.old) (N.stream streams.new) self.old self.new }
+        ensures turns { ClientTurnsSo max_turns unsent A.reading result
+            (owned (A.state service.old) owners.old.items)
+            (owned (A.state service.new) owners.new.items) (N.stream streams.old) (N.stream streams.new) self.old self.new }
         ensures share { KeepsShare result self.old self.new }
         ensures waits { self.new.waits_for ≡ self.old.waits_for }
     {
         'turns: for _ in 0..TURNS {
-            match self.turn(streams, service, alloc, unsent) {
+            match self.turn(streams, service, owners, alloc, unsent) {
                 Turn::GoesOn => {}
                 turn => return turn,
             }
@@ -179,16 +187,18 @@ impl Client {
         Turn::GoesOn
     }
 
-    /// One turn, on its own stream.
+    /// Takes one turn, on its own stream.
     fn turn<N: Streams, A: Answer>(
         &mut self,
         streams: &mut N,
         service: &mut A,
+        owners: &mut Vec<Owner>,
         alloc: Global,
         unsent: usize,
     ) -> Turn
-        ensures turn { ClientTurnsSo 1 unsent A.reading result (A.state service.old)
-            (A.state service.new) (N.stream streams.old) (N.stream streams.new) self.old self.new }
+        ensures turn { ClientTurnsSo 1 unsent A.reading result
+            (owned (A.state service.old) owners.old.items)
+            (owned (A.state service.new) owners.new.items) (N.stream streams.old) (N.stream streams.new) self.old self.new }
         ensures share { KeepsShare result self.old self.new }
         ensures waits { self.new.waits_for ≡ self.old.waits_for }
     {
@@ -201,6 +211,7 @@ impl Client {
             streams,
             &mut self.connection,
             service,
+            owners,
             alloc,
             limits,
             number,

@@ -1,4 +1,4 @@
-//! How connections end, and to whom it is told.
+//! How connections end, and the reporting of it.
 ghost use Rattle.std.specs.Prelude.{◌≡◌, ℕ, [], ◌∷◌, List, Option, MatchResult};
 ghost use Rattle.compose_hub.specs.Ends.{ToldEnd, told_more, TellsEnd};
 
@@ -8,36 +8,40 @@ use std::io;
 /// How a connection ended.
 #[derive(Clone, Copy, Debug, PartialEq, Eq, Drop)]
 pub enum ConnectionEnd {
-    /// As a stream does that is served.
+    /// As a stream does that `serve` serves.
     Served(Result<Ended, ServeFault>),
-    /// It held much of a load of which nothing came for ten seconds, while others waited for its room.
+    /// It held much of a load, and nothing more of that came for ten seconds while others waited
+    /// for room.
     Stalled,
     /// It neither sent nor took anything for as long as a connection may be idle.
     Idle,
 }
 
-/// To whom it is told how connections ended.
+/// What the ends of connections are reported to.
 pub trait Report {
-    /// What was told so far, where that is known.
+    /// The ends that were reported so far, if they are known.
     ghost told: { Self → Option (List ToldEnd) };
 
-    /// The connection with this number, from 1 in the order in which they were accepted, has ended so.
+    /// Reports that the connection with this number has ended in this way. Connections are numbered
+    /// from 1 in the order in which they were accepted.
     ///
-    /// An error ends the service; then nothing was told.
+    /// Errors: an I/O error of the report. It ends the service; then nothing was reported.
     fn ended(&mut self, number: u32, how: ConnectionEnd) -> io::Result<()>
         ensures { MatchResult result
             (λ _. told self.new ≡ told_more (told self.old)
             (record { number = number; how = how } ∷ []))
             (λ _. told self.new ≡ told self.old) };
 
-    /// Reports the ends that could not be reported before, if that is possible now; returns whether none of them is left.
+    /// Catches up on ends that `ended` accepted but could not print or send at once, if that is
+    /// possible now. They count as reported already. Returns `false` if some are left and it is
+    /// worth trying again.
     ///
-    /// It is called in each round, and where something is left again within a second.
+    /// It is called in each round, and again within a second after it returned `false`.
     fn catch_up(&mut self) -> bool
         ensures { told self.new ≡ told self.old };
 }
 
-/// Tells the end of a connection, if there is one: its number, and how it ended.
+/// Reports the end of a connection, if there is one: its number, and how it ended.
 pub(crate) fn tell<E: Report>(report: &mut E, ended: Option<(u32, ConnectionEnd)>) -> io::Result<()>
     ensures { TellsEnd (E.told report.old) (E.told report.new) ended result }
 {

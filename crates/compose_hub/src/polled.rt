@@ -17,13 +17,14 @@ use std::net::Net;
 use std::rt::Clock;
 use std::time::Duration;
 
-/// What the listener is reported as.
+/// The token of the listener.
 const LISTENER: Token = Token(usize::MAX);
 
-/// So much is reported at once: the listener and 1,024 connections, so that none is taken for idle that is ready.
+/// The number of events per wait: the listener and 1,024 connections, so that no ready connection
+/// is taken for idle.
 const EVENTS: usize = 1_025;
 
-/// A stream, and why it gave or took no bytes.
+/// A stream, and the last errors of reading and of writing it.
 #[derive(Drop)]
 pub(crate) struct PolledStream {
     stream: UnixStream,
@@ -32,7 +33,7 @@ pub(crate) struct PolledStream {
 }
 
 impl PolledStream {
-    /// Reads as `TryPull::try_pull` does; of the bytes nothing is known.
+    /// Reads as `TryPull::try_pull` does. The bytes are not known to contracts.
     fn try_pull(&mut self, piece: &mut [u8]) -> Result<usize, TryError>
         requires { length piece.old ≤ max_piece }
         ensures pulls { TryPulls None None self.old.read_mark self.new.read_mark result piece.new }
@@ -46,7 +47,7 @@ impl PolledStream {
         came
     }
 
-    /// Writes as `TryPush::try_push` does; of the bytes nothing is known.
+    /// Writes as `TryPush::try_push` does. The bytes are not known to contracts.
     fn try_push(&mut self, piece: &[u8]) -> Result<usize, TryError>
         ensures pushes { TryPushes None None self.old.write_mark self.new.write_mark result piece.now }
         ensures reader { self.new.read_mark ≡ self.old.read_mark }
@@ -62,11 +63,12 @@ impl PolledStream {
 
 /// A Unix listener and the connections that were accepted, which are reported as they become ready.
 ///
-/// Of the bytes on a stream nothing is known, since the system holds them, but why it gave or took none is.
+/// The bytes of a stream are not known to contracts, since the system holds them. Why a stream read
+/// or wrote none is known.
 #[derive(Drop)]
 pub struct PolledSockets<'c, C> {
     clock: &'c C,
-    /// When it was asked last how much time has passed.
+    /// The time at which the passed time was last asked for.
     asked: Duration,
     poll: Poll,
     events: Events,
@@ -75,9 +77,10 @@ pub struct PolledSockets<'c, C> {
 }
 
 impl<'c, C: Clock + Net> PolledSockets<'c, C> {
-    /// The sockets of a listener that does not wait.
+    /// Returns the sockets of a listener that does not wait.
     ///
-    /// It takes memory for what is reported at once.
+    /// It takes memory for the events of one wait. Errors: an I/O error if that memory runs out, if
+    /// the system can't poll or register the listener, or if the clock can't be read.
     pub fn new(
         clock: &'c C,
         alloc: Global,
@@ -99,7 +102,8 @@ impl<'c, C: Clock + Net> PolledSockets<'c, C> {
         })
     }
 
-    /// Keeps a stream under this number, reported by this key, if it can be registered and there is memory for it.
+    /// Keeps a stream under this number, reported by this key, if it can be registered and there is
+    /// memory for it.
     fn admit(&mut self, number: u64, key: usize, stream: UnixStream) -> Accepted
         ensures { KeepsBytes number (λ c. polled_at self.old.streams c) (λ c. polled_at self.new.streams c) }
     {
@@ -124,7 +128,7 @@ impl<'c, C: Clock + Net> PolledSockets<'c, C> {
     }
 }
 
-/// What an error of accepting means: only WouldBlock says that none waits.
+/// Returns what an error of accepting means: only `WouldBlock` means that no connection waits.
 fn refused(kind: ErrorKind) -> Accepted
     ensures waits { kind ≡ ErrorKind.WouldBlock → result ≡ Accepted.NoneWaits }
     ensures aborted { kind ≡ ErrorKind.ConnectionAborted → result ≡ Accepted.GivenUp }
@@ -140,7 +144,8 @@ fn refused(kind: ErrorKind) -> Accepted
 impl<C> Streams for PolledSockets<'_, C> {
     ghost stream = { λ s c. polled_at s.streams c };
 
-    /// One read of the socket. O(1) beside that.
+    /// Reads the socket once. Errors: also `Failed` if no stream has this number. O(1) besides the
+    /// read.
     fn try_pull(&mut self, number: u64, piece: &mut [u8]) -> Result<usize, TryError> {
         match self.streams.get_mut(&number) {
             Some(stream) => stream.try_pull(piece),
@@ -148,7 +153,8 @@ impl<C> Streams for PolledSockets<'_, C> {
         }
     }
 
-    /// One write to the socket. O(1) beside that.
+    /// Writes to the socket once. Errors: also `Failed` if no stream has this number. O(1) besides
+    /// the write.
     fn try_push(&mut self, number: u64, piece: &[u8]) -> Result<usize, TryError> {
         match self.streams.get_mut(&number) {
             Some(stream) => stream.try_push(piece),
@@ -160,7 +166,8 @@ impl<C> Streams for PolledSockets<'_, C> {
 impl<C: Clock + Net> Sockets for PolledSockets<'_, C> {
     ghost attempts = { λ s. None };
 
-    /// One attempt to accept. A number that a connection has is given up, and so is one that can't be registered.
+    /// Attempts once to accept. A connection is given up if its number is in use, or if it can't be
+    /// registered or kept.
     fn accept(&mut self, number: u64, key: usize) -> Accepted {
         if self.streams.contains_key(&number) {
             return Accepted::GivenUp;
@@ -171,7 +178,8 @@ impl<C: Clock + Net> Sockets for PolledSockets<'_, C> {
         }
     }
 
-    /// One wait. At most 1,025 are reported at once, the others at the next.
+    /// Waits once. At most 1,025 events are reported at once, the others at the next wait. Errors:
+    /// an I/O error of waiting, or of the memory for `ready`.
     fn poll(&mut self, longest_wait: Option<Duration>, ready: &mut Vec<Ready>) -> io::Result<()> {
         ready.clear();
         self.poll.poll(&mut self.events, longest_wait)?;
@@ -186,7 +194,7 @@ impl<C: Clock + Net> Sockets for PolledSockets<'_, C> {
         Ok(())
     }
 
-    /// By the clock; no time where it can't be read.
+    /// Measures by the clock. Returns zero if the clock can't be read.
     fn passed(&mut self) -> Duration {
         let Ok(now) = self.clock.monotonic() else {
             return Duration::ZERO;

@@ -1,10 +1,11 @@
 //! The connections of a service, and their turns.
 ghost use Rattle.std.specs.Prelude.{◌≡◌, ◌≢◌, ◌||◌, ◌≤◌, ◌==◌, ◌&&◌, [], ◌∷◌, ℕ, Bool, Option, List, ◌+◌, ◌<◌, ◌^◌, max, length, get_or, slice_set, vec_len, count_by, true, None, IfOk, OnOk};
-ghost use Rattle.compose_machine.specs.Machine.{ServiceState, Reading};
+ghost use Rattle.compose_machine.specs.Machine.{Reading};
 ghost use Rattle.compose_many.specs.Connection.{new_connection};
 ghost use Rattle.compose_hub.specs.Sockets.{KeepsBytes, one_more, IsMore};
 ghost use Rattle.compose_hub.specs.Ends.{ToldEnd};
-ghost use Rattle.compose_hub.specs.Serving.{world, ServesMany, ServesAll, HasServed, GoesOnServing, AcceptsSo, WaitsSince, AllAreStill, HasNone, SlotIsStill, SlotTurnsSo, AreRound, with_turn};
+ghost use Rattle.compose_hub.specs.Turns.{OwnedService, owned};
+ghost use Rattle.compose_hub.specs.Serving.{world, at_now, ServesMany, ServesAll, HasServed, GoesOnServing, AcceptsSo, WaitsSince, AllAreStill, HasNone, SlotIsStill, SlotTurnsSo, ClosesAfter, AreRound, with_turn};
 ghost use Rattle.compose_hub.specs.Rounds.{queue_after, retried, is_waits, is_wanted, is_done, has_turns, waits_for_room, has_slot, later, wait_for_work, sooner, IsNextIdle, why_ended, SlotGivesUp, queue_with, MarksReady, KeepsRooms, KeepsRoom};
 ghost use Rattle.compose_hub.specs.Slots.{slot_uses_room, slot_has_room, given_turn, given_room};
 ghost use Rattle.compose_hub.specs.Sockets.{AllStay};
@@ -16,50 +17,62 @@ use crate::client::{Client, Limits, WaitsFor};
 use crate::ends::{ConnectionEnd, Report, tell};
 use crate::sockets::{Accepted, Ready, Sockets};
 use crate::waits::{next_idle, sooner, waits_longest};
-use compose_many::Turn;
+use compose_many::{Owner, Turn, close_own};
 use compose_serve::Answer;
 use std::alloc::Global;
 use std::io;
 use std::time::Duration;
 
-/// So many connections may hold more of a load than the others.
+/// The number of connections that may hold more of a load than the others.
 const ROOMS: usize = 8;
 
 /// Whether connections may wait to be accepted.
 #[derive(Clone, Copy, Debug, PartialEq, Eq, Drop)]
 pub(crate) enum Queue {
-    /// None did when it was last looked at.
+    /// No connection waited at the last attempt.
     Empty,
-    /// Some may.
+    /// Some may wait.
     Waits,
-    /// Some may, but none could be accepted.
+    /// Some may wait, but none could be accepted at the last attempt.
     Failed,
 }
 
-/// The connections, each in a slot of its own, which is the key of its stream.
+/// The connections, each in a slot of its own. The index of the slot is the key of its stream.
 #[derive(Drop)]
 struct Server {
     slots: Vec<Option<Client>>,
     accepted: u32,
     queue: Queue,
-    /// How long it has served, in nanoseconds.
+    /// The open sessions, each with the connection on which it was opened.
+    owners: Vec<Owner>,
+    /// How long the server has been serving, in nanoseconds.
     time: u64,
 }
 
 /// Serves the connections to the sockets, many at once, until as many as are asked for have ended.
 ///
-/// Whatever is ready, and however it ends: all that happened on the connections is one list of events, in which each connection goes on
-/// from new by its own events, and the service goes on by the requests of all of them as they were answered; what each stream gave is
-/// what came in the events of its own connection, and what it took is what was sent in them. The connections have the numbers from 1,
-/// and no more than were asked for. What `law_connections` and `law_streams` of `compose_many` say holds of it. Each connection that is
-/// told to the report has ended so, and where it ends without an error, each was told once. Which connections are ready no contract
-/// says.
+/// Whatever is ready, and however it ends, all that happened on the connections is one list of
+/// events. In it, each connection goes on from new by its own events, and the service goes on by
+/// the requests of all of them as they were answered. The bytes that were read from a stream are
+/// those that came in the events of its own connection, and the bytes that were written to it are
+/// those that were sent in them. The connections are numbered from 1, up to the number that was
+/// asked for. The laws `law_connections` and `law_streams` of `compose_many` apply to this list.
+/// Each connection that is reported as ended has ended in the reported way, and if the function
+/// returns `Ok`, each was reported once. Which connections are ready is not part of any contract.
 ///
-/// Where a connection can't be accepted for another cause than its own, as too many open files, it is tried again after a second at the
-/// latest. A connection that is idle for longer than it may be is ended. An error is one of waiting, of the memory for the slots, or of
-/// the report.
+/// If a connection can't be accepted for a cause that is not its own, such as too many open files,
+/// it is tried again after at most a second. A connection that is idle for longer than it may be is
+/// ended. If sessions end with their connection, then once a connection has ended a Close is
+/// answered for each session that was opened on it and is still open, as if it had been the last
+/// request, and the replies are dropped: in the list of events these Closes come after all others
+/// of the connection. No session that was opened on another connection is closed for it, whoever
+/// opened one with the same number before.
 ///
-/// It takes memory for as many slots as connections are served at once. A round costs O(slots) beside the turns in it.
+/// Errors: an I/O error of waiting, of the memory for the slots, or of the report; `TimedOut` after
+/// 2^64 - 1 rounds.
+///
+/// It takes memory for as many slots as connections are served at once. A round costs O(slots)
+/// besides the turns in it.
 pub fn serve_at_once<N: Sockets, A: Answer, E: Report>(
     sockets: &mut N,
     alloc: Global,
@@ -88,17 +101,17 @@ pub fn serve_at_once<N: Sockets, A: Answer, E: Report>(
         server.mark_ready(&ready);
         server.take_turns(sockets, service, alloc, limits, report)?;
         server.share_room();
-        server.give_up(sockets, limits, report, time)?;
+        server.give_up(sockets, service, alloc, limits, report, time)?;
     }
     Err(io::Error::from(io::ErrorKind::TimedOut))
 }
 
 impl Server {
-    /// A server without connections.
+    /// Returns a server without connections.
     fn new(alloc: Global, at_once: usize) -> io::Result<Server>
         ensures { IfOk result
             (λ server. (vec_len server.slots ≡ max at_once 1) × HasNone server.slots.items
-            × (server.accepted ≡ 0)) }
+            × (server.accepted ≡ 0) × (server.owners.items ≡ [])) }
     {
         let mut slots = Vec::new(alloc);
         'slots: for _ in 0..at_once.max(1) {
@@ -108,25 +121,26 @@ impl Server {
             slots,
             accepted: 0,
             queue: Queue::Waits,
+            owners: Vec::new(alloc),
             time: 0,
         })
     }
 
-    /// Whether all connections that are asked for have ended.
+    /// Returns whether all connections that are asked for have ended.
     fn is_done(&self, limits: Limits) -> bool
         ensures { result ≡ is_done limits self.now.accepted self.now.slots.items }
     {
         self.accepted >= limits.connections && self.all_free()
     }
 
-    /// Whether no slot has a connection.
+    /// Returns whether no slot has a connection.
     fn all_free(&self) -> bool
         ensures { result ≡ list_all is_none self.now.slots.items }
     {
         self.slots.iter().all(|slot| slot.is_none())
     }
 
-    /// How long there is nothing to do unless something becomes ready.
+    /// Returns how long to wait at most for something to become ready; `None` is no limit.
     fn longest_wait(&self, limits: Limits, behind: bool) -> Option<Duration>
         ensures { (idle : Option ℕ) × IsNextIdle limits.idle self.now.time self.now.slots.items idle
             × (option_map as_nanos result ≡ sooner (wait_for_work self.now.queue (has_slot limits self.now.accepted self.now.slots.items)
@@ -136,7 +150,7 @@ impl Server {
         sooner(self.wait_for_work(limits, behind), idle)
     }
 
-    /// The same, whoever becomes idle.
+    /// Returns the same, but ignores connections that become idle.
     fn wait_for_work(&self, limits: Limits, behind: bool) -> Option<Duration>
         ensures { option_map as_nanos result ≡ wait_for_work self.now.queue (has_slot limits self.now.accepted self.now.slots.items)
             (has_turns self.now.slots.items) (waits_for_room self.now.slots.items || behind) }
@@ -150,7 +164,7 @@ impl Server {
         None
     }
 
-    /// Whether a connection waits for its next turn alone.
+    /// Returns whether a connection waits only for its next turn.
     fn has_turns(&self) -> bool
         ensures { result ≡ has_turns self.now.slots.items }
     {
@@ -160,7 +174,7 @@ impl Server {
         })
     }
 
-    /// Whether a connection waits for room.
+    /// Returns whether a connection waits for room.
     fn waits_for_room(&self) -> bool
         ensures { result ≡ waits_for_room self.now.slots.items }
     {
@@ -170,33 +184,35 @@ impl Server {
         })
     }
 
-    /// Whether a further connection is served.
+    /// Returns whether a further connection can be served.
     fn has_slot(&self, limits: Limits) -> bool
         ensures { result ≡ has_slot limits self.now.accepted self.now.slots.items }
     {
         self.accepted < limits.connections && self.any_free()
     }
 
-    /// Whether a slot has no connection.
+    /// Returns whether a slot has no connection.
     fn any_free(&self) -> bool
         ensures { result ≡ list_any is_none self.now.slots.items }
     {
         self.slots.iter().any(|slot| slot.is_none())
     }
 
-    /// Counts the time that has passed.
+    /// Adds the time that has passed.
     fn count_time(&mut self, passed: Duration)
         ensures { self.new ≡ record self.old { time = later self.old.time (as_nanos passed) } }
     {
         self.time = later(self.time, passed);
     }
 
-    /// Accepts the connections that wait, while there is a slot for them; where the last attempt failed it is tried again.
+    /// Accepts the connections that wait, while there is a slot for them. If the last attempt
+    /// failed, it tries again.
     fn accept_all<N: Sockets>(&mut self, alloc: Global, sockets: &mut N, limits: Limits)
-        ensures goes_on { (reading : Reading) (state : ServiceState) (told : Option (List ToldEnd))
-            → GoesOnServing limits reading (world state (N.stream sockets.old) told)
-            (world state (N.stream sockets.new) told) self.old.accepted
+        ensures goes_on { (reading : Reading) (state : OwnedService) (told : Option (List ToldEnd))
+            → GoesOnServing limits reading (at_now state (N.stream sockets.old) told)
+            (at_now state (N.stream sockets.new) told) self.old.accepted
             self.new.accepted self.old.slots.items self.new.slots.items }
+        ensures owners { self.new.owners.items ≡ self.old.owners.items }
         ensures rooms { KeepsRooms self.old.slots.items self.new.slots.items }
         ensures tries { is_waits (retried self.old.queue) ≡ true
             → has_slot limits self.old.accepted self.old.slots.items ≡ true
@@ -211,10 +227,12 @@ impl Server {
         }
     }
 
-    /// Gives what is ready its next turn.
+    /// Gives each connection that is ready its next turn. If the listener is ready, connections may
+    /// wait.
     fn mark_ready(&mut self, ready: &[Ready])
         ensures still { (self.new.accepted ≡ self.old.accepted)
             × AllAreStill self.old.slots.items self.new.slots.items }
+        ensures owners { self.new.owners.items ≡ self.old.owners.items }
         ensures queue { self.new.queue ≡ queue_with ready.now self.old.queue }
         ensures marks { MarksReady ready.now self.old.slots.items self.new.slots.items }
         ensures rooms { KeepsRooms self.old.slots.items self.new.slots.items }
@@ -224,10 +242,12 @@ impl Server {
         }
     }
 
-    /// Marks that this is ready: connections may wait, or a client that waits for its stream has its next turn.
+    /// Marks one source as ready: connections may wait, or a client that waits for its stream has
+    /// its next turn.
     fn mark(&mut self, source: Ready)
         ensures still { (self.new.accepted ≡ self.old.accepted)
             × AllAreStill self.old.slots.items self.new.slots.items }
+        ensures owners { self.new.owners.items ≡ self.old.owners.items }
         ensures queue { self.new.queue ≡ queue_with (source ∷ []) self.old.queue }
         ensures marks { MarksReady (source ∷ []) self.old.slots.items self.new.slots.items }
         ensures rooms { KeepsRooms self.old.slots.items self.new.slots.items }
@@ -241,7 +261,7 @@ impl Server {
         }
     }
 
-    /// The turns of all connections whose turn is next, in the order of their slots: each has its own.
+    /// Takes the turns of all connections whose turn is next, in the order of their slots.
     fn take_turns<N: Sockets, A: Answer, E: Report>(
         &mut self,
         sockets: &mut N,
@@ -251,29 +271,44 @@ impl Server {
         report: &mut E,
     ) -> io::Result<()>
         ensures happened { HasServed limits A.reading
-            (world (A.state service.old) (N.stream sockets.old) (E.told report.old))
+            (at_now (owned (A.state service.old) self.old.owners.items) (N.stream sockets.old)
+            (E.told report.old))
             (world (A.state service.new) (N.stream sockets.new) (E.told report.new))
             self.old.accepted self.old.slots.items }
         ensures goes_on { OnOk result (GoesOnServing limits A.reading
-            (world (A.state service.old) (N.stream sockets.old) (E.told report.old))
-            (world (A.state service.new) (N.stream sockets.new) (E.told report.new))
+            (at_now (owned (A.state service.old) self.old.owners.items) (N.stream sockets.old)
+            (E.told report.old))
+            (at_now (owned (A.state service.new) self.new.owners.items) (N.stream sockets.new)
+            (E.told report.new))
             self.old.accepted self.new.accepted self.old.slots.items self.new.slots.items) }
-        ensures round { OnOk result (AreRound limits.unsent A.reading (A.state service.old)
-            (A.state service.new) (N.stream sockets.old) (N.stream sockets.new)
+        ensures round { OnOk result (AreRound limits.own_sessions limits.unsent A.reading
+            (owned (A.state service.old) self.old.owners.items)
+            (owned (A.state service.new) self.new.owners.items) (N.stream sockets.old) (N.stream sockets.new)
             (with_turn self.old.slots.items)) }
         ensures rooms { KeepsRooms self.old.slots.items self.new.slots.items }
     {
         'slots: for slot in self.slots.iter_mut() {
-            let ended = serve_slot(slot, sockets, service, alloc, limits.unsent, &mut self.time);
+            let ended = serve_slot(
+                slot,
+                sockets,
+                service,
+                &mut self.owners,
+                alloc,
+                limits.unsent,
+                &mut self.time,
+            );
+            close_sessions(ended, limits.own_sessions, service, &mut self.owners, alloc);
             tell(report, ended)?;
         }
         Ok(())
     }
 
-    /// Takes room that is not used, and gives what there is to the connections that have waited longest for it, so that at most 8 have some.
+    /// Takes back room that is not used, and gives what is free to the connections that have waited
+    /// longest for it, so that at most 8 have some.
     fn share_room(&mut self)
         ensures still { (self.new.accepted ≡ self.old.accepted)
             × AllAreStill self.old.slots.items self.new.slots.items }
+        ensures owners { self.new.owners.items ≡ self.old.owners.items }
         ensures rooms { KeepsRooms self.old.slots.items self.new.slots.items }
     {
         give_back_rooms(&mut self.slots);
@@ -291,41 +326,52 @@ impl Server {
         requires { key < length self.old.slots.items }
         ensures still { (self.new.accepted ≡ self.old.accepted)
             × AllAreStill self.old.slots.items self.new.slots.items }
+        ensures owners { self.new.owners.items ≡ self.old.owners.items }
         ensures given { self.new.slots.items ≡ slice_set self.old.slots.items key
             (given_room self.old.time (get_or self.old.slots.items key None)) }
     {
         give_room(&mut self.slots[key], self.time);
     }
 
-    /// Ends the connections of whose load nothing came for ten seconds, where others wait for their room, and those that are idle for longer
-    /// than they may be, at the time of the last wait: what came since then is not known.
-    fn give_up<N: Sockets, E: Report>(
+    /// Ends the connections that hold up others, and those that are idle for longer than they may
+    /// be. A connection holds up others if it uses its room, others wait for room, and nothing of
+    /// its load came for ten seconds.
+    ///
+    /// `time` is the time of the last wait: what came since then is not known.
+    fn give_up<N: Sockets, A: Answer, E: Report>(
         &mut self,
         sockets: &mut N,
+        service: &mut A,
+        alloc: Global,
         limits: Limits,
         report: &mut E,
         time: u64,
     ) -> io::Result<()>
-        ensures happened { (reading : Reading) (state : ServiceState)
-            → HasServed limits reading (world state (N.stream sockets.old) (E.told report.old))
-            (world state (N.stream sockets.new) (E.told report.new))
+        ensures happened { HasServed limits A.reading
+            (at_now (owned (A.state service.old) self.old.owners.items) (N.stream sockets.old)
+            (E.told report.old))
+            (world (A.state service.new) (N.stream sockets.new) (E.told report.new))
             self.old.accepted self.old.slots.items }
-        ensures goes_on { OnOk result ((reading : Reading) (state : ServiceState)
-            → GoesOnServing limits reading (world state (N.stream sockets.old) (E.told report.old))
-            (world state (N.stream sockets.new) (E.told report.new))
+        ensures goes_on { OnOk result (GoesOnServing limits A.reading
+            (at_now (owned (A.state service.old) self.old.owners.items) (N.stream sockets.old)
+            (E.told report.old))
+            (at_now (owned (A.state service.new) self.new.owners.items) (N.stream sockets.new)
+            (E.told report.new))
             self.old.accepted self.new.accepted self.old.slots.items self.new.slots.items) }
         ensures rooms { KeepsRooms self.old.slots.items self.new.slots.items }
     {
         let others = self.waits_for_room();
         'slots: for slot in self.slots.iter_mut() {
             let ended = give_up(slot, sockets, limits.idle, others, time);
+            close_sessions(ended, limits.own_sessions, service, &mut self.owners, alloc);
             tell(report, ended)?;
         }
         Ok(())
     }
 }
 
-/// What is known of a queue before it is looked at again: where none could be accepted, it is tried again.
+/// Returns what is known of a queue before the next attempt: if none could be accepted, it is tried
+/// again.
 fn retried(queue: Queue) -> Queue
     ensures { result ≡ retried queue }
 {
@@ -335,14 +381,15 @@ fn retried(queue: Queue) -> Queue
     }
 }
 
-/// Whether the next connection is accepted into this slot: it is free, one may wait, and fewer were accepted than are asked for.
+/// Returns whether the next connection is accepted into this slot: the slot is free, a connection
+/// may wait, and fewer were accepted than are asked for.
 fn is_wanted(slot: &Option<Client>, queue: Queue, accepted: u32, limits: Limits) -> bool
     ensures { result ≡ (is_none slot.now && is_wanted queue accepted limits) }
 {
     slot.is_none() && queue == Queue::Waits && accepted < limits.connections
 }
 
-/// What is known of the queue after an attempt.
+/// Returns what is known of the queue after an attempt.
 fn queue_after(accepted: Accepted) -> Queue
     ensures { result ≡ queue_after accepted }
 {
@@ -353,7 +400,7 @@ fn queue_after(accepted: Accepted) -> Queue
     }
 }
 
-/// Gives the connection in this slot its next turn, where it waits for its stream.
+/// Gives the connection in this slot its next turn, if it waits for its stream.
 fn give_turn(slot: &mut Option<Client>)
     ensures gives { slot.new ≡ given_turn slot.old }
     ensures still { SlotIsStill slot.old slot.new }
@@ -376,7 +423,7 @@ fn give_room(slot: &mut Option<Client>, time: u64)
     }
 }
 
-/// Takes the rooms that are not used. O(slots).
+/// Takes back the rooms that are not used. O(slots).
 fn give_back_rooms(slots: &mut [Option<Client>])
     ensures still { AllAreStill slots.old slots.new }
     ensures rooms { KeepsRooms slots.old slots.new }
@@ -387,7 +434,7 @@ fn give_back_rooms(slots: &mut [Option<Client>])
     }
 }
 
-/// Takes the room of the connection in this slot, where it does not use it.
+/// Takes back the room of the connection in this slot, unless it uses it.
 fn give_back_room(slot: &mut Option<Client>)
     ensures still { SlotIsStill slot.old slot.new }
     ensures room { KeepsRoom slot.old slot.new }
@@ -398,7 +445,7 @@ fn give_back_room(slot: &mut Option<Client>)
     }
 }
 
-/// How many rooms are used. O(slots).
+/// Returns the number of rooms that are used. O(slots).
 fn rooms_used(slots: &[Option<Client>]) -> usize
     ensures { result ≡ count_by slot_uses_room slots.now }
 {
@@ -411,7 +458,7 @@ fn rooms_used(slots: &[Option<Client>]) -> usize
     used
 }
 
-/// Whether the connection in this slot uses the room that it was given.
+/// Returns whether the connection in this slot uses the room that it was given.
 fn uses_room(slot: &Option<Client>) -> bool
     ensures { result ≡ slot_uses_room slot.now }
 {
@@ -421,14 +468,15 @@ fn uses_room(slot: &Option<Client>) -> bool
     }
 }
 
-/// The time, once so much more has passed.
+/// Returns `time` plus `passed`, in nanoseconds, or 2^64 - 1 if that is less.
 fn later(time: u64, passed: Duration) -> u64
     ensures { result ≡ later time (as_nanos passed) }
 {
     time.saturating_add(u64::try_from(passed.as_nanos()).unwrap_or(u64::MAX))
 }
 
-/// Accepts the next connection into this slot, if there is one; says what is known of the queue then.
+/// Accepts the next connection into this slot, if there is one. Returns what is known of the queue
+/// then.
 fn accept_into<N: Sockets>(
     slot: &mut Option<Client>,
     accepted: &mut u32,
@@ -453,17 +501,20 @@ fn accept_into<N: Sockets>(
     queue_after(came)
 }
 
-/// The turns of the connection in this slot, if its turn is next; the number of its connection and how it ended, where it did.
+/// Takes the turns of the connection in this slot, if its turn is next. If the connection ended,
+/// returns its number and how it ended.
 fn serve_slot<N: Sockets, A: Answer>(
     slot: &mut Option<Client>,
     sockets: &mut N,
     service: &mut A,
+    owners: &mut Vec<Owner>,
     alloc: Global,
     unsent: usize,
     time: &mut u64,
 ) -> Option<(u32, ConnectionEnd)>
-    ensures turns { SlotTurnsSo unsent time.new A.reading (A.state service.old)
-        (A.state service.new) (N.stream sockets.old) (N.stream sockets.new) slot.old slot.new result }
+    ensures turns { SlotTurnsSo unsent time.new A.reading
+        (owned (A.state service.old) owners.old.items)
+        (owned (A.state service.new) owners.new.items) (N.stream sockets.old) (N.stream sockets.new) slot.old slot.new result }
     ensures room { KeepsRoom slot.old slot.new }
     ensures later { time.old ≤ time.new }
 {
@@ -474,7 +525,7 @@ fn serve_slot<N: Sockets, A: Answer>(
         return None;
     }
     let number = client.number();
-    match client.take_turns(sockets, service, alloc, unsent) {
+    match client.take_turns(sockets, service, owners, alloc, unsent) {
         Turn::GoesOn => pause(client, WaitsFor::Turn, sockets, time),
         Turn::Loaded => pause(client, WaitsFor::Turn, sockets, time),
         Turn::Waits => pause(client, WaitsFor::Stream, sockets, time),
@@ -487,7 +538,29 @@ fn serve_slot<N: Sockets, A: Answer>(
     }
 }
 
-/// The client waits for this, from the time on that it is now; its connection has not ended.
+/// If a connection ended and its sessions end with it, answers a Close for each open session that
+/// was opened on it.
+fn close_sessions<A: Answer>(
+    ended: Option<(u32, ConnectionEnd)>,
+    own_sessions: bool,
+    service: &mut A,
+    owners: &mut Vec<Owner>,
+    alloc: Global,
+)
+    ensures { ClosesAfter ended own_sessions A.reading
+        (owned (A.state service.old) owners.old.items)
+        (owned (A.state service.new) owners.new.items) }
+{
+    let Some((number, _)) = ended else {
+        return;
+    };
+    if own_sessions {
+        close_own(owners, service, alloc, u64::from(number));
+    }
+}
+
+/// Makes the client wait for this, from the time that it is now. Its connection has not ended, so
+/// the result is `None`.
 fn pause<N: Sockets>(
     client: &mut Client,
     waits_for: WaitsFor,
@@ -504,7 +577,8 @@ fn pause<N: Sockets>(
     None
 }
 
-/// Why the connection of this client is ended, if it is: it is stalled, where others wait for room, or it is idle.
+/// Returns why the connection of this client is ended, if it is: it is stalled while others wait
+/// for room, or it is idle.
 fn why_ended(client: &Client, idle: Option<u32>, others: bool, time: u64) -> Option<ConnectionEnd>
     ensures { result ≡ why_ended idle others time client.now }
 {
@@ -517,7 +591,7 @@ fn why_ended(client: &Client, idle: Option<u32>, others: bool, time: u64) -> Opt
     None
 }
 
-/// Ends the connection in this slot, if there is a cause; its number and how it ended then.
+/// Ends the connection in this slot, if there is a cause. Returns its number and how it ended then.
 fn give_up<N: Sockets>(
     slot: &mut Option<Client>,
     sockets: &mut N,

@@ -1,4 +1,4 @@
-//! The sockets of a service: where its connections come from, and their streams.
+//! The sockets of a service: a source of connections, and their streams.
 ghost use Rattle.std.specs.Prelude.{◌≡◌, ℕ, Option};
 ghost use Rattle.compose_hub.specs.Sockets.{AllStay, KeepsBytes, one_more};
 
@@ -6,16 +6,16 @@ use compose_many::Streams;
 use std::io;
 use std::time::Duration;
 
-/// What came of an attempt to accept a connection.
+/// The result of an attempt to accept a connection.
 #[derive(Clone, Copy, Debug, PartialEq, Eq, Drop)]
 pub enum Accepted {
-    /// A connection was accepted: its stream is the one with the number that was given.
+    /// A connection was accepted. Its stream is the one with the number that was given.
     Connection,
-    /// None waits.
+    /// No connection waits.
     NoneWaits,
-    /// The next one was given up, as where it was aborted; others may wait.
+    /// The next connection was given up, for example because it was aborted; others may wait.
     GivenUp,
-    /// None can be accepted for now, as where too many files are open.
+    /// No connection can be accepted for now, for example because too many files are open.
     Fails,
 }
 
@@ -24,27 +24,34 @@ pub enum Accepted {
 pub enum Ready {
     /// A connection may be accepted.
     Listener,
-    /// The stream of the connection that was accepted under this key gives or takes bytes, or ended.
+    /// The stream of the connection that was accepted under this key can be read or written, or has
+    /// ended.
     Key(usize),
 }
 
 /// The sockets of a service: a listener, and the streams of the connections that were accepted.
 ///
-/// A stream is there from the start, with what its client will send; a connection that is accepted is given the number of its stream.
+/// A stream exists from the start, with what its client will send. A connection that is accepted
+/// gets the number of its stream.
 pub trait Sockets: Streams {
-    /// How often it was attempted to accept a connection, where that is counted.
+    /// The number of attempts to accept a connection, if they are counted.
     ghost attempts: { Self → Option ℕ };
 
-    /// Accepts the next connection under this number, if one waits. From now on it is reported as ready by this key.
+    /// Accepts the next connection under this number, if one waits. From now on it is reported as
+    /// ready by this key.
     fn accept(&mut self, number: u64, key: usize) -> Accepted
         ensures bytes { KeepsBytes number (Self.stream self.old) (Self.stream self.new) }
         ensures attempt { attempts self.new ≡ one_more (attempts self.old) };
 
-    /// Waits until something is ready, and no longer than this; puts what is ready there, in place of what was there.
+    /// Waits until something is ready, but no longer than `longest_wait`. Replaces the content of
+    /// `ready` by what is ready.
+    ///
+    /// Errors: an I/O error of waiting, or of the memory for `ready`.
     fn poll(&mut self, longest_wait: Option<Duration>, ready: &mut Vec<Ready>) -> io::Result<()>
         ensures { AllStay (Self.stream self.old) (Self.stream self.new) };
 
-    /// How much time has passed since it was asked last, or since they were made, or less.
+    /// Returns the time that has passed since the last call, or since the sockets were made, or
+    /// less.
     fn passed(&mut self) -> Duration
         ensures { AllStay (Self.stream self.old) (Self.stream self.new) };
 

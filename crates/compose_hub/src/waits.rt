@@ -1,4 +1,4 @@
-//! Who has waited longest, and who is idle next.
+//! The connection that has waited longest for room, and the one that is idle next.
 ghost use Rattle.std.specs.Prelude.{◌≡◌};
 ghost use Rattle.std.specs.Option.{option_map};
 ghost use Rattle.std.specs.Duration.{as_nanos};
@@ -8,7 +8,7 @@ ghost use Rattle.compose_hub.specs.Rounds.{lesser, sooner, WaitsLongest, IsNextI
 use crate::client::{Client, WaitsFor};
 use std::time::Duration;
 
-/// Since when the connection in this slot waits for room, if it does.
+/// Returns the time since which the connection in this slot waits for room, if it does.
 fn waits_since(slot: &Option<Client>) -> Option<u64>
     ensures { result ≡ waits_since slot.now }
 {
@@ -18,7 +18,8 @@ fn waits_since(slot: &Option<Client>) -> Option<u64>
     }
 }
 
-/// In how many nanoseconds the connection in this slot is idle, if it waits for its stream.
+/// Returns the number of nanoseconds until the connection in this slot is idle, if it waits for its
+/// stream.
 fn idle_in(slot: &Option<Client>, idle: Option<u32>, time: u64) -> Option<u64>
     ensures { result ≡ slot_idle_in idle time slot.now }
 {
@@ -28,7 +29,8 @@ fn idle_in(slot: &Option<Client>, idle: Option<u32>, time: u64) -> Option<u64>
     }
 }
 
-/// Which has the lesser number: the slot and the number that were the least, or this slot, if it has one.
+/// Returns whichever has the lesser number: the least slot so far with its number, or this slot, if
+/// it has one.
 fn lesser(least: Option<(usize, u64)>, key: usize, number: Option<u64>) -> Option<(usize, u64)>
     ensures { result ≡ lesser least key number }
 {
@@ -45,7 +47,7 @@ fn lesser(least: Option<(usize, u64)>, key: usize, number: Option<u64>) -> Optio
     }
 }
 
-/// The slot of the connection that has waited longest for room. O(slots).
+/// Returns the slot of the connection that has waited longest for room, if one waits. O(slots).
 pub(crate) fn waits_longest(slots: &[Option<Client>]) -> Option<usize>
     ensures { WaitsLongest slots.now result }
 {
@@ -59,7 +61,8 @@ pub(crate) fn waits_longest(slots: &[Option<Client>]) -> Option<usize>
     }
 }
 
-/// In how many nanoseconds the first connection is idle, if one waits for its stream. O(slots).
+/// Returns the number of nanoseconds until the first connection is idle, if one waits for its
+/// stream. O(slots).
 pub(crate) fn next_idle(slots: &[Option<Client>], idle: Option<u32>, time: u64) -> Option<u64>
     ensures { IsNextIdle idle time slots.now result }
 {
@@ -73,7 +76,7 @@ pub(crate) fn next_idle(slots: &[Option<Client>], idle: Option<u32>, time: u64) 
     }
 }
 
-/// The shorter of two waits, the second one in nanoseconds; one that is not given is no limit.
+/// Returns the shorter of two waits, the second one in nanoseconds. `None` is no limit.
 pub(crate) fn sooner(wait: Option<Duration>, nanos: Option<u64>) -> Option<Duration>
     ensures { option_map as_nanos result ≡ sooner (option_map as_nanos wait) nanos }
 {

@@ -18,3 +18,6 @@ pub mod Blanks
 pub mod Chained
 pub mod Normal
 pub mod Spaced
+pub mod Unsigned
+pub mod OneSign
+pub mod OneLine

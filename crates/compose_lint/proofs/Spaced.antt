@@ -65,7 +65,7 @@ after_colon line = after_is 58 line ∙ by (take (head_len line) line)
 
 -- ---- carriage returns
 
-abbrev is_return : ℕ → Bool
+abbrev pub is_return : ℕ → Bool
 is_return b = b == 13
 
 any_first : (n : ℕ) (xs : List ℕ) → list_any is_return xs ≡ false → list_any is_return (take n xs) ≡ false
@@ -104,13 +104,19 @@ none_behind line (Some raw) none =
     (any_rest (length raw) (drop 2 (drop (head_len line) line)) (any_rest 2 (drop (head_len line) line) (any_rest (head_len line) line none)))
 
 -- a line without one has none outside of its string and its comment
+pub returnless : (line : List ℕ) (p : Written) → list_any is_return line ≡ false → has_return line p ≡ false
+returnless line p none = ap₂ (λ s t. s || t) (any_first (head_len line) line none) (none_behind line p.raw none)
+
 pub no_return : (line : List ℕ) (p : Written) → Nowhere (Passes (is_byte 13) line) 0 (length line) → has_return line p ≡ false
-no_return line p h = let none = none_there line h in ap₂ (λ s t. s || t) (any_first (head_len line) line none) (none_behind line p.raw none)
+no_return line p h = returnless line p (none_there line h)
 
 -- and none before the string of an include
-pub no_return_in_include : (line : List ℕ) → Nowhere (Passes (is_byte 13) line) 0 (length line) → has_return_in_include line ≡ false
-no_return_in_include line h = ap (λ t. is_some (raw_include line) && t) (any_first (head_len line) line (none_there line h)) ∙ by (is_some (raw_include line))
+pub returnless_include : (line : List ℕ) → list_any is_return line ≡ false → has_return_in_include line ≡ false
+returnless_include line none = ap (λ t. is_some (raw_include line) && t) (any_first (head_len line) line none) ∙ by (is_some (raw_include line))
   where
     by : (b : Bool) → (b && false) ≡ false
     by true = refl
     by false = refl
+
+pub no_return_in_include : (line : List ℕ) → Nowhere (Passes (is_byte 13) line) 0 (length line) → has_return_in_include line ≡ false
+no_return_in_include line h = returnless_include line (none_there line h)

@@ -166,7 +166,7 @@ fn keysym_text(alloc: Global, names: &Names, keysym: Keysym) -> Result<String, A
 }
 
 /// Returns the raw text with its escapes replaced, if it is valid.
-fn string_text(alloc: Global, raw: &str) -> Result<Option<String>, AllocError>
+pub(crate) fn string_text(alloc: Global, raw: &str) -> Result<Option<String>, AllocError>
     ensures { IfOk result
         (λ text. option_map string_bytes text ≡ result_ok (text_of raw.now)) }
 {

@@ -14,7 +14,7 @@ use compose_lex::{Said, lex_line_into};
 use memchr::memchr;
 
 /// Returns whether the line is a definition or an include. O(bytes).
-fn says_something(line: &[u8]) -> bool
+pub(crate) fn says_something(line: &[u8]) -> bool
     ensures { result ≡ words.says_something line.now }
 {
     production_of(line).is_some() || raw_include(line).is_some()
@@ -35,7 +35,7 @@ fn raw_include(line: &[u8]) -> Option<&str>
 }
 
 /// Returns whether the bytes begin with a UTF-8 byte order mark.
-fn has_mark(bytes: &[u8]) -> bool
+pub(crate) fn has_mark(bytes: &[u8]) -> bool
     ensures { result ≡ words.has_mark bytes.now }
 {
     bytes.starts_with(&[0xef, 0xbb, 0xbf])
@@ -50,7 +50,7 @@ pub(crate) fn is_after_mark(bytes: &[u8], line: &LintLine<'_>) -> bool
 }
 
 /// Returns whether the bytes don't end in a newline.
-fn is_unended(bytes: &[u8]) -> bool
+pub(crate) fn is_unended(bytes: &[u8]) -> bool
     ensures { result ≡ words.is_unended bytes.now }
 {
     match bytes.last() {
@@ -60,7 +60,7 @@ fn is_unended(bytes: &[u8]) -> bool
 }
 
 /// Returns whether the line is a definition without a result name, or an include. O(bytes).
-fn ends_in_string(line: &[u8]) -> bool
+pub(crate) fn ends_in_string(line: &[u8]) -> bool
     ensures { result ≡ words.ends_in_string line.now }
 {
     is_nameless(line) || raw_include(line).is_some()
@@ -86,7 +86,7 @@ pub(crate) fn is_without_newline(bytes: &[u8], lines: usize, line: &LintLine<'_>
 }
 
 /// Returns whether the bytes end in a backslash.
-fn ends_in_backslash(line: &[u8]) -> bool
+pub(crate) fn ends_in_backslash(line: &[u8]) -> bool
     ensures { result ≡ words.ends_in_backslash line.now }
 {
     match line.last() {

@@ -32,6 +32,7 @@ mod production;
 mod reader;
 mod report;
 mod row;
+mod signs;
 mod source_lines;
 mod texts;
 

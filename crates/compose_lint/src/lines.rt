@@ -164,7 +164,7 @@ fn written_in<'a>(production: Option<&Production<'a>>) -> Option<Written<'a>>
 }
 
 /// Returns the bytes without the UTF-8 byte order mark at their beginning.
-fn without_mark(bytes: &[u8]) -> &[u8]
+pub(crate) fn without_mark(bytes: &[u8]) -> &[u8]
     ensures { result.now ≡ without_mark bytes.now }
 {
     bytes.strip_prefix(&[0xef, 0xbb, 0xbf]).unwrap_or(bytes)

@@ -9,7 +9,7 @@ use Rattle.compose_machine.specs.Laws.{Exchange}
 use Rattle.compose_serve.specs.Ends.{replies_bytes, malformed_reply, EndsWrite}
 use Rattle.compose_serve.specs.declared.ends.Ended.TheVariants.{InputEnd, Malformed}
 use Rattle.compose_serve.specs.declared.ends.ServeFault.TheVariants.{Read, Write, Cut, TooManyFrames, NoMemory}
-use Rattle.compose_many.specs.Connection.{ConnectionState, new_connection, Event, receives, answers, refuses, sends, Answers, Refuses, Sends, Happens, AllHappen, replies, sent, refusal, HasItsOwn}
+use Rattle.compose_many.specs.Connection.{ConnectionState, new_connection, Event, receives, answers, refuses, sends, closes, Answers, Refuses, Sends, Closes, Happens, AllHappen, replies, sent, refusal, HasItsOwn}
 use Rattle.compose_many.specs.Ends.{IsQuiet, served, EndsAsStream, EndsAtWrite, EndsAtWriteAsStream}
 use Rattle.compose_many.proofs.Happening.{behind_nothing}
 use Rattle.compose_many.proofs.Own.{sent_more, replies_more, written_open, own_more, own_at_first, has_its_own}
@@ -17,7 +17,7 @@ use Rattle.compose_many.proofs.Own.{sent_more, replies_more, written_open, own_m
 all_written : (limit : ℕ) (events : List Event) (now : ConnectionState) → HasItsOwn limit events now → IsQuiet now → sent events ≡ replies_bytes (replies events)
 all_written limit events now own q = sym (append-nil (sent events)) ∙ ap (λ y. sent events ++ y) (sym q.sent) ∙ written_open events limit now now own q.goes_on
 
--- a connection that ends otherwise than by a write ends as a stream does
+-- at every end but a failed write, a connection ends as a stream does
 pub ends_as_stream : EndsAsStream
 ends_as_stream limit events now (Ok InputEnd) left' rf wf h e n = record { at_end = e.0; whole = e.1; written = all_written limit events now (has_its_own limit events now h) e.2 }
 ends_as_stream limit events now (Ok Malformed) left' rf wf h e n =
@@ -34,7 +34,7 @@ ends_as_stream limit events now (Err TooManyFrames) left' rf wf h e n =
 ends_as_stream limit events now (Err NoMemory) left' rf wf h e n = record { some = e.0; written = all_written limit events now (has_its_own limit events now h) e.1 }
 ends_as_stream limit events now (Err Write) left' rf wf h e n = absurd (n refl)
 
--- where a write failed, the last bytes of the replies are missing, fewer than the limit and a reply
+-- if a write failed, the last bytes of the replies are missing: fewer than the limit plus the maximum length of a reply
 pub ends_at_write : EndsAtWrite
 ends_at_write limit events now left' rf wf h e =
     let own = has_its_own limit events now h in
@@ -100,6 +100,23 @@ module _ (events : List Event) (s m : ConnectionState) (own : HasItsOwn 1 events
       still same (inl e) = inl (same ∙ e)
       still same (inr e) = inr (same ∙ e.0, e.1, ap (λ (t : ConnectionState). t.refused) h.after ∙ e.2)
 
+  part_closed : (x : Exchange) → Closes s x m → IsPart events s → IsPart (events ++ closes x ∷ []) m
+  part_closed x h p =
+      let same : replies (events ++ closes x ∷ []) ≡ replies events = replies_more events (closes x) ∙ append-nil (replies events) in
+      subst (λ (t : ConnectionState). IsPart (events ++ closes x ∷ []) t) (sym h.after) (record {
+        before = p.before;
+        last = p.last;
+        part = p.part;
+        is_last = still same p.is_last;
+        whole = p.whole;
+        written = sent_more events (closes x) ∙ append-nil (sent events) ∙ p.written;
+      })
+    where
+      still : replies (events ++ closes x ∷ []) ≡ replies events → (replies events ≡ p.before ++ p.last ∷ []) ⊎ ((replies events ≡ p.before) × (p.last ≡ malformed_reply) × (s.refused ≡ true))
+          → (replies (events ++ closes x ∷ []) ≡ p.before ++ p.last ∷ []) ⊎ ((replies (events ++ closes x ∷ []) ≡ p.before) × (p.last ≡ malformed_reply) × (s.refused ≡ true))
+      still same (inl e) = inl (same ∙ e)
+      still same (inr e) = inr (same ∙ e.0, e.1, e.2)
+
   -- all is sent, or a part of the last reply
   pub part_more : (e : Event) → Happens 1 s e m → (s.unsent ≡ []) ⊎ IsPart events s → (m.unsent ≡ []) ⊎ IsPart (events ++ e ∷ []) m
   part_more (receives piece) h p = inl (ap (λ (t : ConnectionState). t.unsent) h.after ∙ h.all_sent)
@@ -107,6 +124,8 @@ module _ (events : List Event) (s m : ConnectionState) (own : HasItsOwn 1 events
   part_more refuses h p = inr (part_of_refusal h)
   part_more (sends bytes) h (inl e) = inl (behind_nothing bytes m.unsent (sym h.first ∙ e))
   part_more (sends bytes) h (inr p) = inr (part_sent bytes h p)
+  part_more (closes x) h (inl e) = inl (ap (λ (t : ConnectionState). t.unsent) h.after ∙ e)
+  part_more (closes x) h (inr p) = inr (part_closed x h p)
 
 part_on : (events more : List Event) (s s' : ConnectionState) → HasItsOwn 1 events s → (s.unsent ≡ []) ⊎ IsPart events s → AllHappen 1 s more s' → (s'.unsent ≡ []) ⊎ IsPart (events ++ more) s'
 part_on events [] s s' own p h =
@@ -120,7 +139,7 @@ proper [] [] n = absurd (n refl)
 proper [] (y ∷ ys) n = refl
 proper (x ∷ xs) ys n = and_from (x == x) (is_proper_prefix xs (xs ++ ys)) (eq-eqb x x refl) (proper xs ys n)
 
--- with the limit 1, where a write failed, a part of the last reply is missing, as at the end of a stream
+-- with the limit 1, if a write failed, a part of the last reply is missing, as at the end of a stream
 pub ends_at_write_as_stream : EndsAtWriteAsStream
 ends_at_write_as_stream events now left' rf wf h e = of_part (part_on [] events new_connection now (own_at_first 1) (inl refl) h)
   where

@@ -5,26 +5,26 @@ use Rattle.compose_machine.specs.Machine.{ServiceState, Reading}
 use Rattle.compose_machine.specs.Laws.{Exchange, IsHistory, is_load}
 use Rattle.compose_many.specs.Connection.{ConnectionState, Event, answers, Happens, AllHappen, exchange_of, exchanges, loads}
 
--- of two lists that are empty together, the second is empty
+-- if two lists are empty together, the second is empty
 pub behind_nothing : (xs ys : List ℕ) → xs ++ ys ≡ [] → ys ≡ []
 behind_nothing [] ys e = e
 behind_nothing (x ∷ xs) ys e = absurd (cc)
 
--- what all elements of two lists give is what those of the first give, and then those of the second
+-- flattening two lists, one after the other, is flattening the first and then the second
 pub flat-both : {X Y : Type 0} (f : X → List Y) (xs ys : List X) → flat_map f (xs ++ ys) ≡ flat_map f xs ++ flat_map f ys
 flat-both f [] ys = refl
 flat-both f (x ∷ xs) ys = ap (λ r. f x ++ r) (flat-both f xs ys) ∙ sym (append_assoc (f x) (flat_map f xs) (flat_map f ys))
 
--- what all elements of a list and one more give is what the list gives, and then that one
+-- flattening a list and one more element is flattening the list and then that element
 pub flat-more : {X Y : Type 0} (f : X → List Y) (xs : List X) (x : X) → flat_map f (xs ++ x ∷ []) ≡ flat_map f xs ++ f x
 flat-more f xs x = flat-both f xs (x ∷ []) ∙ ap (λ r. flat_map f xs ++ r) (append-nil (f x))
 
--- what is made of each element of two lists is what is made of the first, and then of the second
+-- mapping two lists, one after the other, is mapping the first and then the second
 pub map-both : {X Y : Type 0} (f : X → Y) (xs ys : List X) → map f (xs ++ ys) ≡ map f xs ++ map f ys
 map-both f [] ys = refl
 map-both f (x ∷ xs) ys = ap (λ r. f x ∷ r) (map-both f xs ys)
 
--- the elements of two lists that are kept are those of the first, and then those of the second
+-- filtering two lists, one after the other, is filtering the first and then the second
 pub filter-both : {X : Type 0} (p : X → Bool) (xs ys : List X) → filter p (xs ++ ys) ≡ filter p xs ++ filter p ys
 filter-both p [] ys = refl
 filter-both p (x ∷ xs) ys = kept (p x) ∙ ap (λ zs. cond (p x) (x ∷ zs) zs) (filter-both p xs ys) ∙ sym (moved (p x))
@@ -43,7 +43,7 @@ loads-both es fs =
     ∙ ap (λ (h : List Exchange). length h) (filter-both (λ (x : Exchange). is_load x.request.body) (exchanges es) (exchanges fs))
     ∙ length-append (filter (λ (x : Exchange). is_load x.request.body) (exchanges es)) (filter (λ (x : Exchange). is_load x.request.body) (exchanges fs))
 
--- one more request that is answered is one more load where it is one
+-- one more answered request is one more load if it is one
 pub loads-more : (es : List Event) (x : Exchange) (n : ℕ) (b : Bool) → is_load x.request.body ≡ b → loads es ≡ n → loads (es ++ answers x ∷ []) ≡ n + cond b 1 0
 loads-more es x n b l e =
     loads-both es (answers x ∷ []) ∙ ap (λ m. m + loads (answers x ∷ [])) e ∙ ap (λ m. n + m) (one (is_load x.request.body) ∙ ap (λ c. cond c 1 0) l)
@@ -62,11 +62,11 @@ pub run-both : (reading : Reading) (old mid new : ServiceState) (es fs : List Ev
 run-both reading old mid new es fs a b =
     subst (λ (h : List Exchange). IsHistory reading old h new) (sym (flat-both exchange_of es fs)) (history-both reading old mid new (exchanges es) (exchanges fs) a b)
 
--- events, and further ones from where these lead, happen one after another
+-- events, and further ones from the state that these leave, happen one after another
 pub happen-both : (limit : ℕ) (a b c : ConnectionState) (es fs : List Event) → AllHappen limit a es b → AllHappen limit b fs c → AllHappen limit a (es ++ fs) c
 happen-both limit a b c [] fs x y = subst (λ (s : ConnectionState). AllHappen limit s fs c) x y
 happen-both limit a b c (e ∷ es) fs x y = (x.0, x.1, happen-both limit x.0 b c es fs x.2 y)
 
--- events, and one more from where these lead, happen one after another
+-- events, and one more from the state that these leave, happen one after another
 pub happen-more : (limit : ℕ) (a b c : ConnectionState) (es : List Event) (e : Event) → AllHappen limit a es b → Happens limit b e c → AllHappen limit a (es ++ e ∷ []) c
 happen-more limit a b c es e x y = happen-both limit a b c es (e ∷ []) x (c, y, refl)

@@ -6,3 +6,6 @@ pub mod Serving
 pub mod Ending
 pub mod OneOfMany
 pub mod TwoLists
+pub mod Owning
+pub mod Owned
+pub mod Leaves

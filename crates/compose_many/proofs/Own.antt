@@ -1,18 +1,18 @@
--- A connection has the replies to its own requests.
+-- A connection gets the replies to its own requests.
 use Rattle.std.proofs.Common.{◌≡◌, ℕ, ◌+◌, List, [], ◌∷◌, ◌++◌, Bool, true, false, length, map, refl, sym, ◌∙◌, ap, subst, append_assoc, append-nil, length-append, arith}
 use Rattle.std.specs.List.{AllByRecursion}
 use Rattle.compose_wire.specs.Messages.{Fits, Reply}
 use Rattle.compose_wire.specs.Frames.{frame, frames, reply_bytes}
 use Rattle.compose_machine.specs.Laws.{Exchange}
 use Rattle.compose_serve.specs.Ends.{replies_bytes, malformed_reply}
-use Rattle.compose_many.specs.Connection.{ConnectionState, new_connection, Event, receives, answers, refuses, sends, Receives, Answers, Refuses, Sends, Happens, AllHappen, piece_of, exchange_of, sent_of, received, exchanges, requests, replies, sent, refusal, HasItsOwn}
+use Rattle.compose_many.specs.Connection.{ConnectionState, new_connection, Event, receives, answers, refuses, sends, closes, Receives, Answers, Refuses, Sends, Closes, Happens, AllHappen, piece_of, asked_of, sent_of, received, asked, requests, replies, sent, refusal, HasItsOwn}
 use Rattle.compose_many.proofs.Happening.{flat-more, map-both}
 
 all-more : {X : Type 0} (P : X → Type 0) (xs : List X) (x : X) → AllByRecursion P xs → P x → AllByRecursion P (xs ++ x ∷ [])
 all-more P [] x a p = (p, tt)
 all-more P (y ∷ xs) x a p = (a.0, all-more P xs x a.1 p)
 
--- where no faulty frame was refused
+-- if no faulty frame was refused, only the replies are written
 pub no_refusal : (rs : List Reply) (b : Bool) → b ≡ false → replies_bytes (rs ++ refusal b) ≡ replies_bytes rs
 no_refusal rs b e = ap (λ c. replies_bytes (rs ++ refusal c)) e ∙ ap replies_bytes (append-nil rs)
 
@@ -26,19 +26,19 @@ module _ (events : List Event) where
   pub received_more : (e : Event) → received (events ++ e ∷ []) ≡ received events ++ piece_of e
   received_more e = flat-more piece_of events e
 
-  -- one event more adds the bytes that it sends, if any, to those that were sent
+  -- one more event adds the bytes that it sends, if any, to those that were sent
   pub sent_more : (e : Event) → sent (events ++ e ∷ []) ≡ sent events ++ sent_of e
   sent_more e = flat-more sent_of events e
 
-  pub requests_more : (e : Event) → requests (events ++ e ∷ []) ≡ requests events ++ map (λ (x : Exchange). x.request) (exchange_of e)
-  requests_more e = ap (λ h. map (λ (x : Exchange). x.request) h) (flat-more exchange_of events e) ∙ map-both (λ (x : Exchange). x.request) (exchanges events) (exchange_of e)
+  pub requests_more : (e : Event) → requests (events ++ e ∷ []) ≡ requests events ++ map (λ (x : Exchange). x.request) (asked_of e)
+  requests_more e = ap (λ h. map (λ (x : Exchange). x.request) h) (flat-more asked_of events e) ∙ map-both (λ (x : Exchange). x.request) (asked events) (asked_of e)
 
-  -- one event more adds its reply, if it has one, to the replies
-  pub replies_more : (e : Event) → replies (events ++ e ∷ []) ≡ replies events ++ map (λ (x : Exchange). x.reply) (exchange_of e)
-  replies_more e = ap (λ h. map (λ (x : Exchange). x.reply) h) (flat-more exchange_of events e) ∙ map-both (λ (x : Exchange). x.reply) (exchanges events) (exchange_of e)
+  -- one more event adds its reply, if it has one, to the replies
+  pub replies_more : (e : Event) → replies (events ++ e ∷ []) ≡ replies events ++ map (λ (x : Exchange). x.reply) (asked_of e)
+  replies_more e = ap (λ h. map (λ (x : Exchange). x.reply) h) (flat-more asked_of events e) ∙ map-both (λ (x : Exchange). x.reply) (asked events) (asked_of e)
 
   module _ (limit : ℕ) (s m : ConnectionState) (own : HasItsOwn limit events s) where
-    -- what was written where no faulty frame was refused
+    -- the sent and the unsent bytes, if no faulty frame was refused
     pub written_open : s.refused ≡ false → sent events ++ s.unsent ≡ replies_bytes (replies events)
     written_open e = own.written ∙ no_refusal (replies events) s.refused e
 
@@ -112,12 +112,29 @@ module _ (events : List Event) where
           bounded = (let both : length s.unsent ≡ length bytes + length m.unsent = ap length h.first ∙ length-append bytes m.unsent in let bounded = own.bounded in omega arith);
         })
 
-    -- a connection that has the replies to its own requests still does after one event more
+    own_closed : (x : Exchange) → Closes s x m → HasItsOwn limit (events ++ closes x ∷ []) m
+    own_closed x h =
+        let e = closes x in
+        let same : requests (events ++ e ∷ []) ≡ requests events = requests_more e ∙ append-nil (requests events) in
+        let same_replies : replies (events ++ e ∷ []) ≡ replies events = replies_more e ∙ append-nil (replies events) in
+        subst (λ (t : ConnectionState). HasItsOwn limit (events ++ e ∷ []) t) (sym h.after) (record {
+          fit = subst (λ qs. AllByRecursion Fits qs) (sym same) own.fit;
+          counted = own.counted ∙ ap length (sym same);
+          few = own.few;
+          read = received_more e ∙ append-nil (received events) ∙ own.read ∙ ap (λ qs. frames qs ++ s.held) (sym same);
+          written =
+              ap (λ y. y ++ s.unsent) (sent_more e ∙ append-nil (sent events)) ∙ own.written ∙ ap (λ rs. replies_bytes (rs ++ refusal s.refused)) (sym same_replies);
+          faulty = own.faulty;
+          bounded = own.bounded;
+        })
+
+    -- a connection that has the replies to its own requests still has them after one more event
     pub own_more : (e : Event) → Happens limit s e m → HasItsOwn limit (events ++ e ∷ []) m
     own_more (receives piece) h = own_received piece h
     own_more (answers x) h = own_answered x h
     own_more refuses h = own_refused h
     own_more (sends bytes) h = own_sent bytes h
+    own_more (closes x) h = own_closed x h
 
 -- a new connection, on which nothing happened, has the replies to its own requests
 pub own_at_first : (limit : ℕ) → HasItsOwn limit [] new_connection

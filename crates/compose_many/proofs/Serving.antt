@@ -7,7 +7,7 @@ use Rattle.compose_many.specs.Service.{NumberedEvent, events_of, numbered, EachH
 use Rattle.compose_many.proofs.Happening.{filter-both, map-both, run-both, happen-both}
 use Rattle.compose_many.proofs.Own.{has_its_own}
 
--- each connection has the replies to its own requests alone, whatever happens on others
+-- each connection gets the replies to its own requests alone, whatever happens on others
 pub each_has_its_own : EachHasItsOwn
 each_has_its_own limit reading old new before after all c e h =
     has_its_own limit (events_of c all) (after c) (subst (λ (s : ConnectionState). AllHappen limit s (events_of c all) (after c)) e (h.each c))

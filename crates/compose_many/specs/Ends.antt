@@ -1,4 +1,4 @@
--- How a connection ends, and what then stands.
+-- How a connection ends, and its state at each end.
 use Rattle.std.specs.Prelude.{◌≡◌, ◌≢◌, ℕ, ◌+◌, ◌<◌, ◌≤◌, Bool, true, false, List, [], ◌++◌, length, Option, Result, Ok, Err}
 use Rattle.std.specs.Io.KnownBytes.{IsAtEnd}
 use Rattle.compose_wire.specs.Frames.{BeginsWithFrame, IsBegun}
@@ -10,12 +10,12 @@ use Rattle.compose_serve.specs.declared.ends.ServeFault.{ServeFault}
 use Rattle.compose_serve.specs.declared.ends.ServeFault.TheVariants.{Read, Write, Cut, TooManyFrames, NoMemory}
 use Rattle.compose_many.specs.Connection.{ConnectionState, new_connection, Event, AllHappen, requests, replies, sent, refusal, max_reply}
 
--- all is sent, and no faulty frame came
+-- all is sent, and no faulty frame was refused
 pub record IsQuiet (now : ConnectionState) : Type 0 where
   pub sent : now.unsent ≡ []
   pub goes_on : now.refused ≡ false
 
--- a connection that ends so
+-- a connection in this state can end this way
 abbrev pub EndsSo : Result Ended ServeFault → Option (List ℕ) → Bool → Bool → ConnectionState → Type 0
 EndsSo (Ok InputEnd) left' read_failed write_failed now = IsAtEnd left' × (now.held ≡ []) × IsQuiet now
 EndsSo (Ok Malformed) left' read_failed write_failed now = (now.refused ≡ true) × (now.unsent ≡ [])
@@ -27,17 +27,18 @@ EndsSo (Err NoMemory) left' read_failed write_failed now = (now.held ≢ []) × 
 
 -- ---- as a stream ends
 
--- what was served on a connection: its requests and replies, the bytes behind these requests, and the bytes that were sent
+-- what was served on a connection: its requests and replies, the bytes after these requests, and the bytes that were
+-- sent
 abbrev pub served : List Event → ConnectionState → Served
 served events now = record { requests = requests events; replies = replies events; rest = now.held; written = sent events }
 
--- a connection that ends otherwise than by a write ends as a stream does, of which `serve` speaks
+-- at every end but a failed write, a connection ends as a stream does that `serve` serves
 abbrev pub EndsAsStream : Type 0
 EndsAsStream =
     (limit : ℕ) (events : List Event) (now : ConnectionState) (end : Result Ended ServeFault) (left' : Option (List ℕ)) (read_failed write_failed : Bool) → AllHappen limit new_connection events now
     → EndsSo end left' read_failed write_failed now → end ≢ Err Write → stream.EndsSo end left' read_failed write_failed (served events now)
 
--- where a write failed, the last bytes of the replies are missing, fewer than the limit and a reply
+-- if a write failed, the last bytes of the replies are missing: fewer than the limit plus the maximum length of a reply
 pub record IsMissing (limit : ℕ) (events : List Event) (now : ConnectionState) (write_failed : Bool) : Type 0 where
   pub failed : write_failed ≡ true
   pub missing : List ℕ
@@ -50,7 +51,7 @@ EndsAtWrite =
     (limit : ℕ) (events : List Event) (now : ConnectionState) (left' : Option (List ℕ)) (read_failed write_failed : Bool) → AllHappen limit new_connection events now
     → EndsSo (Err Write) left' read_failed write_failed now → IsMissing limit events now write_failed
 
--- with the limit 1, of the last reply a part is missing, as at the end of a stream
+-- with the limit 1, a part of the last reply is missing, as at the end of a stream
 abbrev pub EndsAtWriteAsStream : Type 0
 EndsAtWriteAsStream =
     (events : List Event) (now : ConnectionState) (left' : Option (List ℕ)) (read_failed write_failed : Bool) → AllHappen 1 new_connection events now

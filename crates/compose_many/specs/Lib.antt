@@ -1,6 +1,7 @@
 pub mod Streams
 pub mod Connection
 pub mod Ends
+pub mod Owners
 pub mod Steps
 pub mod Turns
 pub mod Service

@@ -4,16 +4,19 @@ use Rattle.std.specs.Io.KnownBytes.{Consumes, Appends}
 use Rattle.compose_wire.specs.Frames.{IsBegun}
 use Rattle.compose_machine.specs.Machine.{ServiceState, Reading}
 use Rattle.compose_machine.specs.Laws.{IsHistory}
-use Rattle.compose_many.specs.Connection.{ConnectionState, Event, AllHappen, received, exchanges, sent, loads, max_piece}
+use Rattle.compose_many.specs.Connection.{ConnectionState, Event, AllHappen, received, exchanges, closings, sent, loads, max_piece}
 use Rattle.compose_many.specs.Ends.{IsQuiet, EndsSo}
 use Rattle.compose_many.specs.Streams.{is_failed}
+use Rattle.compose_many.specs.Owners.{owners_by}
+use Rattle.compose_many.specs.declared.owners.Owner.{Owner}
 use Rattle.compose_many.specs.declared.streams.TryError.{TryError}
 use Rattle.compose_many.specs.declared.streams.TryError.TheVariants.{WouldBlock}
 use Rattle.compose_many.specs.declared.turn.Limits.{Limits}
 use Rattle.compose_many.specs.declared.turn.Turn.{Turn}
 use Rattle.compose_many.specs.declared.turn.Turn.TheVariants.{GoesOn, Loaded, Waits, NeedsRoom, Ends}
 
--- what a turn reads and writes is what comes and is sent in these events, and the service goes on by their exchanges
+-- the bytes that a turn reads and writes are those that come and are sent in these events, and the service goes on by
+-- their exchanges
 pub record IsTurn (limit : ℕ) (reading : Reading) (old new : ServiceState) (before after : ConnectionState) (left left' written written' : Option (List ℕ)) (events : List Event) : Type 0 where
   pub happen : AllHappen limit before events after
   pub run : IsHistory reading old (exchanges events) new
@@ -24,12 +27,13 @@ pub record IsTurn (limit : ℕ) (reading : Reading) (old new : ServiceState) (be
 abbrev pub Moves : ConnectionState → List Event → ConnectionState → Type 0
 Moves before events after = (sent events ≢ []) ⊎ ((received events ≢ []) ⊎ (after.unsent ≢ before.unsent))
 
--- all that came is answered, up to a part of a frame, and all is sent
+-- all that came is answered, except for a part of a frame, and all is sent
 abbrev pub IsIdle : ConnectionState → Type 0
 IsIdle now = IsBegun now.held × IsQuiet now
 
--- what follows a turn: the connection stands as the events leave it, where it goes on there was something to do, and where it waits
--- the writer takes nothing for now, or the reader gives nothing and there is nothing to do; or it ends so
+-- what follows a turn: unless it ends, the connection is as the events leave it. If it goes on, there was something to
+-- do. If it waits, the writer takes nothing for now, or the reader has no bytes and there is nothing else to do. If it
+-- needs room, the limit of held bytes is reached and there is nothing else to do. Or it ends, in this way
 abbrev pub FollowsSo : ℕ → Turn → ConnectionState → List Event → ConnectionState → ConnectionState → Option (List ℕ) → Option TryError → Option TryError → Type 0
 FollowsSo most GoesOn before events after now left' read_mark write_mark = (now ≡ after) × Moves before events after
 FollowsSo most Loaded before events after now left' read_mark write_mark = (now ≡ after) × Moves before events after
@@ -38,20 +42,23 @@ FollowsSo most Waits before events after now left' read_mark write_mark =
 FollowsSo most NeedsRoom before events after now left' read_mark write_mark = (now ≡ after) × (most ≤ length now.held) × IsIdle now
 FollowsSo most (Ends end) before events after now left' read_mark write_mark = EndsSo end left' (is_failed read_mark) (is_failed write_mark) after
 
--- how many loads a turn answers
+-- the number of loads that a turn answers
 abbrev pub loads_in : Turn → ℕ
 loads_in Loaded = 1
 loads_in _ = 0
 
--- a turn has little to do: a piece comes at most, and one load is answered where it says so, and else none
+-- a turn is short: at most one piece comes; one load is answered if the result is Loaded, and none otherwise; and no
+-- session is closed without a request
 pub record IsShort (turn : Turn) (events : List Event) : Type 0 where
   pub piece : length (received events) ≤ max_piece
   pub load : loads events ≡ loads_in turn
+  pub none_closed : closings events ≡ []
 
--- a turn is events of its own connection; the limit 0 is as 1, and little is held where little was
+-- a turn is a list of events of the connection with this number, where the limit 0 counts as 1. The number of held
+-- bytes stays bounded if it was, and the sessions have the owners that follow from these events
 abbrev pub TurnSo : Limits → Reading → Turn → ServiceState → ServiceState → ConnectionState → ConnectionState
-    → Option (List ℕ) → Option (List ℕ) → Option (List ℕ) → Option (List ℕ) → Option TryError → Option TryError → Type 0
-TurnSo limits reading turn old new before now left left' written written' read_mark write_mark =
+    → Option (List ℕ) → Option (List ℕ) → Option (List ℕ) → Option (List ℕ) → Option TryError → Option TryError → ℕ → List Owner → List Owner → Type 0
+TurnSo limits reading turn old new before now left left' written written' read_mark write_mark number owners owners' =
     (events : List Event) × (after : ConnectionState) × IsTurn (max limits.unsent 1) reading old new before after left left' written written' events
     × IsShort turn events × (length before.held < limits.held + max_piece → length after.held < limits.held + max_piece)
-    × FollowsSo limits.held turn before events after now left' read_mark write_mark
+    × FollowsSo limits.held turn before events after now left' read_mark write_mark × (owners' ≡ owners_by number owners (exchanges events))

@@ -1,10 +1,12 @@
-//! A connection: what came on it and is not answered, and what is not sent.
-ghost use Rattle.std.specs.Prelude.{◌≡◌, ◌≢◌, ◌+◌, ◌≤◌, ◌++◌, ℕ, List, [], false, length, take, drop, vec_len, vec_capacity, OnOk, OnErr};
+//! The state of a connection: the bytes that came and are not answered, and the reply bytes that
+//! are not sent.
+ghost use Rattle.std.specs.Prelude.{◌≡◌, ◌≢◌, ◌+◌, ◌<◌, ◌≤◌, ◌++◌, ℕ, List, [], false, length, take, drop, vec_len, vec_capacity, OnOk, OnErr};
 ghost use Rattle.compose_wire.specs.Requests.{request_of};
 ghost use Rattle.compose_machine.specs.Laws.{is_load};
 ghost use Rattle.compose_many.specs.Connection.{Sends, max_reply};
-ghost use Rattle.compose_many.specs.Steps.{ComesSo, HasRoom, NextSo, AnswersSo, after_reply};
+ghost use Rattle.compose_many.specs.Steps.{ComesSo, HasRoom, HasSpace, NextSo, AnswersSo, after_reply};
 
+use crate::owners::{Owner, note};
 use compose_serve::Answer;
 use compose_wire::{Body, Feeder, Request, WireFault, put_reply};
 use std::alloc::Global;
@@ -21,19 +23,20 @@ const MAX_REPLY: usize = 272;
 pub(crate) enum Stop {
     /// A load was answered.
     Loaded,
-    /// Less than a frame is held.
+    /// Less than a whole frame is held.
     NeedsBytes,
-    /// What is unsent has to be sent first.
+    /// The unsent bytes have to be sent first.
     Full,
     /// A faulty frame was refused.
     Refused,
-    /// There is no memory for a reply or for the payload of a load.
+    /// Memory ran out for a reply, for the payload of a load, or for the owner of a session.
     NoMemory,
-    /// A further frame came after 16,777,216 of them.
+    /// One more frame came after 16,777,216 answered requests.
     TooManyFrames,
 }
 
-/// A connection to the service: the bytes that came and are not answered, and the bytes of replies that are not sent.
+/// A connection to the service: the bytes that came and are not answered, and the bytes of replies
+/// that are not sent.
 #[derive(Drop)]
 pub struct Connection {
     feeder: Feeder,
@@ -59,7 +62,7 @@ impl Model for Connection {
 impl Connection {
     ghost use Rattle.compose_many.specs.Connection.{new_connection};
 
-    /// A connection on which nothing came. O(1), takes no memory.
+    /// Returns a connection on which nothing came. O(1), takes no memory.
     pub fn new(alloc: Global) -> Connection
         ensures { result ≡ new_connection }
     {
@@ -71,28 +74,30 @@ impl Connection {
         }
     }
 
-    /// How many bytes came and are not answered. O(1).
+    /// Returns the number of bytes that came and are not answered. O(1).
     pub fn held(&self) -> usize
         ensures { result ≡ length self.now.held }
     {
         self.feeder.held()
     }
 
-    /// The bytes of replies that are not sent. O(1).
+    /// Returns the bytes of replies that are not sent. O(1).
     pub(crate) fn unsent(&self) -> &[u8]
         ensures { result.now ≡ self.now.unsent }
     {
         self.unsent.as_slice()
     }
 
-    /// Whether a faulty frame was refused. O(1).
+    /// Returns whether a faulty frame was refused. O(1).
     pub(crate) fn is_refused(&self) -> bool
         ensures { result ≡ self.now.refused }
     {
         self.refused
     }
 
-    /// Puts a piece that came behind what is held; where there is no memory for it, nothing changes.
+    /// Appends a piece that came to the bytes that are held.
+    ///
+    /// Errors: `NoMemory` if memory runs out; then nothing changes.
     pub(crate) fn receive(&mut self, piece: &[u8]) -> Result<(), WireFault>
         ensures ok { OnOk result
             (self.new ≡ record self.old { held = self.old.held ++ piece.now }) }
@@ -101,7 +106,7 @@ impl Connection {
         self.feeder.feed(piece)
     }
 
-    /// Takes the first bytes of what is unsent away: they were sent.
+    /// Removes the first `count` unsent bytes, which were sent.
     pub(crate) fn sent(&mut self, count: usize)
         requires { count ≤ length self.old.unsent }
         ensures { Sends self.old (take count self.old.unsent) self.new }
@@ -109,18 +114,23 @@ impl Connection {
         remove_prefix(&mut self.unsent, count);
     }
 
-    /// Answers the next request, or says why not; a faulty frame is refused. After a load it says so.
+    /// Answers the next request, or returns why it does not. A faulty frame is refused. After a
+    /// load it returns `Loaded`.
     ///
-    /// Room for the reply is taken first, so that no request is answered whose reply cannot be kept.
+    /// Memory for the reply and for the owner of a session is reserved first, so that no request is
+    /// answered whose reply or owner can't be kept. `number` is the number of this connection: a
+    /// session that is opened is owned by it.
     fn answer_next<S: Answer>(
         &mut self,
         service: &mut S,
+        owners: &mut Vec<Owner>,
         alloc: Global,
         limit: usize,
+        number: u64,
     ) -> Result<(), Stop>
         requires { self.old.refused ≡ false }
-        ensures { NextSo limit S.reading (S.state service.old)
-            (S.state service.new) self.old self.new result }
+        ensures { NextSo limit number owners.old.items owners.new.items S.reading
+            (S.state service.old) (S.state service.new) self.old self.new result }
     {
         if self.unsent.len() >= limit {
             return Err(Stop::Full);
@@ -129,7 +139,7 @@ impl Connection {
         if full && !self.unsent.is_empty() {
             return Err(Stop::Full);
         }
-        let request = match first_request(&mut self.feeder, &mut self.unsent, alloc) {
+        let request = match first_request(&mut self.feeder, &mut self.unsent, owners, alloc) {
             Ok(request) => request,
             Err(Stop::Refused) => {
                 append(&mut self.unsent, &[0xff, 0, 0, 0, 0, 0, 0, 0, 2, 0, 10]);
@@ -142,24 +152,28 @@ impl Connection {
             return Err(Stop::TooManyFrames);
         }
         let reply = service.answer(alloc, &request);
+        note(owners, number, &request, &reply);
         append(&mut self.unsent, put_reply(&reply).as_slice());
         self.answered += 1;
         after_reply(&request)
     }
 
-    /// Answers the requests that are held, in order, up to one load, while less than the limit is unsent.
+    /// Answers the requests that are held, in order, until one load is answered or the limit of
+    /// unsent bytes is reached. Returns why it stopped.
     pub(crate) fn answer_held<S: Answer>(
         &mut self,
         service: &mut S,
+        owners: &mut Vec<Owner>,
         alloc: Global,
         limit: usize,
+        number: u64,
     ) -> Stop
         requires { self.old.refused ≡ false }
-        ensures { AnswersSo limit S.reading (S.state service.old)
-            (S.state service.new) self.old self.new result }
+        ensures { AnswersSo limit number owners.old.items owners.new.items S.reading
+            (S.state service.old) (S.state service.new) self.old self.new result }
     {
         'answers: loop {
-            match self.answer_next(service, alloc, limit) {
+            match self.answer_next(service, owners, alloc, limit, number) {
                 Ok(()) => {}
                 Err(stop) => return stop,
             }
@@ -167,7 +181,7 @@ impl Connection {
     }
 }
 
-/// What follows the reply to a request: a load is told.
+/// Returns what follows the reply to a request: `Loaded` after a load.
 fn after_reply(request: &Request) -> Result<(), Stop>
     ensures { result ≡ after_reply (is_load (request_of request.now).body) }
 {
@@ -177,16 +191,27 @@ fn after_reply(request: &Request) -> Result<(), Stop>
     }
 }
 
-/// Takes the first request away, once there is room for its reply, or for that to a faulty frame.
-fn first_request(feeder: &mut Feeder, unsent: &mut Vec<u8>, alloc: Global) -> Result<Request, Stop>
+/// Removes and returns the first request, once there is room for its reply (or for the reply to a
+/// faulty frame) and for the owner of a session.
+fn first_request(
+    feeder: &mut Feeder,
+    unsent: &mut Vec<u8>,
+    owners: &mut Vec<Owner>,
+    alloc: Global,
+) -> Result<Request, Stop>
     ensures so { ComesSo result feeder.old feeder.new }
     ensures items { unsent.new.items ≡ unsent.old.items }
     ensures room { HasRoom result (vec_len unsent.new) (vec_capacity unsent.new) }
+    ensures owners { owners.new.items ≡ owners.old.items }
+    ensures space { HasSpace result (vec_len owners.new) (vec_capacity owners.new) }
 {
     if feeder.held() == 0 {
         return Err(Stop::NeedsBytes);
     }
     let Ok(()) = unsent.reserve(MAX_REPLY) else {
+        return Err(Stop::NoMemory);
+    };
+    let Ok(()) = owners.reserve(1) else {
         return Err(Stop::NoMemory);
     };
     match feeder.next_request(alloc) {
@@ -197,7 +222,7 @@ fn first_request(feeder: &mut Feeder, unsent: &mut Vec<u8>, alloc: Global) -> Re
     }
 }
 
-/// Puts the bytes behind the others, where there is room for them.
+/// Appends the bytes, for which there is room already.
 fn append(bytes: &mut Vec<u8>, more: &[u8])
     requires { vec_len bytes.old + length more.now ≤ vec_capacity bytes.old }
     ensures { bytes.new.items ≡ bytes.old.items ++ more.now }
@@ -205,7 +230,8 @@ fn append(bytes: &mut Vec<u8>, more: &[u8])
     bytes.extend_from_slice(more).unwrap();
 }
 
-/// Moves the bytes behind the first ones to the beginning; where none are left, their memory is freed.
+/// Removes the first `count` bytes and moves the rest to the beginning. If none are left, their
+/// memory is freed.
 fn remove_prefix(bytes: &mut Vec<u8>, count: usize)
     requires { count ≤ vec_len bytes.old }
     ensures items { bytes.new.items ≡ drop count bytes.old.items }

@@ -2,7 +2,8 @@
 use crate::streams::{TryError, TryPull, TryPush};
 use std::io::{Error, ErrorKind, Read, Write};
 
-/// A reader or a writer that answers `WouldBlock` where it would wait, and its mark: why it gave or took no bytes.
+/// A reader or a writer that returns `WouldBlock` instead of waiting, and its mark: the last error
+/// since it was made, if there was one.
 ///
 /// A call that the system interrupted is tried again.
 #[derive(Drop)]
@@ -15,14 +16,15 @@ impl<D> Nonblocking<D> {
     ghost use Rattle.std.specs.Prelude.{◌≡◌, ◌≢◌, None, Some};
     ghost use Rattle.std.specs.IoError.{error_kind};
 
-    /// A device that is not marked. O(1).
+    /// Returns a device that is not marked. O(1).
     pub fn new(inner: D) -> Nonblocking<D>
         ensures { result ≡ record { inner = inner; mark = None } }
     {
         Nonblocking { inner, mark: None }
     }
 
-    /// Marks it by what an error means: that it would wait where the error says that, and else that it failed.
+    /// Marks the device by the kind of an error: `WouldBlock` if that is its kind, and `Failed`
+    /// otherwise.
     fn stopped(&mut self, error: &Error) -> TryError
         ensures mark { self.new ≡ record self.old { mark = Some result } }
         ensures waits { error_kind error.now ≡ ErrorKind.WouldBlock
@@ -36,7 +38,7 @@ impl<D> Nonblocking<D> {
         }
     }
 
-    /// Marks it so.
+    /// Sets the mark, and returns it.
     fn marked(&mut self, why: TryError) -> TryError
         ensures mark { self.new ≡ record self.old { mark = Some why } }
         ensures same { result ≡ why }
@@ -51,7 +53,8 @@ impl<D: Read> TryPull for Nonblocking<D> {
 
     ghost mark = { λ d. d.mark };
 
-    /// One read. It is marked where a read gives an error.
+    /// Reads once, and again if the call was interrupted. Errors: `WouldBlock` if the read would
+    /// wait, `Failed` at any other error. Either is its mark from then on.
     fn try_pull(&mut self, piece: &mut [u8]) -> Result<usize, TryError> {
         'reads: for _ in 0..u64::MAX {
             match self.inner.read(piece) {
@@ -69,7 +72,9 @@ impl<D: Write> TryPush for Nonblocking<D> {
 
     ghost mark = { λ d. d.mark };
 
-    /// One write. It is marked where a write gives an error, and as failed where it takes no bytes.
+    /// Writes once, and again if the call was interrupted. Errors: `WouldBlock` if the write would
+    /// wait, `Failed` at any other error, or if it takes no bytes of a piece that has some. Either
+    /// is its mark from then on.
     fn try_push(&mut self, piece: &[u8]) -> Result<usize, TryError> {
         'writes: for _ in 0..u64::MAX {
             match self.inner.write(piece) {

@@ -7,31 +7,37 @@ use crate::streams::TryError;
 
 /// The streams of many connections, each by its number.
 ///
-/// A stream is there from the start, with what its client will send.
+/// A stream exists from the start, with what its client will send.
 pub trait Streams {
     /// What is known of the stream with a number.
     ghost stream: { Self → ℕ → StreamState };
 
-    /// Puts the next bytes of the stream with this number at the start of the piece and says how many, as `TryPull::try_pull` does.
+    /// Reads the next bytes of the stream with this number to the start of the piece and returns
+    /// their number, as `TryPull::try_pull` does.
     ///
-    /// It is never asked for more than 4,096 bytes. Nothing else changes on this stream, and nothing on any other.
+    /// At most 4,096 bytes are asked for. Nothing else changes on this stream, and nothing on any
+    /// other. Errors: `WouldBlock` if there are no bytes for now, `Failed` if it can't read.
     fn try_pull(&mut self, number: u64, piece: &mut [u8]) -> Result<usize, TryError>
         requires { length piece.old ≤ max_piece }
         ensures own { PullsOn (stream self.old number) (stream self.new number) result piece.new }
         ensures others { OthersStay number (stream self.old) (stream self.new) };
 
-    /// Takes bytes from the start of the piece for the stream with this number and says how many, as `TryPush::try_push` does.
+    /// Writes bytes from the start of the piece to the stream with this number and returns their
+    /// number, as `TryPush::try_push` does.
     ///
-    /// Nothing else changes on this stream, and nothing on any other.
+    /// Nothing else changes on this stream, and nothing on any other. Errors: `WouldBlock` if it
+    /// takes no bytes for now, `Failed` if it can't write.
     fn try_push(&mut self, number: u64, piece: &[u8]) -> Result<usize, TryError>
         ensures own { PushesOn (stream self.old number) (stream self.new number) result piece.now }
         ensures others { OthersStay number (stream self.old) (stream self.new) };
 }
 
-/// What happens on many streams: turns on one of them are events of all, and one after the other.
+/// A turn on one stream is a list of events on all of them (`one`), and what happens on many
+/// streams can be joined, one part after the other (`more`).
 ///
-/// And each stream of a connection that was new has its own: what was read from it is the frames of its own requests and a rest, and
-/// what was written to it is the replies to exactly these, up to what is unsent, whatever happens on other streams.
+/// And the stream of each new connection has only its own bytes (`own`): the bytes that were read
+/// from it are the frames of its own requests, followed by a rest, and the bytes that were written
+/// to it are the replies to exactly these, up to what is unsent, whatever happens on other streams.
 pub fn law_streams()
     ensures one { TurnsAreStreamed }
     ensures more { StreamedOneAfterAnother }

@@ -1,10 +1,10 @@
-//! What bytes are read from and written to, without waiting.
+//! Readers and writers that do not wait.
 ghost use Rattle.std.specs.Prelude.{ℕ, ◌≤◌, List, Option, length};
 ghost use Rattle.compose_many.specs.declared.streams.TryError.{TryError};
 ghost use Rattle.compose_many.specs.Streams.{TryPulls, TryPushes};
 ghost use Rattle.compose_many.specs.Connection.{max_piece};
 
-/// Why a device gives or takes no bytes.
+/// Why a device reads or writes no bytes.
 #[derive(Clone, Copy, Debug, PartialEq, Eq, Drop)]
 pub enum TryError {
     /// It would have to wait.
@@ -13,35 +13,38 @@ pub enum TryError {
     Failed,
 }
 
-/// What bytes are pulled from, without waiting.
+/// A reader that does not wait.
 pub trait TryPull {
-    /// The bytes that are left, where they are told.
+    /// The bytes that are left to read, if they are known.
     ghost left: { Self → Option (List ℕ) };
 
-    /// Why it gave or took no bytes, since it was made: it is marked so.
+    /// Its mark: the last error since it was made, if there was one.
     ghost mark: { Self → Option TryError };
 
-    /// Puts the next bytes at the start of the piece and says how many; none only at the end, or where the piece has no room.
+    /// Reads the next bytes to the start of the piece and returns their number, which is 0 only at
+    /// the end, or if the piece is empty.
     ///
-    /// It is never asked for more than 4,096 bytes. WouldBlock where there are none for now, Failed where it cannot: it is marked
-    /// so, and no byte is gone.
+    /// At most 4,096 bytes are asked for. Errors: `WouldBlock` if there are no bytes for now,
+    /// `Failed` if it can't read. Either is its mark from then on, and no byte is lost.
     fn try_pull(&mut self, piece: &mut [u8]) -> Result<usize, TryError>
         requires { length piece.old ≤ max_piece }
         ensures { TryPulls (left self.old) (left self.new) (mark self.old)
             (mark self.new) result piece.new };
 }
 
-/// What bytes are pushed to, without waiting.
+/// A writer that does not wait.
 pub trait TryPush {
-    /// The bytes that were written, where they are told.
+    /// The bytes that were written, if they are known.
     ghost written: { Self → Option (List ℕ) };
 
-    /// Why it gave or took no bytes, since it was made: it is marked so.
+    /// Its mark: the last error since it was made, if there was one.
     ghost mark: { Self → Option TryError };
 
-    /// Takes bytes from the start of the piece and says how many: one at least, where the piece has any.
+    /// Writes bytes from the start of the piece and returns their number, which is at least 1 if
+    /// the piece isn't empty.
     ///
-    /// WouldBlock where it takes none for now, Failed where it cannot: it is marked so, and has taken none.
+    /// Errors: `WouldBlock` if it takes none for now, `Failed` if it can't write. Either is its
+    /// mark from then on, and no byte was written.
     fn try_push(&mut self, piece: &[u8]) -> Result<usize, TryError>
         ensures { TryPushes (written self.old) (written self.new) (mark self.old)
             (mark self.new) result piece.now };

@@ -8,6 +8,7 @@ ghost use Rattle.compose_many.specs.Numbered.{OthersStay, ReaderStays, WriterSta
 
 use crate::connection::{Connection, Stop};
 use crate::numbered::Streams;
+use crate::owners::Owner;
 use crate::streams::TryError;
 use compose_serve::{Answer, Ended, ServeFault};
 use std::alloc::Global;
@@ -15,12 +16,13 @@ use std::alloc::Global;
 /// The most bytes that are read at once.
 const PIECE: usize = 4096;
 
-/// How much may be kept of a connection, in bytes.
+/// The limits of what is kept of a connection, in bytes.
 #[derive(Clone, Copy, Debug, PartialEq, Eq, Drop)]
 pub struct Limits {
-    /// Where so much is unsent, nothing more is answered; 0 is as 1, by which a request is answered only where nothing is unsent.
+    /// No request is answered while this many bytes or more are unsent. 0 counts as 1: then a
+    /// request is answered only if nothing is unsent.
     pub unsent: usize,
-    /// Where so much came and is not answered, nothing more is read.
+    /// Nothing is read while this many bytes or more are held, that is, came and are not answered.
     pub held: usize,
 }
 
@@ -29,32 +31,43 @@ pub struct Limits {
 pub enum Turn {
     /// There may be more to do at once.
     GoesOn,
-    /// The same, after a load was answered.
+    /// As `GoesOn`, after a load was answered.
     Loaded,
-    /// The stream gives no bytes for now, or takes none.
+    /// The stream has no bytes for now, or takes none.
     Waits,
-    /// As much is held as may be, and less than a frame: nothing was read.
+    /// The limit of held bytes is reached, and they are less than a frame: nothing was read.
     NeedsRoom,
-    /// The connection is at its end.
+    /// The connection has ended, in this way.
     Ends(Result<Ended, ServeFault>),
 }
 
-/// Sends what is unsent, answers what is held up to one load, and where all is answered and sent, reads a piece.
+/// Sends what is unsent, answers what is held up to one load, and reads a piece if all is answered
+/// and sent.
 ///
-/// One push or none, and one pull or none, on the stream with this number alone. Nothing is answered once the limit of what may be
-/// unsent is reached or a load was answered, and nothing is read before all is sent. So fewer bytes are unsent than the limit and a
-/// reply have together; at most 4,096 bytes are read; and a load is answered only where Loaded is told, and then one.
+/// It makes at most one push and one pull, on the stream with this number alone. Nothing is
+/// answered once the limit of unsent bytes is reached or a load was answered, and nothing is read
+/// before all is sent. So fewer bytes are unsent than the limit plus 272, the maximum length of a
+/// reply, and at most 4,096 bytes are read. A load is answered only if the result is `Loaded`, and
+/// then exactly one.
 ///
-/// A connection ends as a stream does that `serve` serves: InputEnd and Cut come at the stream's end, without and with a part of a
-/// frame; Malformed once the reply to a faulty frame is sent; Read and Write where the stream fails, Write with what is unsent
-/// missing; TooManyFrames where a whole frame follows the 16,777,216th; NoMemory for bytes that came. At all ends but Write every
-/// reply is sent. It is no error to call it after that, but nothing is said of it.
+/// A connection ends as a stream does that `serve` serves. `InputEnd` comes at the stream's end if
+/// all is answered, and `Cut` if a part of a frame is left. `Malformed` comes once the reply to a
+/// faulty frame is sent. `Read` and `Write` come if the stream fails, `Write` with unsent bytes
+/// missing. `TooManyFrames` comes if a whole frame follows the 16,777,216th, and `NoMemory` if
+/// memory runs out for bytes that came or for the reply to them. At every end but `Write` all
+/// replies are sent. A call after the end is no error, but its effect is not specified.
 ///
-/// Its cost is that of the answers, and linear in the bytes that it moves.
+/// `owners` has the owners of the open sessions: a session that is opened is owned by this
+/// connection, and one for which a Close is answered has no owner. The list takes memory for one
+/// owner more than there are sessions; if it can't get that, the connection ends with `NoMemory`.
+///
+/// A turn costs as much as its answers, and is linear in the bytes that it moves; an Open or a
+/// Close costs O(owners) on top of that.
 pub fn turn_on<M: Streams, A: Answer>(
     streams: &mut M,
     connection: &mut Connection,
     service: &mut A,
+    owners: &mut Vec<Owner>,
     alloc: Global,
     limits: Limits,
     number: u64,
@@ -63,7 +76,7 @@ pub fn turn_on<M: Streams, A: Answer>(
         (A.state service.new) connection.old connection.new (M.stream streams.old number).left
         (M.stream streams.new number).left (M.stream streams.old number).written
         (M.stream streams.new number).written (M.stream streams.new number).read_mark
-        (M.stream streams.new number).write_mark }
+        (M.stream streams.new number).write_mark number owners.old.items owners.new.items }
     ensures read_mark { result ≢ Turn.Waits → result ≢ Turn.Ends (Err ServeFault.Read)
         → (M.stream streams.new number).read_mark ≡ (M.stream streams.old number).read_mark }
     ensures write_mark { result ≢ Turn.Waits → result ≢ Turn.Ends (Err ServeFault.Write)
@@ -76,7 +89,7 @@ pub fn turn_on<M: Streams, A: Answer>(
     if connection.is_refused() {
         return Turn::Ends(Ok(Ended::Malformed));
     }
-    let stop = connection.answer_held(service, alloc, limits.unsent.max(1));
+    let stop = connection.answer_held(service, owners, alloc, limits.unsent.max(1), number);
     if !connection.unsent().is_empty() {
         return behind_answers(stop);
     }
@@ -88,7 +101,7 @@ pub fn turn_on<M: Streams, A: Answer>(
     }
 }
 
-/// What follows a turn in which requests were answered until it stopped so.
+/// Returns what follows a turn in which requests were answered until this stop.
 fn behind_answers(stop: Stop) -> Turn
     ensures { result ≡ behind_answers stop }
 {
@@ -98,7 +111,7 @@ fn behind_answers(stop: Stop) -> Turn
     }
 }
 
-/// Sends what is unsent, as far as the stream takes it at once; None where all is sent.
+/// Sends what is unsent, as far as the stream takes it at once. Returns `None` if all is sent.
 fn send_on<M: Streams>(connection: &mut Connection, streams: &mut M, number: u64) -> Option<Turn>
     ensures so { (bytes : List ℕ) × Sends connection.old bytes connection.new
         × Appends (M.stream streams.old number).written (M.stream streams.new number).written bytes
@@ -122,7 +135,7 @@ fn send_on<M: Streams>(connection: &mut Connection, streams: &mut M, number: u64
     Some(Turn::GoesOn)
 }
 
-/// Reads a piece, unless as much is held as may be.
+/// Reads a piece, unless the limit of held bytes is reached.
 fn read_on<M: Streams>(
     connection: &mut Connection,
     streams: &mut M,
@@ -154,7 +167,7 @@ fn read_on<M: Streams>(
     }
 }
 
-/// How a connection ends at its stream's end, where so many bytes are held.
+/// Returns how a connection ends at its stream's end, if `held` bytes are held.
 fn at_end(held: usize) -> Result<Ended, ServeFault>
     ensures { EndsAt held result }
 {

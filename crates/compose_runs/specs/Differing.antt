@@ -127,7 +127,7 @@ IsDiffPrinted files arguments fresh colored (Err fault) outcome = IsFaultPrinted
 
 -- the notes on the lines of these files that other readers of Compose files lose
 abbrev pub lost_of : MigrationFiles → List ℕ
-lost_of both = lost_notes both.names.lines.items both.old both.new
+lost_of both = lost_notes both.old both.new
 
 -- the answer on these files, after the notes on where they lie and on the lines that other readers
 -- lose

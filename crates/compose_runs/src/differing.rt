@@ -210,7 +210,7 @@ fn diff_outcome<T: ComposeTable>(
 fn lost_of(alloc: Global, both: &MigrationFiles<'_>) -> Result<String, AllocError>
     ensures { IfOk result (λ notes. string_bytes notes ≡ words.lost_of both.now) }
 {
-    lost_notes(alloc, &both.names.lines, &both.old, &both.new)
+    lost_notes(alloc, &both.old, &both.new)
 }
 
 /// Returns notes on where the files lie, followed by these notes.

@@ -140,6 +140,7 @@ fn limits_of(chance: &mut Chance) -> Limits {
         connections: 64,
         unsent,
         idle: if chance.once_in(8) { Some(2) } else { None },
+        own_sessions: chance.once_in(2),
     }
 }
 

@@ -4,7 +4,7 @@ use Rattle.std.proofs.lemmas.List.Folds.{list_all_at}
 use Rattle.keysym_core.specs.Keysym.{is_keysym}
 use Rattle.compose_c.proofs.feeding.keysym_at.Goals as goal
 
--- one of numbers that are all those of keysyms
+-- a number is a keysym if all of the numbers are
 one_of : (numbers : List ℕ) (i : ℕ) → i < length numbers → list_all is_keysym numbers ≡ true → get_or numbers i 0 ≤ 0x1fffffff
 one_of numbers i less all = leb-true (get_or numbers i 0) 0x1fffffff (go (is_keysym (get_or numbers i 0)) refl)
   where

@@ -1,4 +1,5 @@
-use Rattle.compose_hub.specs.Serving.{world, ServedSoFar}
+use Rattle.compose_hub.specs.Turns.{owned}
+use Rattle.compose_hub.specs.Serving.{world, at_now, ServedSoFar}
 use Rattle.compose_hub.specs.Rounds.{AreWithinRooms}
 use Rattle.compose_hub.proofs.server.serve_at_once.Given as goal
 
@@ -6,6 +7,6 @@ abbrev pub invariant-rounds : goal.invariant-rounds
 invariant-rounds g l = record {
   served :
       ServedSoFar l.limits g.A.Answer.reading (world (g.A.Answer.state l.fn.service) (g.N.Streams.stream l.fn.sockets) (g.E.Report.told l.fn.report))
-      (world (g.A.Answer.state l.service) (g.N.Streams.stream l.sockets) (g.E.Report.told l.report)) l.server.accepted l.server.slots.items;
+      (at_now (owned (g.A.Answer.state l.service) l.server.owners.items) (g.N.Streams.stream l.sockets) (g.E.Report.told l.report)) l.server.accepted l.server.slots.items;
   rooms : AreWithinRooms l.server.slots.items;
 }

@@ -1,10 +1,11 @@
-use Rattle.std.proofs.Common.{◌≡◌, ◌++◌, drop}
-use Rattle.std.specs.Prelude.{flat_map}
-use Rattle.compose_lint.specs.Lost.{lost_place}
+use Rattle.std.proofs.Common.{◌≡◌, ◌++◌, map, length}
+use Rattle.compose_text.specs.Lines.{lines_of}
+use Rattle.compose_lint.specs.Lost.{lost_after, lost_lines}
 use Rattle.compose_lint.proofs.lost.push_lost.Given as goal
 
--- what is found so far, and in the lines that are left, is all
+-- the lost lines so far and the lost lines of the remaining bytes are all lost lines
 abbrev pub invariant-loop-line : goal.invariant-loop-line
-invariant-loop-line l =
-    l.places.items ++ flat_map (lost_place l.file.names.now l.file.bytes.now l.lines) (drop l.line-index l.lines)
-    ≡ l.fn.places.items ++ flat_map (lost_place l.file.names.now l.file.bytes.now l.lines) l.lines
+invariant-loop-line l = map (λ x. x.now) l.lost.items ++ lost_after l.marked l.unended l.before (lines_of l.rest) ≡ map (λ x. x.now) l.fn.lost.items ++ lost_lines l.bytes
+
+abbrev pub decreases-loop-line : goal.decreases-loop-line
+decreases-loop-line l = length l.rest

@@ -6,10 +6,11 @@ use Rattle.std.specs.Io.KnownBytes.{Consumes}
 use Rattle.compose_many.specs.Connection.{ConnectionState, sends, receives, max_piece}
 use Rattle.compose_many.specs.Steps.{StopsSo, KeptSo, loads_before, AnswersSo, IsRoomFor, ReadsSo}
 use Rattle.compose_many.specs.Turns.{FollowsSo, loads_in}
+use Rattle.compose_many.specs.Owners.{owners_by}
 use Rattle.compose_many.specs.declared.connection.Stop.{Stop}
 use Rattle.compose_many.specs.declared.turn.Turn.{Turn}
 use Rattle.compose_many.specs.declared.turn.Turn.TheVariants.{Ends}
-use Rattle.compose_many.proofs.Turning.{turn_then, turn_sent, turn_read, turn_on, follows_sent, follows_read, receives_so, is_kept, is_quiet, none_left, some_left, not_full, moves, loads_behind, follows_answers, short_sent, short_answered, short_read, sent_loads, read_loads, sent_holds_no_more, holds_no_more, read_holds_little}
+use Rattle.compose_many.proofs.Turning.{turn_then, turn_sent, turn_read, turn_on, follows_sent, follows_read, receives_so, is_kept, is_quiet, none_left, some_left, not_full, moves, loads_behind, follows_answers, short_sent, short_answered, short_read, sent_loads, read_loads, exchanges_read, sent_holds_no_more, holds_no_more, read_holds_little}
 use Rattle.compose_many.proofs.OneOfMany.{left_is, written_is}
 use Rattle.compose_many.proofs.turn.turn_on.Goals as goal
 
@@ -27,6 +28,7 @@ returns-in-Some-clause-turn g c =
       short_sent c.in-Some.turn so.0 (sent_loads c.in-Some.turn so.0 now sent.write_mark so.3),
       sent_holds_no_more (c.args.limits.held + max_piece) c.args.connection.now now so.0 so.1,
       follows_sent c.args.limits.held c.in-Some.turn c.args.connection.now now so.0 sent.left sent.read_mark sent.write_mark so.3,
+      refl,
     )
 
 pub returns-then-is_refused-clause-turn : goal.returns-then-is_refused-clause-turn
@@ -43,6 +45,7 @@ returns-then-is_refused-clause-turn g c =
       short_sent (Ends (Ok Malformed)) so.0 refl,
       sent_holds_no_more (c.args.limits.held + max_piece) c.args.connection.now now so.0 so.1,
       (sym c.if-is_refused.ensures, so.3),
+      refl,
     )
 
 pub returns-then-not-is_empty-clause-turn : goal.returns-then-not-is_empty-clause-turn
@@ -53,7 +56,7 @@ returns-then-not-is_empty-clause-turn g c =
     let so = c.in_default.ensures.so in
     let answers =
     subst
-    (λ (n : ℕ). AnswersSo n g.A.Answer.reading (g.A.Answer.state c.args.service.now)
+    (λ (n : ℕ). AnswersSo n c.args.number c.args.owners.now.items c.answer_held-stop.new.owners.items g.A.Answer.reading (g.A.Answer.state c.args.service.now)
     (g.A.Answer.state c.answer_held-stop.new.service) c.send_on.new.connection c.answer_held-stop.new.self c.answer_held-stop.result) c.max.ensures c.answer_held-stop.ensures in
     let now = c.answer_held-stop.new.self in
     let some = some_left c.unsent.result.now now.unsent c.is_empty.result c.if-not-is_empty.true c.is_empty.ensures c.unsent.ensures in
@@ -71,6 +74,7 @@ returns-then-not-is_empty-clause-turn g c =
       subst (λ (t : Turn). FollowsSo c.args.limits.held t c.args.connection.now (sends so.0 ∷ answers.0) answers.1 now sent.left sent.read_mark sent.write_mark) (sym c.behind_answers.ensures)
           (follows_answers c.args.limits.held c.answer_held-stop.result c.args.connection.now answers.1 now (sends so.0 ∷ answers.0) sent.left sent.read_mark sent.write_mark kept
           (moves c.args.connection.now c.send_on.new.connection answers.1 so.0 answers.0 so.1 so.3 (λ e. some (ap (λ (t : ConnectionState). t.unsent) kept ∙ e)))),
+      answers.6,
     )
 
 pub returns-in-NeedsBytes-clause-turn : goal.returns-in-NeedsBytes-clause-turn
@@ -82,7 +86,7 @@ returns-in-NeedsBytes-clause-turn g c =
     let so = c.in_default.ensures.so in
     let answers =
     subst
-    (λ (n : ℕ). AnswersSo n g.A.Answer.reading (g.A.Answer.state c.args.service.now)
+    (λ (n : ℕ). AnswersSo n c.args.number c.args.owners.now.items c.answer_held-stop.new.owners.items g.A.Answer.reading (g.A.Answer.state c.args.service.now)
     (g.A.Answer.state c.answer_held-stop.new.service) c.send_on.new.connection c.answer_held-stop.new.self c.answer_held-stop.result) c.max.ensures c.answer_held-stop.ensures in
     let stop = c.answer_held-stop.result in
     let mid = c.answer_held-stop.new.self in
@@ -116,6 +120,7 @@ returns-in-NeedsBytes-clause-turn g c =
       follows_read c.args.limits.held after c.read_on.new.connection read.0 left' read_new.read_mark
           read_new.write_mark stops.0 quiet c.read_on.result c.args.connection.now (sends so.0 ∷ answers.0)
           (subst (λ (t : ConnectionState). ReadsSo c.args.limits.held c.read_on.result t read.0 c.read_on.new.connection left' read_new.read_mark) kept read.3),
+      answers.6 ∙ ap (owners_by c.args.number c.args.owners.now.items) (sym (exchanges_read (sends so.0 ∷ answers.0) read.0)),
     )
 
 pub returns-in-NoMemory-clause-turn : goal.returns-in-NoMemory-clause-turn
@@ -126,7 +131,7 @@ returns-in-NoMemory-clause-turn g c =
     let so = c.in_default.ensures.so in
     let answers =
     subst
-    (λ (n : ℕ). AnswersSo n g.A.Answer.reading (g.A.Answer.state c.args.service.now)
+    (λ (n : ℕ). AnswersSo n c.args.number c.args.owners.now.items c.answer_held-stop.new.owners.items g.A.Answer.reading (g.A.Answer.state c.args.service.now)
     (g.A.Answer.state c.answer_held-stop.new.service) c.send_on.new.connection c.answer_held-stop.new.self c.answer_held-stop.result) c.max.ensures c.answer_held-stop.ensures in
     let mid = c.answer_held-stop.new.self in
     let after = answers.1 in
@@ -142,6 +147,7 @@ returns-in-NoMemory-clause-turn g c =
       holds_no_more (max c.args.limits.unsent 1) (c.args.limits.held + max_piece) g.A.Answer.reading (g.A.Answer.state c.args.service.now)
           (g.A.Answer.state c.answer_held-stop.new.service) c.args.connection.now c.send_on.new.connection answers.1 so.0 answers.0 so.1 answers.2,
       (stops.0, is_quiet after mid kept (none_left c.unsent.result.now mid.unsent c.is_empty.result c.if-not-is_empty.false c.is_empty.ensures c.unsent.ensures) stops.1),
+      answers.6,
     )
 
 pub returns-in-TooManyFrames-clause-turn : goal.returns-in-TooManyFrames-clause-turn
@@ -152,7 +158,7 @@ returns-in-TooManyFrames-clause-turn g c =
     let so = c.in_default.ensures.so in
     let answers =
     subst
-    (λ (n : ℕ). AnswersSo n g.A.Answer.reading (g.A.Answer.state c.args.service.now)
+    (λ (n : ℕ). AnswersSo n c.args.number c.args.owners.now.items c.answer_held-stop.new.owners.items g.A.Answer.reading (g.A.Answer.state c.args.service.now)
     (g.A.Answer.state c.answer_held-stop.new.service) c.send_on.new.connection c.answer_held-stop.new.self c.answer_held-stop.result) c.max.ensures c.answer_held-stop.ensures in
     let after = answers.1 in
     let stops = subst (λ (s : Stop). StopsSo (max c.args.limits.unsent 1) s after) c.in-TooManyFrames.is answers.3 in (
@@ -166,13 +172,14 @@ returns-in-TooManyFrames-clause-turn g c =
       holds_no_more (max c.args.limits.unsent 1) (c.args.limits.held + max_piece) g.A.Answer.reading (g.A.Answer.state c.args.service.now)
           (g.A.Answer.state c.answer_held-stop.new.service) c.args.connection.now c.send_on.new.connection answers.1 so.0 answers.0 so.1 answers.2,
       stops,
+      answers.6,
     )
 
 pub returns-in-Full-clause-turn : goal.returns-in-Full-clause-turn
 returns-in-Full-clause-turn g c =
     let answers =
     subst
-    (λ (n : ℕ). AnswersSo n g.A.Answer.reading (g.A.Answer.state c.args.service.now)
+    (λ (n : ℕ). AnswersSo n c.args.number c.args.owners.now.items c.answer_held-stop.new.owners.items g.A.Answer.reading (g.A.Answer.state c.args.service.now)
     (g.A.Answer.state c.answer_held-stop.new.service) c.send_on.new.connection c.answer_held-stop.new.self c.answer_held-stop.result) c.max.ensures c.answer_held-stop.ensures in
     absurd
     (not_full (max c.args.limits.unsent 1) c.answer_held-stop.result answers.1 c.answer_held-stop.new.self (omega arith) c.in-Full.is answers.3 answers.4

@@ -1,10 +1,11 @@
 use Rattle.std.proofs.Common.{◌≡◌}
 use Rattle.compose_many.specs.declared.turn.Turn.TheVariants.{GoesOn}
 use Rattle.compose_hub.specs.Slots.{KeepsShare}
+use Rattle.compose_hub.specs.Turns.{owned}
 use Rattle.compose_hub.proofs.Turns.{WentOn}
 use Rattle.compose_hub.proofs.client.Client.take_turns.Given as goal
 
 abbrev pub invariant-turns : goal.invariant-turns
 invariant-turns g l =
-    WentOn l.counter l.unsent g.A.Answer.reading (g.A.Answer.state l.fn.service) (g.A.Answer.state l.service) l.fn.self.number (g.N.Streams.stream l.fn.streams)
+    WentOn l.counter l.unsent g.A.Answer.reading (owned (g.A.Answer.state l.fn.service) l.fn.owners.items) (owned (g.A.Answer.state l.service) l.owners.items) l.fn.self.number (g.N.Streams.stream l.fn.streams)
     (g.N.Streams.stream l.streams) l.fn.self.connection l.self.connection × (l.self.number ≡ l.fn.self.number) × KeepsShare GoesOn l.fn.self l.self × (l.self.waits_for ≡ l.fn.self.waits_for)

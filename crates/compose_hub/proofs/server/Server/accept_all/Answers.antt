@@ -7,7 +7,7 @@ use Rattle.std.specs.Option.{is_none}
 use Rattle.compose_hub.specs.Rounds.{is_waits, is_wanted, AreWithinRooms, KeepsRooms}
 use Rattle.compose_hub.proofs.Rooms.{rooms_set}
 use Rattle.compose_hub.proofs.Trying.{tried_now, tried_not, tried_all}
-use Rattle.compose_hub.specs.Serving.{world, ServedSoFar}
+use Rattle.compose_hub.specs.Serving.{at_now, ServedSoFar}
 use Rattle.compose_hub.specs.declared.client.Client.{Client}
 use Rattle.compose_hub.proofs.Serving.{both_hold, keeps, slot_accepted}
 use Rattle.compose_hub.proofs.server.Server.accept_all.Goals as goal
@@ -20,7 +20,7 @@ pub slots-init : goal.slots-init
 slots-init g c =
     let is : c.deref_mut-slot-items.result.now ≡ c.args.self.now.slots.items = c.deref_mut-slot-items.ensures.value in
     record {
-      goes_on = λ reading state told first s. subst (λ (now : List (Option Client)). ServedSoFar c.args.limits reading first (world state (g.N.Streams.stream c.args.sockets.now) told) c.args.self.now.accepted now) (sym is) s;
+      goes_on = λ reading state told first s. subst (λ (now : List (Option Client)). ServedSoFar c.args.limits reading first (at_now state (g.N.Streams.stream c.args.sockets.now) told) c.args.self.now.accepted now) (sym is) s;
       rooms = λ all. subst (λ (now : List (Option Client)). AreWithinRooms now) (sym is) all;
       ahead = λ key le. ap (λ (now : List (Option Client)). get_or now key None) is;
       tried = λ waits below. inr (record { attempts = refl; queue = c.retried-self.ensures; accepted = refl; none_free = refl });
@@ -37,7 +37,7 @@ slots-preserved-then-not-is_wanted g c =
     in
     let same = sym (set-get_or c.slots.slot-items c.slots.key c.slot-item.result) in
     record {
-      goes_on = λ reading state told first s. subst (λ (now : List (Option Client)). ServedSoFar c.args.limits reading first (world state (g.N.Streams.stream c.slots.sockets) told) c.slots.self.1.1.0 now)
+      goes_on = λ reading state told first s. subst (λ (now : List (Option Client)). ServedSoFar c.args.limits reading first (at_now state (g.N.Streams.stream c.slots.sockets) told) c.slots.self.1.1.0 now)
           same (c.slots.invariant.goes_on reading state told first s);
       rooms = subst (λ (now : List (Option Client)). KeepsRooms c.args.self.now.slots.items now) same c.slots.invariant.rooms;
       ahead = subst (λ (now : List (Option Client)). (key : ℕ) → c.slots.key + 1 ≤ key → get_or now key None ≡ get_or c.args.self.now.slots.items key None) same
@@ -64,7 +64,7 @@ slots-preserved g c =
 pub returns-clause-goes_on : goal.returns-clause-goes_on
 returns-clause-goes_on g c reading state told first s =
     let len : length c.slots.slot-items ≡ c.args.self.now.slots.len = omega arith in
-    subst (λ (now : List (Option Client)). ServedSoFar c.args.limits reading first (world state (g.N.Streams.stream c.slots.sockets) told) c.slots.self.1.1.0 now)
+    subst (λ (now : List (Option Client)). ServedSoFar c.args.limits reading first (at_now state (g.N.Streams.stream c.slots.sockets) told) c.slots.self.1.1.0 now)
     (sym (take_at _ _ _ len)) (c.slots.invariant.goes_on reading state told first s)
 
 pub returns-clause-rooms : goal.returns-clause-rooms

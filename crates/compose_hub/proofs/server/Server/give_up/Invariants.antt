@@ -1,12 +1,12 @@
-use Rattle.compose_machine.specs.Machine.{ServiceState, Reading}
-use Rattle.compose_hub.specs.Serving.{world, GoesOnServing}
+use Rattle.compose_hub.specs.Turns.{owned}
+use Rattle.compose_hub.specs.Serving.{at_now, GoesOnServing}
 use Rattle.compose_hub.specs.Rounds.{KeepsRooms}
 use Rattle.compose_hub.proofs.server.Server.give_up.Given as goal
 
 abbrev pub invariant-slots : goal.invariant-slots
 invariant-slots g l = record {
-  goes_on : (reading : Reading) (state : ServiceState)
-      → GoesOnServing l.fn.limits reading (world state (g.N.Streams.stream l.fn.sockets) (g.E.Report.told l.fn.report))
-      (world state (g.N.Streams.stream l.sockets) (g.E.Report.told l.report)) l.fn.self.accepted l.fn.self.accepted l.fn.self.slots.items l.slot-items;
+  goes_on :
+      GoesOnServing l.limits g.A.Answer.reading (at_now (owned (g.A.Answer.state l.fn.service) l.fn.self.owners.items) (g.N.Streams.stream l.fn.sockets) (g.E.Report.told l.fn.report))
+      (at_now (owned (g.A.Answer.state l.service) l.self.1.1.1.1.0.items) (g.N.Streams.stream l.sockets) (g.E.Report.told l.report)) l.fn.self.accepted l.fn.self.accepted l.fn.self.slots.items l.slot-items;
   rooms : KeepsRooms l.fn.self.slots.items l.slot-items;
 }

@@ -6,6 +6,7 @@ use Rattle.compose_hub.proofs.server.Server.mark_ready.Given as goal
 abbrev pub invariant-ready : goal.invariant-ready
 invariant-ready l = record {
   accepted : l.self.accepted ≡ l.fn.self.accepted;
+  owners : l.self.owners.items ≡ l.fn.self.owners.items;
   still : AllAreStill l.fn.self.slots.items l.self.slots.items;
   queue : l.self.queue ≡ queue_with (take l.source-index l.ready) l.fn.self.queue;
   marks : MarksReady (take l.source-index l.ready) l.fn.self.slots.items l.self.slots.items;

@@ -13,6 +13,7 @@ rooms-preserved c =
     let lt : c.in-Some.key < length slots = search rules in
     record {
       accepted = c.give_room_at.ensures.still.0 ∙ c.rooms.invariant.accepted;
+      owners = c.give_room_at.ensures.owners ∙ c.rooms.invariant.owners;
       still = all_still_then _ slots c.give_room_at.new.self.slots.items c.rooms.invariant.still c.give_room_at.ensures.still.1;
       rooms = λ all. subst (λ (s : List (Option Client)). HasRooms c.rooms_used-used.result (c.rooms.counter + 1) s) (sym c.give_room_at.ensures.given)
           (room_given c.rooms_used-used.result c.rooms.counter slots c.in-Some.key now lt (fair_given c.rooms.self.time (get_or slots c.in-Some.key None)) (c.rooms.invariant.rooms all));

@@ -1,16 +1,18 @@
 use Rattle.std.proofs.Common.{◌≡◌, ℕ, ◌≤◌, get_or, take}
 use Rattle.std.specs.Prelude.{None}
-use Rattle.compose_hub.specs.Serving.{world, GoesOnServing, AreRound, with_turn}
+use Rattle.compose_hub.specs.Turns.{owned}
+use Rattle.compose_hub.specs.Serving.{at_now, GoesOnServing, AreRound, with_turn}
 use Rattle.compose_hub.specs.Rounds.{KeepsRooms}
 use Rattle.compose_hub.proofs.server.Server.take_turns.Given as goal
 
 abbrev pub invariant-slots : goal.invariant-slots
 invariant-slots g l = record {
   goes_on :
-      GoesOnServing l.limits g.A.Answer.reading (world (g.A.Answer.state l.fn.service) (g.N.Streams.stream l.fn.sockets) (g.E.Report.told l.fn.report))
-      (world (g.A.Answer.state l.service) (g.N.Streams.stream l.sockets) (g.E.Report.told l.report)) l.fn.self.accepted l.fn.self.accepted l.fn.self.slots.items l.slot-items;
+      GoesOnServing l.limits g.A.Answer.reading (at_now (owned (g.A.Answer.state l.fn.service) l.fn.self.owners.items) (g.N.Streams.stream l.fn.sockets) (g.E.Report.told l.fn.report))
+      (at_now (owned (g.A.Answer.state l.service) l.self.1.1.1.1.0.items) (g.N.Streams.stream l.sockets) (g.E.Report.told l.report)) l.fn.self.accepted l.fn.self.accepted l.fn.self.slots.items l.slot-items;
   round :
-      AreRound l.limits.unsent g.A.Answer.reading (g.A.Answer.state l.fn.service) (g.A.Answer.state l.service) (g.N.Streams.stream l.fn.sockets) (g.N.Streams.stream l.sockets)
+      AreRound l.limits.own_sessions l.limits.unsent g.A.Answer.reading (owned (g.A.Answer.state l.fn.service) l.fn.self.owners.items)
+      (owned (g.A.Answer.state l.service) l.self.1.1.1.1.0.items) (g.N.Streams.stream l.fn.sockets) (g.N.Streams.stream l.sockets)
       (with_turn (take l.slot-index l.fn.self.slots.items));
   ahead : (key : ℕ) → l.slot-index ≤ key → get_or l.slot-items key None ≡ get_or l.fn.self.slots.items key None;
   rooms : KeepsRooms l.fn.self.slots.items l.slot-items;

@@ -1,0 +1,208 @@
+-- The owners of the open sessions.
+use Rattle.std.proofs.Common.{◌≡◌, ℕ, ◌+◌, ◌<◌, ◌≤◌, List, [], ◌∷◌, ◌++◌, Bool, true, false, cond, length, map, refl, sym, ◌∙◌, ap, subst, append-nil, append_assoc, eq-eqb, arith}
+use Rattle.std.specs.Prelude.{not, Option, Some, None}
+use Rattle.compose_wire.specs.Messages.{Body, close, Answer, opened, fed, was_reset, closed, loaded, state, refused}
+use Rattle.compose_wire.specs.Requests.{body_of}
+use Rattle.compose_wire.specs.Replies.{SaysAnswer}
+use Rattle.compose_wire.specs.declared.request.Body.{Body as ProgramBody}
+use Rattle.compose_wire.specs.declared.request.Body.TheVariants.{Open, Key, Reset, Close, Load, LoadLongest, Ask}
+use Rattle.compose_wire.specs.declared.reply.Answer.{Answer as ProgramAnswer}
+use Rattle.compose_wire.specs.declared.reply.Answer.TheVariants.{Opened, Fed, WasReset, Closed, Loaded, State, Refused}
+use Rattle.std.specs.Prelude.{◌==◌, fold}
+use Rattle.std.specs.Io.KnownBytes.{Consumes, Appends}
+use Rattle.std.proofs.KnownBytes.{Consumes-nil, Appends-nil}
+use Rattle.std.proofs.lemmas.List.Sums.{fold-append}
+use Rattle.compose_machine.specs.Machine.{ServiceState, Reading, Step}
+use Rattle.compose_machine.specs.Laws.{Exchange, IsHistory}
+use Rattle.compose_many.specs.Connection.{ConnectionState, Event, closes, AllHappen, exchange_of, closed_of, received, exchanges, closings, sent}
+use Rattle.compose_many.specs.Service.{NumberedEvent, events_of, numbered}
+use Rattle.compose_many.specs.Turns.{IsTurn}
+use Rattle.compose_many.specs.Owners.{owners_noted, owners_when, owners_after, owners_by, owners_of, without, first_own, ClosesOwn, ClosesSo, EndedWithItsSessions, ClosedNone, ClosedAtEnd}
+use Rattle.compose_many.specs.declared.owners.Owner.{Owner}
+use Rattle.compose_many.proofs.Happening.{flat-both, map-both, history-both}
+use Rattle.compose_many.proofs.Serving.{those_of, none_of, events_of-both}
+
+-- what is noted for the program's reply is what is noted for its meaning
+opened_is : (c n : ℕ) (owners : List Owner) (a : ProgramAnswer) (v : Answer) → SaysAnswer a v → owners_noted c n owners Open a ≡ owners_when c n owners (body_of Open) v
+opened_is c n owners Opened opened h = refl
+opened_is c n owners (Fed s a t) (fed s' a' t') h = refl
+opened_is c n owners WasReset was_reset h = refl
+opened_is c n owners Closed closed h = refl
+opened_is c n owners (Loaded m) (loaded m') h = refl
+opened_is c n owners (State s p) (state s' p') h = refl
+opened_is c n owners (Refused m) (refused m') h = refl
+opened_is c n owners _ _ h = absurd h
+
+pub noted_is : (c n : ℕ) (owners : List Owner) (b : ProgramBody) (a : ProgramAnswer) (v : Answer) → SaysAnswer a v → owners_noted c n owners b a ≡ owners_when c n owners (body_of b) v
+noted_is c n owners Open a v h = opened_is c n owners a v h
+noted_is c n owners (Key k) a v h = refl
+noted_is c n owners Reset a v h = refl
+noted_is c n owners Close a v h = refl
+noted_is c n owners (Load p) a v h = refl
+noted_is c n owners (LoadLongest p) a v h = refl
+noted_is c n owners Ask a v h = refl
+
+-- ---- what is closed without a request
+
+-- these Closes are exactly the exchanges of their events
+pub exchanges_closed : (h : List Exchange) → exchanges (map closes h) ≡ h
+exchanges_closed [] = refl
+exchanges_closed (x ∷ h) = ap (λ (g : List Exchange). x ∷ g) (exchanges_closed h)
+
+pub closings_closed : (h : List Exchange) → closings (map closes h) ≡ h
+closings_closed [] = refl
+closings_closed (x ∷ h) = ap (λ (g : List Exchange). x ∷ g) (closings_closed h)
+
+pub received_closed : (h : List Exchange) → received (map closes h) ≡ []
+received_closed [] = refl
+received_closed (x ∷ h) = received_closed h
+
+pub sent_closed : (h : List Exchange) → sent (map closes h) ≡ []
+sent_closed [] = refl
+sent_closed (x ∷ h) = sent_closed h
+
+happen_closed : (limit c : ℕ) (owners : List Owner) (s : ConnectionState) (h : List Exchange) → ClosesOwn c owners h → AllHappen limit s (map closes h) s
+happen_closed limit c owners s [] own = refl
+happen_closed limit c owners s (x ∷ h) own = (s, record { close = own.1; after = refl }, happen_closed limit c (owners_after c owners x) s h own.2)
+
+-- they are a turn in which the connection and its stream stay as they are
+pub turn_closed : (limit : ℕ) (reading : Reading) (old new : ServiceState) (c : ℕ) (owners : List Owner) (s : ConnectionState) (left written : Option (List ℕ)) (h : List Exchange) → ClosesOwn c owners h
+    → IsHistory reading old h new → IsTurn limit reading old new s s left left written written (map closes h)
+turn_closed limit reading old new c owners s left written h own run = record {
+  happen = happen_closed limit c owners s h own;
+  run = subst (λ (g : List Exchange). IsHistory reading old g new) (sym (exchanges_closed h)) run;
+  read = subst (λ (l : List ℕ). Consumes left left l) (sym (received_closed h)) (Consumes-nil left);
+  wrote = subst (λ (l : List ℕ). Appends written written l) (sym (sent_closed h)) (Appends-nil written);
+}
+
+-- ---- owners after more events
+
+-- the owners after these events and then those
+pub owners_both : (c : ℕ) (owners : List Owner) (es fs : List Event) → owners_by c owners (exchanges (es ++ fs)) ≡ owners_by c (owners_by c owners (exchanges es)) (exchanges fs)
+owners_both c owners es fs =
+    ap (owners_by c owners) (flat-both exchange_of es fs) ∙ fold-append (owners_after c) owners (exchanges es) (exchanges fs)
+
+-- the owners after events of one connection
+pub owners_on : (c : ℕ) (owners : List Owner) (events : List Event)
+    → fold (λ (o : List Owner) (e : NumberedEvent). owners_by e.connection o (exchange_of e.event)) owners (numbered c events) ≡ owners_by c owners (exchanges events)
+owners_on c owners [] = refl
+owners_on c owners (e ∷ events) =
+    owners_on c (owners_by c owners (exchange_of e)) events ∙ sym (fold-append (owners_after c) owners (exchange_of e) (exchanges events))
+
+-- the owners after these events on one further connection
+pub owners_more : (c : ℕ) (all : List NumberedEvent) (events : List Event) → owners_of (all ++ numbered c events) ≡ owners_by c (owners_of all) (exchanges events)
+owners_more c all events =
+    fold-append (λ (o : List Owner) (e : NumberedEvent). owners_by e.connection o (exchange_of e.event)) [] all (numbered c events) ∙ owners_on c (owners_of all) events
+
+-- ---- what was closed for a connection
+
+-- the events on another connection
+pub events_other : (c n : ℕ) (all : List NumberedEvent) (events : List Event) → c == n ≡ false → events_of n (all ++ numbered c events) ≡ events_of n all
+events_other c n all events e =
+    events_of-both n all (numbered c events) ∙ ap (λ (es : List Event). events_of n all ++ es) (none_of c n events e) ∙ append-nil (events_of n all)
+
+pub events_own : (c : ℕ) (all : List NumberedEvent) (events : List Event) → events_of c (all ++ numbered c events) ≡ events_of c all ++ events
+events_own c all events = events_of-both c all (numbered c events) ∙ ap (λ (es : List Event). events_of c all ++ es) (those_of c c events (eq-eqb c c refl))
+
+module _ (c : ℕ) (all : List NumberedEvent) (events : List Event) where
+  pub none_closed_other : (n : ℕ) → c == n ≡ false → ClosedNone n all → ClosedNone n (all ++ numbered c events)
+  none_closed_other n e none = ap closings (events_other c n all events e) ∙ none
+
+  pub none_closed_own : ClosedNone c all → closings events ≡ [] → ClosedNone c (all ++ numbered c events)
+  none_closed_own none more =
+      ap closings (events_own c all events) ∙ flat-both closed_of (events_of c all) events ∙ ap (λ (h : List Exchange). h ++ closings events) none ∙ more
+
+  ended_other : (n : ℕ) → c == n ≡ false → EndedWithItsSessions n all → EndedWithItsSessions n (all ++ numbered c events)
+  ended_other n e p = record {
+    before = p.before;
+    closed = p.closed;
+    later = p.later ++ numbered c events;
+    parts =
+        ap (λ (es : List NumberedEvent). es ++ numbered c events) p.parts ∙ append_assoc p.before (numbered n (map closes p.closed) ++ p.later) (numbered c events)
+        ∙ ap (λ (es : List NumberedEvent). p.before ++ es) (append_assoc (numbered n (map closes p.closed)) p.later (numbered c events));
+    none_before = p.none_before;
+    each = p.each;
+    last = events_other c n p.later events e ∙ p.last;
+  }
+
+  -- the sessions that were closed for a connection that ended stay the same, whatever happens on another one
+  pub closed_other : (own : Bool) (n : ℕ) → c == n ≡ false → ClosedAtEnd own n all → ClosedAtEnd own n (all ++ numbered c events)
+  closed_other true n e p = ended_other n e p
+  closed_other false n e p = none_closed_other n e p
+
+-- a connection ends once a Close was answered for each of its sessions, after what was asked on it
+pub ended_own : (c : ℕ) (all : List NumberedEvent) (before : List Event) (h : List Exchange) → ClosedNone c all → closings before ≡ []
+    → ClosesOwn c (owners_by c (owners_of all) (exchanges before)) h → EndedWithItsSessions c (all ++ numbered c (before ++ map closes h))
+ended_own c all before h none none_more own = record {
+  before = all ++ numbered c before;
+  closed = h;
+  later = [];
+  parts =
+      ap (λ (es : List NumberedEvent). all ++ es) (map-both (λ (e : Event). record { connection = c; event = e }) before (map closes h)) ∙ sym (append_assoc all (numbered c before) (numbered c (map closes h)))
+      ∙ ap (λ (es : List NumberedEvent). (all ++ numbered c before) ++ es) (sym (append-nil (numbered c (map closes h))));
+  none_before = none_closed_own c all before none none_more;
+  each = subst (λ (o : List Owner). ClosesOwn c o h) (sym (owners_more c all before)) own;
+  last = refl;
+}
+
+-- ---- closing one session after another
+
+-- these sessions were closed, each the connection's first; further ones are closed after them
+pub record ClosedSoFar (c : ℕ) (reading : Reading) (old now : ServiceState) (first owners : List Owner) : Type 0 where
+  pub closed : List Exchange
+  pub run : IsHistory reading old closed now
+  pub owners_are : owners ≡ owners_by c first closed
+  pub each : (more : List Exchange) → ClosesOwn c owners more → ClosesOwn c first (closed ++ more)
+
+-- no session was closed
+pub closed_at_first : (c : ℕ) (reading : Reading) (old : ServiceState) (owners : List Owner) → ClosedSoFar c reading old old owners owners
+closed_at_first c reading old owners = record { closed = []; run = refl; owners_are = refl; each = λ more h. h }
+
+-- after a Close its session has no owner
+after_close : (c : ℕ) (owners : List Owner) (x : Exchange) → x.request.body ≡ close → owners_after c owners x ≡ without x.request.session owners
+after_close c owners x e = ap (λ (b : Body). owners_when c x.request.session owners b x.reply.answer) e
+
+module _ (c : ℕ) (reading : Reading) (old now new : ServiceState) (first owners owners' : List Owner) (s : ClosedSoFar c reading old now first owners) where
+  -- the first session that is left is closed
+  pub closed_more : (n : ℕ) → first_own c owners ≡ Some n → (x : Exchange) → x.request.session ≡ n → x.request.body ≡ close → Step reading now x.request x.reply new → owners' ≡ without n owners
+      → ClosedSoFar c reading old new first owners'
+  closed_more n is x same body step rest =
+      let after : owners' ≡ owners_after c owners x = rest ∙ ap (λ (m : ℕ). without m owners) (sym same) ∙ sym (after_close c owners x body) in
+      record {
+        closed = s.closed ++ x ∷ [];
+        run = history-both reading old now new s.closed (x ∷ []) s.run (new, step, refl);
+        owners_are = after ∙ ap (λ (o : List Owner). owners_after c o x) s.owners_are ∙ sym (fold-append (owners_after c) first s.closed (x ∷ []));
+        each = λ more h.
+            subst (λ (g : List Exchange). ClosesOwn c first g) (sym (append_assoc s.closed (x ∷ []) more))
+            (s.each (x ∷ more) (is ∙ ap (λ (m : ℕ). Some m) (sym same), body, subst (λ (o : List Owner). ClosesOwn c o more) after h));
+      }
+
+  -- no session is left
+  pub closed_all : first_own c owners ≡ None → ClosesSo c first owners reading old now
+  closed_all none = (s.closed, subst (λ (h : List Exchange). ClosesOwn c first h) (append-nil s.closed) (s.each [] none), s.run, s.owners_are)
+
+fewer : (n : ℕ) (owners : List Owner) → length (without n owners) ≤ length owners
+fewer n [] = omega arith
+fewer n (o ∷ owners) = by (o.session == n) (fewer n owners)
+  where
+    by : (b : Bool) → length (without n owners) ≤ length owners → length (cond (not b) (o ∷ without n owners) (without n owners)) ≤ length {A = Owner} (o ∷ owners)
+    by true le = omega (arith, le)
+    by false le = omega (arith, le)
+
+-- there are fewer owners once a session that has one is closed
+pub fewer_left : (c n : ℕ) (owners : List Owner) → first_own c owners ≡ Some n → length (without n owners) < length owners
+fewer_left c n [] h = absurd (cc)
+fewer_left c n (o ∷ owners) h = by (o.connection == c) (fewer_left c n owners) h
+  where
+    own : (b : Bool) → b ≡ true → length (cond (not b) (o ∷ without n owners) (without n owners)) < length {A = Owner} (o ∷ owners)
+    own true e = let le = fewer n owners in omega (arith, le)
+    own false e = absurd (cc)
+
+    other : (b : Bool) → length (without n owners) < length owners → length (cond (not b) (o ∷ without n owners) (without n owners)) < length {A = Owner} (o ∷ owners)
+    other true lt = omega (arith, lt)
+    other false lt = omega (arith, lt)
+
+    by : (b : Bool) → (first_own c owners ≡ Some n → length (without n owners) < length owners) → cond b (Some o.session) (first_own c owners) ≡ Some n
+        → length (cond (not (o.session == n)) (o ∷ without n owners) (without n owners)) < length {A = Owner} (o ∷ owners)
+    by true f e = let same : o.session ≡ n = cc in own (o.session == n) (eq-eqb o.session n same)
+    by false f e = other (o.session == n) (f e)

@@ -1,0 +1,8 @@
+use Rattle.std.proofs.Common.{refl}
+use Rattle.compose_wire.specs.Messages.{close}
+use Rattle.compose_many.proofs.owners.close.Goals as goal
+
+pub returns-clause-so : goal.returns-clause-so
+returns-clause-so g c =
+    let said = c.answer-reply.ensures in
+    (record { request = record { session = c.args.session; body = close }; reply = said.0 }, refl, refl, said.1)
