@@ -7,7 +7,7 @@ use Rattle.keysym_core.specs.Names.{KeysymNames}
 use Rattle.compose_model.specs.Table.{Definition}
 use Rattle.compose_model.specs.Nodes.{rising}
 use Rattle.compose_model.specs.Certificate.{Repertoire}
-use Rattle.compose_tree.specs.TableGives.{NoTable, first_table}
+use Rattle.compose_tree.specs.TableReturns.{NoTable, first_table}
 use Rattle.compose_migration.specs.Migration.{GivenMigration, NamedParts, TableSources, Parts, or_because, named, migration_of}
 use Rattle.compose_cert.specs.Repertoire.{repertoire_of}
 use Rattle.compose_fresh.specs.Fresh.{fresh_conditions, max_fresh}

@@ -1,8 +1,8 @@
 -- The refusal of each part; a refusal for lack of memory concerns the whole.
 use Rattle.std.specs.Prelude.{◌≡◌, Result, Ok, Err}
-use Rattle.compose_tree.specs.TableGives.{NoTable}
+use Rattle.compose_tree.specs.TableReturns.{NoTable}
 use Rattle.compose_migration.specs.Migration.{no_names, no_key, no_table}
-use Rattle.compose_migration.specs.MigrationGives.{TableFails}
+use Rattle.compose_migration.specs.MigrationReturns.{TableFails}
 use Rattle.compose_migration.specs.declared.fault.MigrationFault.{MigrationFault}
 use Rattle.compose_migration.specs.declared.fault.MigrationFault.TheVariants as migration_faults
 use Rattle.compose_migration.specs.declared.fault.Side.TheVariants as sides
@@ -40,17 +40,17 @@ fresh_raised make_faults.TooManyFresh = TooManyFresh
 
 -- the refusal names the part that is refused first, and why
 abbrev pub IsRefused : {P : Type 0} → Refusal → Result P NoAnswer → Type 0
-IsRefused (Names fault) said = said ≡ Err (unread (no_migration (no_names fault)))
-IsRefused (Key index) said = said ≡ Err (unread (no_migration (no_key index)))
-IsRefused (Table fault) said = (why : NoTable) × (said ≡ Err (no_only_table why)) × TableFails fault (Err why)
-IsRefused (Side side fault) said = (why : NoTable) × (said ≡ Err (unread (no_migration (no_table side why)))) × TableFails fault (Err why)
-IsRefused (Repertoire fault) said = said ≡ Err (unread (no_repertoire fault))
-IsRefused (Certificate fault) said = said ≡ Err (unread (no_certificate fault))
-IsRefused (Fresh fault) said = said ≡ Err (no_fresh (make_faults.BadFresh fault))
-IsRefused TooManyFresh said = said ≡ Err (no_fresh make_faults.TooManyFresh)
-IsRefused NoMemory said = Unit {0}
+IsRefused (Names fault) expected = expected ≡ Err (unread (no_migration (no_names fault)))
+IsRefused (Key index) expected = expected ≡ Err (unread (no_migration (no_key index)))
+IsRefused (Table fault) expected = (why : NoTable) × (expected ≡ Err (no_only_table why)) × TableFails fault (Err why)
+IsRefused (Side side fault) expected = (why : NoTable) × (expected ≡ Err (unread (no_migration (no_table side why)))) × TableFails fault (Err why)
+IsRefused (Repertoire fault) expected = expected ≡ Err (unread (no_repertoire fault))
+IsRefused (Certificate fault) expected = expected ≡ Err (unread (no_certificate fault))
+IsRefused (Fresh fault) expected = expected ≡ Err (no_fresh (make_faults.BadFresh fault))
+IsRefused TooManyFresh expected = expected ≡ Err (no_fresh make_faults.TooManyFresh)
+IsRefused NoMemory expected = Unit {0}
 
 -- an answer on these parts, or the refusal of the first one that is refused
-abbrev pub Gives : {P A : Type 0} → (P → A → Type 0) → Result A Refusal → Result P NoAnswer → Type 0
-Gives {P} answers (Ok answer) said = (parts : P) × (said ≡ Ok parts) × answers parts answer
-Gives answers (Err refusal) said = IsRefused refusal said
+abbrev pub Returns : {P A : Type 0} → (P → A → Type 0) → Result A Refusal → Result P NoAnswer → Type 0
+Returns {P} answers (Ok answer) expected = (parts : P) × (expected ≡ Ok parts) × answers parts answer
+Returns answers (Err refusal) expected = IsRefused refusal expected

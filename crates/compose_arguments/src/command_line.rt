@@ -1,6 +1,6 @@
 //! The rows of `commands` as clap's commands.
 use crate::commands::{COMMANDS, row_of};
-use crate::rows::{ArgumentRow, CommandRow, Given, NumberRange, OptionRow, Takes};
+use crate::rows::{ArgumentRow, CommandRow, GivenArguments, NumberRange, OptionRow, Takes};
 use clap::builder::ValueParser;
 use clap::{Arg, ArgAction, Command, value_parser};
 use std::alloc::{AllocError, Global};
@@ -130,17 +130,19 @@ fn with_default<'a>(option: Arg<'a>, default: Option<&'a str>) -> Arg<'a> {
 fn argument_of<'a>(alloc: Global, row: &ArgumentRow) -> Result<Arg<'a>, AllocError> {
     let argument = Arg::new(alloc, row.name).help(row.help);
     match row.given {
-        Given::Text => Ok(argument.required(true)),
-        Given::Maybe => Ok(argument),
-        Given::Number(range) => Ok(argument.required(true).value_parser(number_in(range))),
-        Given::TextUnless(option) => argument.required_unless_present(option),
-        Given::NumberUnless(range, option) => {
+        GivenArguments::Text => Ok(argument.required(true)),
+        GivenArguments::Maybe => Ok(argument),
+        GivenArguments::Number(range) => Ok(argument.required(true).value_parser(number_in(range))),
+        GivenArguments::TextUnless(option) => argument.required_unless_present(option),
+        GivenArguments::NumberUnless(range, option) => {
             let argument = argument.required_unless_present(option)?;
             Ok(argument.value_parser(number_in(range)))
         }
-        Given::Some => Ok(argument.required(true).num_args(1..)),
-        Given::SomeUnless(option) => argument.num_args(1..).required_unless_present(option),
-        Given::Any => Ok(argument.num_args(0..)),
+        GivenArguments::Some => Ok(argument.required(true).num_args(1..)),
+        GivenArguments::SomeUnless(option) => argument
+            .num_args(1..)
+            .required_unless_present(option),
+        GivenArguments::Any => Ok(argument.num_args(0..)),
     }
 }
 

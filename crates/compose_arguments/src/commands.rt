@@ -1,5 +1,5 @@
 //! The commands of the program, as rows.
-use crate::rows::{ArgumentRow, CommandRow, Given, NumberRange, OptionRow, Takes};
+use crate::rows::{ArgumentRow, CommandRow, GivenArguments, NumberRange, OptionRow, Takes};
 
 /// A command of the program.
 #[derive(Clone, Copy)]
@@ -143,42 +143,42 @@ const FILES: OptionRow = OptionRow {
 /// The table.
 const TABLE: ArgumentRow = ArgumentRow {
     name: "TABLE",
-    given: Given::Text,
+    given: GivenArguments::Text,
     help: "The manifest of the table, or with --files its Compose file",
 };
 
 /// The old table.
 const OLD: ArgumentRow = ArgumentRow {
     name: "OLD",
-    given: Given::Text,
+    given: GivenArguments::Text,
     help: "The manifest of the old table, or with --files its Compose file",
 };
 
 /// The new table.
 const NEW: ArgumentRow = ArgumentRow {
     name: "NEW",
-    given: Given::Text,
+    given: GivenArguments::Text,
     help: "The manifest of the new table, or with --files its Compose file",
 };
 
 /// The repertoire: characters and their keys.
 const REPERTOIRE: ArgumentRow = ArgumentRow {
     name: "REPERTOIRE",
-    given: Given::Text,
+    given: GivenArguments::Text,
     help: "The characters that people need, and their keys",
 };
 
 /// The certificate.
 const CERTIFICATE: ArgumentRow = ArgumentRow {
     name: "CERTIFICATE",
-    given: Given::Text,
+    given: GivenArguments::Text,
     help: "The certificate",
 };
 
 /// The socket of a running service.
 const SOCKET: ArgumentRow = ArgumentRow {
     name: "SOCKET",
-    given: Given::Text,
+    given: GivenArguments::Text,
     help: "The path of the service's socket",
 };
 
@@ -193,7 +193,7 @@ static TYPE: CommandRow = CommandRow {
         TABLE,
         ArgumentRow {
             name: "KEY",
-            given: Given::SomeUnless("files"),
+            given: GivenArguments::SomeUnless("files"),
             help: "The names of the keysyms; without one, with --files, each line of standard input has a list of them",
         },
     ],
@@ -281,12 +281,12 @@ static DIFF: CommandRow = CommandRow {
     arguments: &[
         ArgumentRow {
             name: "OLD",
-            given: Given::Text,
+            given: GivenArguments::Text,
             help: "The old Compose file",
         },
         ArgumentRow {
             name: "NEW",
-            given: Given::Text,
+            given: GivenArguments::Text,
             help: "The new Compose file",
         },
     ],
@@ -352,7 +352,7 @@ static HOW: CommandRow = CommandRow {
     options_of_files: &[],
     arguments: &[ArgumentRow {
         name: "TEXT",
-        given: Given::Some,
+        given: GivenArguments::Some,
         help: "The texts",
     }],
 };
@@ -402,7 +402,7 @@ static LIST: CommandRow = CommandRow {
     options_of_files: &[],
     arguments: &[ArgumentRow {
         name: "FILE",
-        given: Given::Maybe,
+        given: GivenArguments::Maybe,
         help: "The Compose file; without it, the one that libxkbcommon takes for the user",
     }],
 };
@@ -481,7 +481,7 @@ static LINT: CommandRow = CommandRow {
     options_of_files: &[],
     arguments: &[ArgumentRow {
         name: "FILE",
-        given: Given::Any,
+        given: GivenArguments::Any,
         help: "The Compose files; without one, that which libxkbcommon takes for the user",
     }],
 };
@@ -522,7 +522,7 @@ static MANIFEST: CommandRow = CommandRow {
     options_of_files: &[],
     arguments: &[ArgumentRow {
         name: "FILE",
-        given: Given::Maybe,
+        given: GivenArguments::Maybe,
         help: "The Compose file; without it, the one that libxkbcommon takes for the user",
     }],
 };
@@ -565,7 +565,7 @@ static UPDATE: CommandRow = CommandRow {
     options_of_files: &[],
     arguments: &[ArgumentRow {
         name: "FILE",
-        given: Given::Text,
+        given: GivenArguments::Text,
         help: "The new Compose file",
     }],
 };
@@ -660,22 +660,22 @@ static SERVE: CommandRow = CommandRow {
         TABLE,
         ArgumentRow {
             name: "REPERTOIRE",
-            given: Given::TextUnless("state"),
+            given: GivenArguments::TextUnless("state"),
             help: "The characters that people need, and their keys",
         },
         ArgumentRow {
             name: "CERTIFICATE",
-            given: Given::TextUnless("state"),
+            given: GivenArguments::TextUnless("state"),
             help: "The certificate of the table against itself",
         },
         ArgumentRow {
             name: "SOCKET",
-            given: Given::TextUnless("state"),
+            given: GivenArguments::TextUnless("state"),
             help: "The path of the socket",
         },
         ArgumentRow {
             name: "CONNECTIONS",
-            given: Given::NumberUnless(NumberRange::U16(1, u16::MAX), "state"),
+            given: GivenArguments::NumberUnless(NumberRange::U16(1, u16::MAX), "state"),
             help: "End after so many connections",
         },
     ],
@@ -735,12 +735,12 @@ static SESSION: CommandRow = CommandRow {
         SOCKET,
         ArgumentRow {
             name: "NUMBER",
-            given: Given::Number(NumberRange::U32(0, u32::MAX)),
+            given: GivenArguments::Number(NumberRange::U32(0, u32::MAX)),
             help: "The number of the session",
         },
         ArgumentRow {
             name: "KEY",
-            given: Given::Any,
+            given: GivenArguments::Any,
             help: "The names of the keysyms",
         },
     ],

@@ -1,7 +1,7 @@
 //! The arguments of the command line of `composecheck`, as requests.
 //!
 //! A command that reads files and answers is a variant of [`Question`], any other one a variant of
-//! [`Request`]. Each is a row of `commands`, and a line of `question_of` or `request_of`.
+//! [`CommandRequest`]. Each is a row of `commands`, and a line of `question_of` or `request_of`.
 //!
 //! ```text
 //! read_command_line(alloc, &arguments)?.request    // type table.manifest a b
@@ -38,7 +38,7 @@ pub use lint_arguments::LintArguments;
 pub use list_arguments::{ListArguments, ListSort};
 pub use manifest_arguments::ManifestArguments;
 pub use question::Question;
-pub use request::{CommandLine, Request, read_command_line};
+pub use request::{CommandLine, CommandRequest, read_command_line};
 pub use serve_arguments::{ServeArguments, Served};
 pub use table_arguments::TableArguments;
 pub use update_arguments::UpdateArguments;

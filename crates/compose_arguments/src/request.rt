@@ -11,7 +11,7 @@ use std::alloc::{AllocError, Global};
 
 /// The command that the command line names.
 #[derive(Drop)]
-pub enum Request<'a> {
+pub enum CommandRequest<'a> {
     /// A command that reads files and answers.
     Answer(Question<'a>),
     /// `update`: takes a Compose file into use.
@@ -42,7 +42,7 @@ pub struct CommandLine<'a> {
     /// Whether details of a refusal are printed.
     pub verbose: bool,
     /// The command and its arguments.
-    pub request: Request<'a>,
+    pub request: CommandRequest<'a>,
 }
 
 /// Reads these arguments, the first of which is the program's name. O(bytes of the arguments).
@@ -103,16 +103,16 @@ fn missing_word(command: &mut Command<'_>) -> Result<Error, AllocError> {
 fn request_of<'a>(
     alloc: Global,
     matches: &ArgMatches<'a>,
-) -> Result<Option<Request<'a>>, AllocError> {
+) -> Result<Option<CommandRequest<'a>>, AllocError> {
     let Some((command, given)) = matches.subcommand() else {
         return Ok(None);
     };
     match command {
         "update" => update_request(alloc, given),
         "serve" => serve_request(alloc, given),
-        "load" => Ok(load_arguments(given).map(Request::Load)),
+        "load" => Ok(load_arguments(given).map(CommandRequest::Load)),
         "session" => session_request(alloc, given),
-        _ => Ok(question_of(alloc, command, given)?.map(Request::Answer)),
+        _ => Ok(question_of(alloc, command, given)?.map(CommandRequest::Answer)),
     }
 }
 
@@ -120,11 +120,11 @@ fn request_of<'a>(
 fn serve_request<'a>(
     alloc: Global,
     given: &ArgMatches<'a>,
-) -> Result<Option<Request<'a>>, AllocError> {
+) -> Result<Option<CommandRequest<'a>>, AllocError> {
     let Some(arguments) = serve_arguments(given) else {
         return Ok(None);
     };
-    Ok(Some(Request::Serve {
+    Ok(Some(CommandRequest::Serve {
         arguments,
         fresh: given_fresh_names(alloc, given)?,
     }))
@@ -134,19 +134,19 @@ fn serve_request<'a>(
 fn session_request<'a>(
     alloc: Global,
     given: &ArgMatches<'a>,
-) -> Result<Option<Request<'a>>, AllocError> {
-    Ok(session_arguments(alloc, given)?.map(Request::Session))
+) -> Result<Option<CommandRequest<'a>>, AllocError> {
+    Ok(session_arguments(alloc, given)?.map(CommandRequest::Session))
 }
 
 /// Returns the request of `update`.
 fn update_request<'a>(
     alloc: Global,
     given: &ArgMatches<'a>,
-) -> Result<Option<Request<'a>>, AllocError> {
+) -> Result<Option<CommandRequest<'a>>, AllocError> {
     let Some(arguments) = update_arguments(given) else {
         return Ok(None);
     };
-    Ok(Some(Request::Update {
+    Ok(Some(CommandRequest::Update {
         arguments,
         fresh: fresh_names(alloc, given)?,
     }))

@@ -74,14 +74,14 @@ pub struct ArgumentRow {
     /// Its name in the help.
     pub name: &'static str,
     /// What is given for it.
-    pub given: Given,
+    pub given: GivenArguments,
     /// Its description in the help.
     pub help: &'static str,
 }
 
 /// What is given for a positional argument.
 #[derive(Clone, Copy)]
-pub enum Given {
+pub enum GivenArguments {
     /// A text.
     Text,
     /// A text, which may be left out.

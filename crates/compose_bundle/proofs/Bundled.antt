@@ -17,14 +17,14 @@ too_many : {a : ℕ} → 64 ≤ a → a < 64 → ⊥
 too_many h l = omega arith
 
 module _ (bytes name rest : List ℕ) (head : sized_by_2 bytes ≡ Some (name, rest)) where
-  named_so : source_at bytes ≡ named name rest
-  named_so = ap (λ o. o >>= (λ p. named p.0 p.1)) head
+  source_is_named : source_at bytes ≡ named name rest
+  source_is_named = ap (λ o. o >>= (λ p. named p.0 p.1)) head
 
   -- a name that is not UTF-8 begins no further source
   pub no_text : (sources : List Source) → is_utf8 name ≡ false → more_source sources bytes ≡ None
   no_text sources f =
       ap (λ o. o >>= (λ p. if nat_lt (source_named sources p.0.name) (length sources) then None else Some p))
-      (named_so ∙ ap (λ b. cond b (sized_by_4 rest >>= (λ p. Some (record { name = name; bytes = p.0 }, p.1))) None) f)
+      (source_is_named ∙ ap (λ b. cond b (sized_by_4 rest >>= (λ p. Some (record { name = name; bytes = p.0 }, p.1))) None) f)
 
   module _ (text : is_utf8 name ≡ true) (content left : List ℕ) (body : sized_by_4 rest ≡ Some (content, left)) (sources : List Source) where
     abbrev pub whole : Source
@@ -32,7 +32,7 @@ module _ (bytes name rest : List ℕ) (head : sized_by_2 bytes ≡ Some (name, r
 
     found : more_source sources bytes ≡ cond (nat_lt (source_named sources name) (length sources)) None (Some (whole, left))
     found = ap (λ o. o >>= (λ p. if nat_lt (source_named sources p.0.name) (length sources) then None else Some p))
-        (named_so ∙ ap (λ b. cond b (sized_by_4 rest >>= (λ p. Some (record { name = name; bytes = p.0 }, p.1))) None) text
+        (source_is_named ∙ ap (λ b. cond b (sized_by_4 rest >>= (λ p. Some (record { name = name; bytes = p.0 }, p.1))) None) text
         ∙ ap (λ o. o >>= (λ p. Some (record { name = name; bytes = p.0 }, p.1))) body)
 
     -- a source with a free name and a content comes after the others

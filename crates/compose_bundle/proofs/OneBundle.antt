@@ -248,13 +248,13 @@ none payload are not_one = go (bundle_of payload) refl
     go (Some b) e = absurd (not_one b (only payload b are e))
 
 -- the decoded bundle is the payload's bundle
-pub read_so : (payload : List ℕ) → AreBytes payload → {X : Type 0} (view : X → Bundle) (result : Result X BundleFault)
+pub read_as_decoded : (payload : List ℕ) → AreBytes payload → {X : Type 0} (view : X → Bundle) (result : Result X BundleFault)
     → MatchResult result (λ x. bundle_of payload ≡ Some (view x)) (λ fault. NotDecoded fault (bundle_of payload))
     → MatchResult result (λ x. IsBundle payload (view x)) (λ fault. NotRead fault payload)
-read_so payload are view (Ok x) h = only payload (view x) are h
-read_so payload are view (Err bundle_faults.Form) h = λ b k. absurd (let no : Some b ≡ None = sym (found payload b k) ∙ h in cc)
-read_so payload are view (Err bundle_faults.TooLarge) h = h
-read_so payload are view (Err bundle_faults.NoMemory) h = tt
+read_as_decoded payload are view (Ok x) h = only payload (view x) are h
+read_as_decoded payload are view (Err bundle_faults.Form) h = λ b k. absurd (let no : Some b ≡ None = sym (found payload b k) ∙ h in cc)
+read_as_decoded payload are view (Err bundle_faults.TooLarge) h = h
+read_as_decoded payload are view (Err bundle_faults.NoMemory) h = tt
 
 -- numbers below 256 are bytes
 pub are_bytes : (payload : List ℕ) → ((i : ℕ) → Fits w8 (get_or payload i 0)) → AreBytes payload

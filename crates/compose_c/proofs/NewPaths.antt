@@ -8,7 +8,7 @@ use Rattle.std.proofs.lemmas.Slice.Eq.{bytes_eq-Decides}
 use Rattle.compose_text.specs.Results.{◌>>=◌}
 use Rattle.compose_find.specs.Expand.{Words, include_path}
 use Rattle.compose_find.specs.Includes.{Include}
-use Rattle.compose_find.specs.Found.{TriedFile, FoundSource, Stop, wanted, missing_root, missing_file, refused, looked_or, looked_at, includes_at, there_or_missing, at_include, refusal, places, first_place, located, leads_to, with_source, with_include, with_includes, with_includes_of, found_on, found}
+use Rattle.compose_find.specs.Found.{TriedFile, FoundSource, Stop, wanted, missing_root, missing_file, refused, includes_or_wanted, found_includes, includes_at, there_or_missing, at_include, refusal, places, first_place, located, leads_to, with_source, with_include, with_includes, with_includes_of, search_from, found}
 use Rattle.compose_find.specs.declared.fault.IncludeFault.{IncludeFault}
 use Rattle.compose_find.specs.declared.fault.IncludeFault.TheVariants.{TwoFiles, TooManySources, IncludeDepth}
 
@@ -21,10 +21,10 @@ module _ (files : List TriedFile) (words : Words) (p : List ℕ) where
   abbrev IsNew : Type 0
   IsNew = find (λ f. bytes_eq p f.path) files ≡ None
 
-  by_look : (path : List ℕ) → looked_at files path ≡ Err (wanted p) → IsNew
+  by_look : (path : List ℕ) → found_includes files path ≡ Err (wanted p) → IsNew
   by_look path e = go (find (λ f. bytes_eq path f.path) files) refl e
     where
-      go : (o : Option TriedFile) → find (λ f. bytes_eq path f.path) files ≡ o → looked_or path o ≡ Err (wanted p) → IsNew
+      go : (o : Option TriedFile) → find (λ f. bytes_eq path f.path) files ≡ o → includes_or_wanted path o ≡ Err (wanted p) → IsNew
       go None is e = let same : path ≡ p = cc in subst (λ q. find (λ f. bytes_eq q f.path) files ≡ None) same is
       go (Some file) is e = cc
 
@@ -32,7 +32,7 @@ module _ (files : List TriedFile) (words : Words) (p : List ℕ) where
   unfolding first_place
   by_place from line path [] e = cc
   by_place from line path (place ∷ places) e =
-      elim (either (looked_at files place) (λ there. cond (is_some there) (Ok place) (first_place files (missing_file from.path line path) places)) (wanted p) e) [
+      elim (either (found_includes files place) (λ there. cond (is_some there) (Ok place) (first_place files (missing_file from.path line path) places)) (wanted p) e) [
         | inl h ↦ by_look place h
         | inr h ↦ go (by_place from line path places) (is_some h.0) h.1
       ]
@@ -88,7 +88,7 @@ module _ (files : List TriedFile) (words : Words) (p : List ℕ) where
   by_there path (Some includes) e = cc
 
   by_file : (path : List ℕ) → includes_at files path ≡ Err (wanted p) → IsNew
-  by_file path e = elim (either (looked_at files path) (there_or_missing path) (wanted p) e) [
+  by_file path e = elim (either (found_includes files path) (there_or_missing path) (wanted p) e) [
     | inl h ↦ by_look path h
     | inr h ↦ by_there path h.0 h.1
   ]
@@ -99,15 +99,15 @@ module _ (files : List TriedFile) (words : Words) (p : List ℕ) where
     | inr h ↦ by_includes from h.0 sources h.1
   ]
 
-  by_search : (left index : ℕ) (sources : List FoundSource) → found_on files words left index sources ≡ Err (wanted p) → IsNew
-  unfolding found_on
+  by_search : (left index : ℕ) (sources : List FoundSource) → search_from files words left index sources ≡ Err (wanted p) → IsNew
+  unfolding search_from
   by_search zero index sources e = cc
   by_search (suc left) index sources e = go (by_search left (1 + index)) (slice_get sources index) e
     where
-      go : ((more : List FoundSource) → found_on files words left (1 + index) more ≡ Err (wanted p) → IsNew) → (at : Option FoundSource)
-          → option_map_or (λ from. with_includes_of files words from sources >>= found_on files words left (1 + index)) at (Ok sources) ≡ Err (wanted p) → IsNew
+      go : ((more : List FoundSource) → search_from files words left (1 + index) more ≡ Err (wanted p) → IsNew) → (at : Option FoundSource)
+          → option_map_or (λ from. with_includes_of files words from sources >>= search_from files words left (1 + index)) at (Ok sources) ≡ Err (wanted p) → IsNew
       go rest None e = cc
-      go rest (Some from) e = elim (either (with_includes_of files words from sources) (found_on files words left (1 + index)) (wanted p) e) [
+      go rest (Some from) e = elim (either (with_includes_of files words from sources) (search_from files words left (1 + index)) (wanted p) e) [
         | inl h ↦ by_all from sources h
         | inr h ↦ rest h.0 h.1
       ]

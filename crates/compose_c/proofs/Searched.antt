@@ -7,8 +7,8 @@ use Rattle.compose_find.specs.Found.{TriedFile, FoundSource, Stop, wanted, found
 use Rattle.compose_c.specs.Answers.{answers_of}
 use Rattle.compose_c.specs.Faults.{of_part}
 use Rattle.compose_c.specs.Finds as finds
-use Rattle.compose_c.specs.Finds.{Search, IsFound, IsWanted, IsFinding, IsFindingOf, IsBundled, IsLarge, FailsSearch, Finds, Wants, Needs, TellsFind, search_of, search_by, text_of, words_of, of_stop, finding_bytes, finding_number}
-use Rattle.compose_c.specs.declared.fault.Fault.{Fault}
+use Rattle.compose_c.specs.Finds.{Search, IsFound, IsWanted, IsFinding, IsFindingOf, IsBundled, IsLarge, FailsSearch, Finds, Wants, Needs, ReportsFind, search_of, search_by, text_of, words_of, of_stop, finding_bytes, finding_number}
+use Rattle.compose_c.specs.declared.fault.FaultRecord.{FaultRecord}
 use Rattle.compose_c.specs.declared.find.Finding.{Finding}
 use Rattle.compose_c.specs.declared.find.Finding.TheVariants as finding
 use Rattle.compose_c.proofs.NewPaths.{wanted_is_new}
@@ -34,16 +34,16 @@ module _ (answers root system locale home sysroot : List ℕ) where
       whole words w = rw (sym a) (rw (sym r) (rw (sym w) refl))
 
 -- the result of the search is the result of the search that C asks for
-pub passed_on : (search : Option Search) (s : Search) (certificate : List ℕ) (r : Result Finding Fault) → search ≡ Some s
+pub passed_on : (search : Option Search) (s : Search) (certificate : List ℕ) (r : Result Finding FaultRecord) → search ≡ Some s
     → MatchResult r (λ f. IsFinding s certificate f) (λ fault. FailsSearch s certificate fault)
-    → MatchResult r (λ f. IsFindingOf search certificate f) (λ fault. TellsFind search certificate fault)
+    → MatchResult r (λ f. IsFindingOf search certificate f) (λ fault. ReportsFind search certificate fault)
 passed_on search s certificate (Ok f) e h = (s, e, h)
 passed_on search s certificate (Err fault) e h = inr (inr (s, e, h))
 
 -- ---- what it finds
 
 module _ (s : Search) (certificate : List ℕ) where
-  pub bundled : (sources : List FoundSource) (b : Bundle) (r : Result Finding Fault) → found s.files s.words s.root ≡ Ok sources → b ≡ finds.bundle_of s certificate sources → IsBundled b r
+  pub bundled : (sources : List FoundSource) (b : Bundle) (r : Result Finding FaultRecord) → found s.files s.words s.root ≡ Ok sources → b ≡ finds.bundle_of s certificate sources → IsBundled b r
       → MatchResult r (λ f. IsFinding s certificate f) (λ fault. FailsSearch s certificate fault)
   bundled sources b (Ok (finding.Found bytes)) f e h = record { sources = sources; found = f; is = subst (IsBundle bytes.items) e h }
   bundled sources b (Ok (finding.Wanted path)) f e h = absurd h
@@ -53,7 +53,7 @@ module _ (s : Search) (certificate : List ℕ) where
   pub wants : (path : List ℕ) → found s.files s.words s.root ≡ Err (wanted path) → IsWanted s path
   wants path e = record { is = e; new = wanted_is_new s.files s.words s.root path e }
 
-  pub stopped : (stop : Stop) (numbers fault : Fault) → found s.files s.words s.root ≡ Err stop → of_stop s.files stop ≡ Some numbers → (fault ≡ of_part 6 0) ⊎ (fault ≡ numbers)
+  pub stopped : (stop : Stop) (numbers fault : FaultRecord) → found s.files s.words s.root ≡ Err stop → of_stop s.files stop ≡ Some numbers → (fault ≡ of_part 6 0) ⊎ (fault ≡ numbers)
       → FailsSearch s certificate fault
   stopped stop numbers fault e n (inl h) = inl h
   stopped stop numbers fault e n (inr h) = inr (inl (record { stop = stop; is = e; numbers = n ∙ ap Some (sym h) }))

@@ -3,10 +3,10 @@
 use Rattle.std.specs.Prelude.{◌≡◌, ℕ, if◌then◌else◌, List, map, Ok, Err, unwrap_or}
 use Rattle.keysym_core.specs.Keysym.{is_keysym}
 use Rattle.keysym_core.specs.Names.{KeysymNames, character_of}
-use Rattle.keysym_core.specs.Header.{names_of, NamesGives}
+use Rattle.keysym_core.specs.Header.{names_of, NamesReturns}
 use Rattle.keysym_core.specs.declared.fault.NameFault.{NameFault}
 use Rattle.compose_c.specs.Faults.{of_names}
-use Rattle.compose_c.specs.declared.fault.Fault.{Fault}
+use Rattle.compose_c.specs.declared.fault.FaultRecord.{FaultRecord}
 
 -- the character of the keysym k; 0 if it has none, or if k is not a keysym
 abbrev pub character_number : KeysymNames → ℕ → ℕ
@@ -19,7 +19,7 @@ pub record AreCharacters (header keysyms characters : List ℕ) : Type 0 where
   pub are : characters ≡ map (character_number names) keysyms
 
 -- this fault reports to C why the header is refused
-pub record TellsNames (header : List ℕ) (said : Fault) : Type 0 where
+pub record ReportsNames (header : List ℕ) (reason : FaultRecord) : Type 0 where
   pub fault : NameFault
-  pub refused : NamesGives (Err fault) (names_of header)
-  pub is : said ≡ of_names fault
+  pub refused : NamesReturns (Err fault) (names_of header)
+  pub is : reason ≡ of_names fault

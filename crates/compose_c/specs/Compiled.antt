@@ -7,7 +7,7 @@ use Rattle.compose_model.specs.declared.Rule.{Rule}
 use Rattle.compose_model.specs.declared.Rule.TheVariants.{Refuse, Longest}
 use Rattle.compose_bundle.specs.Bundle.{Bundle, IsBundle}
 use Rattle.compose_results.specs.Results.{AreFirstResults}
-use Rattle.compose_tree.specs.TableGives.{first_table}
+use Rattle.compose_tree.specs.TableReturns.{first_table}
 use Rattle.compose_c.specs.declared.compile.Sizes.{Sizes}
 
 abbrev pub rule_of : Bool → Rule

@@ -2,7 +2,7 @@
 use Rattle.std.specs.Prelude.{◌≡◌, ℕ, List, [], ◌∷◌, Ok, Err}
 use Rattle.std.specs.Option.{option_map_or}
 use Rattle.keysym_core.specs.Names.{KeysymNames}
-use Rattle.keysym_core.specs.Header.{names_of, NamesGives}
+use Rattle.keysym_core.specs.Header.{names_of, NamesReturns}
 use Rattle.keysym_core.specs.declared.fault.NameFault.{NameFault}
 use Rattle.keysym_core.specs.declared.fault.NameFault.TheVariants as names
 use Rattle.compose_model.specs.Table.{Definition}
@@ -22,34 +22,34 @@ use Rattle.compose_cert.specs.declared.RepertoireFault.{RepertoireFault}
 use Rattle.compose_cert.specs.declared.RepertoireFault.TheVariants as repertoire
 use Rattle.compose_fresh.specs.declared.fault.CheckFault.{CheckFault}
 use Rattle.compose_fresh.specs.declared.fault.CheckFault.TheVariants as condition
-use Rattle.compose_tree.specs.TableGives.{TableGives, first_table}
+use Rattle.compose_tree.specs.TableReturns.{TableReturns, first_table}
 use Rattle.compose_tree.specs.declared.reading.TableFault.{TableFault}
 use Rattle.compose_tree.specs.declared.reading.TableFault.TheVariants as table
 use Rattle.compose_messages.specs.Places.{position_of}
-use Rattle.compose_c.specs.declared.fault.Fault.{Fault}
-use Rattle.compose_c.specs.declared.fault.Refusal.{Refusal}
-use Rattle.compose_c.specs.declared.fault.Refusal.TheVariants.{Names, Bundled, Table, Repertoire, Certificate, Unmet}
+use Rattle.compose_c.specs.declared.fault.FaultRecord.{FaultRecord}
+use Rattle.compose_c.specs.declared.fault.LoadRefusal.{LoadRefusal}
+use Rattle.compose_c.specs.declared.fault.LoadRefusal.TheVariants.{Names, Bundled, Table, Repertoire, Certificate, Unmet}
 
 -- ---- the numbers
 
-abbrev pub of_part : ℕ → ℕ → Fault
+abbrev pub of_part : ℕ → ℕ → FaultRecord
 of_part part code = record { part = part; code = code; lexical = 0; value = 0; source = 0; line = 0; column = 0; at = 0; reserved = 0 ∷ 0 ∷ [] }
 
-abbrev pub of_file : ℕ → ℕ → ℕ → Fault
+abbrev pub of_file : ℕ → ℕ → ℕ → FaultRecord
 of_file part code line = record { part = part; code = code; lexical = 0; value = 0; source = 0; line = line; column = 0; at = 0; reserved = 0 ∷ 0 ∷ [] }
 
 -- a fault of a source
-abbrev pub in_source : ℕ → ℕ → ℕ → ℕ → ℕ → Fault
+abbrev pub in_source : ℕ → ℕ → ℕ → ℕ → ℕ → FaultRecord
 in_source code lexical source line at = record { part = 3; code = code; lexical = lexical; value = 0; source = source; line = line; column = 0; at = at; reserved = 0 ∷ 0 ∷ [] }
 
-abbrev pub of_line : ℕ → ℕ → ℕ → ℕ → Fault
+abbrev pub of_line : ℕ → ℕ → ℕ → ℕ → FaultRecord
 of_line code source line at = in_source code 0 source line at
 
 -- a condition that a certificate does not meet
-abbrev pub of_condition : ℕ → ℕ → ℕ → Fault
+abbrev pub of_condition : ℕ → ℕ → ℕ → FaultRecord
 of_condition code at value = record { part = 9; code = code; lexical = 0; value = value; source = 0; line = 0; column = 0; at = at; reserved = 0 ∷ 0 ∷ [] }
 
-abbrev pub of_names : NameFault → Fault
+abbrev pub of_names : NameFault → FaultRecord
 of_names (names.NotUtf8 line) = of_file 1 1 line
 of_names (names.BadLine line) = of_file 1 2 line
 of_names (names.ValueTooLarge line) = of_file 1 3 line
@@ -57,7 +57,7 @@ of_names (names.NameConflict line) = of_file 1 4 line
 of_names names.TooManyNames = of_part 1 5
 of_names names.NoMemory = of_part 6 0
 
-abbrev pub of_bundle : BundleFault → Fault
+abbrev pub of_bundle : BundleFault → FaultRecord
 of_bundle bundle.Form = of_part 2 1
 of_bundle bundle.TooLarge = of_part 2 2
 of_bundle bundle.NoMemory = of_part 6 0
@@ -83,7 +83,7 @@ lexical_place (lexical.UnknownEscape at) = at
 lexical_place (lexical.BadCode at) = at
 lexical_place fault = 0
 
-abbrev pub of_reading : ReadFault → Fault
+abbrev pub of_reading : ReadFault → FaultRecord
 of_reading reading.MissingRoot = of_part 3 1
 of_reading (reading.NotUtf8 source line) = of_line 2 source line 0
 of_reading (reading.Lex source line fault) = in_source 3 (lexical_number fault) source line (lexical_place fault)
@@ -95,24 +95,24 @@ of_reading (reading.TooManyLines source line) = of_line 8 source line 0
 of_reading (reading.TooManyDefinitions source line) = of_line 9 source line 0
 of_reading reading.NoMemory = of_part 6 0
 
-abbrev pub of_table : TableFault → Fault
+abbrev pub of_table : TableFault → FaultRecord
 of_table (table.Read fault) = of_reading fault
 of_table (table.Settle fault) = of_part 4 1
 of_table (table.Build fault) = of_part 5 1
 of_table table.NoMemory = of_part 6 0
 
-abbrev pub of_repertoire : RepertoireFault → Fault
+abbrev pub of_repertoire : RepertoireFault → FaultRecord
 of_repertoire (repertoire.BadLine line) = of_file 7 1 line
 of_repertoire (repertoire.NotRising line) = of_file 7 2 line
 of_repertoire repertoire.TooMany = of_part 7 3
 of_repertoire repertoire.NoMemory = of_part 6 0
 
-abbrev pub of_certificate : CertFault → Fault
+abbrev pub of_certificate : CertFault → FaultRecord
 of_certificate (certificate.NotText line) = of_file 8 1 line
 of_certificate certificate.TooLarge = of_part 8 2
 of_certificate certificate.NoMemory = of_part 6 0
 
-abbrev pub of_check : CheckFault → Fault
+abbrev pub of_check : CheckFault → FaultRecord
 of_check condition.PairsNotRising = of_part 9 1
 of_check condition.NodeOutOfRange = of_part 9 2
 of_check condition.RootPairMissing = of_part 9 3
@@ -134,7 +134,7 @@ abbrev pub column_of : List Source → TableFault → ℕ
 column_of sources (table.Read fault) = option_map_or (λ p. p.1.column) (position_of sources fault) 0
 column_of sources fault = 0
 
-abbrev pub fault_of : Refusal → Fault
+abbrev pub fault_of : LoadRefusal → FaultRecord
 fault_of (Names fault) = of_names fault
 fault_of (Bundled fault) = of_bundle fault
 fault_of (Table fault column) = record (of_table fault) { column = column }
@@ -145,22 +145,22 @@ fault_of (Unmet fault) = of_check fault
 -- ---- what is refused
 
 -- the names are read and the payload is a bundle, but its first source defines no table: this fault is in this column
-pub record GivesNoTable (header payload : List ℕ) (rule : Rule) (fault : TableFault) (column : ℕ) : Type 0 where
+pub record ReturnsNoTable (header payload : List ℕ) (rule : Rule) (fault : TableFault) (column : ℕ) : Type 0 where
   pub names : KeysymNames
   pub sources : Bundle
   pub named : names_of header ≡ Ok names
   pub bundled : IsBundle payload sources
-  pub is : TableGives (λ (t : List Definition). t) (Err fault) (first_table names sources.sources rule)
+  pub is : TableReturns (λ (t : List Definition). t) (Err fault) (first_table names sources.sources rule)
   pub placed : column ≡ column_of sources.sources fault
 
-abbrev pub IsRefused : List ℕ → List ℕ → Rule → Refusal → Type 0
-IsRefused header payload rule (Names fault) = NamesGives (Err fault) (names_of header)
+abbrev pub IsRefused : List ℕ → List ℕ → Rule → LoadRefusal → Type 0
+IsRefused header payload rule (Names fault) = NamesReturns (Err fault) (names_of header)
 IsRefused header payload rule (Bundled fault) = NotRead fault payload
-IsRefused header payload rule (Table fault column) = GivesNoTable header payload rule fault column
+IsRefused header payload rule (Table fault column) = ReturnsNoTable header payload rule fault column
 IsRefused header payload rule (Repertoire fault) = ⊥
 IsRefused header payload rule (Certificate fault) = ⊥
 IsRefused header payload rule (Unmet fault) = ⊥
 
 -- this fault reports to C why the sources are refused
-abbrev pub Tells : List ℕ → List ℕ → Rule → Fault → Type 0
-Tells header payload rule told = (r : Refusal) × IsRefused header payload rule r × (told ≡ fault_of r)
+abbrev pub Reports : List ℕ → List ℕ → Rule → FaultRecord → Type 0
+Reports header payload rule reported = (r : LoadRefusal) × IsRefused header payload rule r × (reported ≡ fault_of r)

@@ -17,7 +17,7 @@ use Rattle.compose_find.specs.Locales.{locale_file}
 use Rattle.compose_messages.specs.Places.{position_of}
 use Rattle.compose_c.specs.Answers.{answers_of}
 use Rattle.compose_c.specs.Faults.{of_part, lexical_number, lexical_place}
-use Rattle.compose_c.specs.declared.fault.Fault.{Fault}
+use Rattle.compose_c.specs.declared.fault.FaultRecord.{FaultRecord}
 use Rattle.compose_c.specs.declared.find.Finding.{Finding}
 use Rattle.compose_c.specs.declared.find.Finding.TheVariants.{Found, Wanted}
 
@@ -114,29 +114,29 @@ abbrev pub column_in : List TriedFile → List ℕ → ReadFault → ℕ
 column_in files from fault =
     option_map_or (λ p. p.1.column) (position_of (record { name = []; bytes = unwrap_or (held_at files from) [] } ∷ []) fault) 0
 
-abbrev pub in_answer : List TriedFile → List ℕ → ℕ → ℕ → ℕ → Fault
+abbrev pub in_answer : List TriedFile → List ℕ → ℕ → ℕ → ℕ → FaultRecord
 in_answer files from line column code =
     record { part = 10; code = code; lexical = 0; value = 0; source = answer_for files from; line = line; column = column; at = 0; reserved = 0 ∷ 0 ∷ [] }
 
-abbrev pub of_missing_root : List TriedFile → List ℕ → Fault
+abbrev pub of_missing_root : List TriedFile → List ℕ → FaultRecord
 of_missing_root files path = in_answer files path 0 0 2
 
-abbrev pub of_missing_file : List TriedFile → List ℕ → ℕ → Fault
+abbrev pub of_missing_file : List TriedFile → List ℕ → ℕ → FaultRecord
 of_missing_file files from line = in_answer files from line (column_in files from (reading.MissingInclude 0 line)) 3
 
-abbrev pub of_include : List TriedFile → List ℕ → ℕ → IncludeFault → Fault
+abbrev pub of_include : List TriedFile → List ℕ → ℕ → IncludeFault → FaultRecord
 of_include files from line fault =
     record (in_answer files from line (column_in files from (as_read line fault)) (include_code fault)) { lexical = include_lexical fault; at = include_place fault }
 
 -- the fault for the reason why the search stops; none if a path has to be looked for
-abbrev pub of_stop : List TriedFile → Stop → Option Fault
+abbrev pub of_stop : List TriedFile → Stop → Option FaultRecord
 of_stop files (wanted path) = None
 of_stop files (missing_root path) = Some (of_missing_root files path)
 of_stop files (missing_file from line path) = Some (of_missing_file files from line)
 of_stop files (refused from line fault) = Some (of_include files from line fault)
 
 -- the search stops with this fault
-pub record IsStopped (s : Search) (fault : Fault) : Type 0 where
+pub record IsStopped (s : Search) (fault : FaultRecord) : Type 0 where
   pub stop : Stop
   pub is : found s.files s.words s.root ≡ Err stop
   pub numbers : of_stop s.files stop ≡ Some fault
@@ -146,20 +146,20 @@ abbrev pub IsLarge : Bundle → Type 0
 IsLarge b = BundleFits b → max_payload < length (bundle_bytes b)
 
 -- the bundle is written, or it is too large for a load, or an allocation failed
-abbrev pub IsBundled : Bundle → Result Finding Fault → Type 0
+abbrev pub IsBundled : Bundle → Result Finding FaultRecord → Type 0
 IsBundled b (Ok (Found bytes)) = IsBundle bytes.items b
 IsBundled b (Ok (Wanted path)) = ⊥
 IsBundled b (Err fault) = (fault ≡ of_part 6 0) ⊎ (IsLarge b × (fault ≡ of_part 2 2))
 
 -- the sources are found, and their bundle is too large
-pub record IsTooLarge (s : Search) (certificate : List ℕ) (fault : Fault) : Type 0 where
+pub record IsTooLarge (s : Search) (certificate : List ℕ) (fault : FaultRecord) : Type 0 where
   pub sources : List FoundSource
   pub found : found s.files s.words s.root ≡ Ok sources
   pub large : IsLarge (bundle_of s certificate sources)
   pub numbers : fault ≡ of_part 2 2
 
 -- an allocation failed, or the search stops with a fault, or its bundle is too large
-abbrev pub FailsSearch : Search → List ℕ → Fault → Type 0
+abbrev pub FailsSearch : Search → List ℕ → FaultRecord → Type 0
 FailsSearch s certificate fault = (fault ≡ of_part 6 0) ⊎ (IsStopped s fault ⊎ IsTooLarge s certificate fault)
 
 -- ---- for C
@@ -178,8 +178,8 @@ abbrev pub Needs : Option Search → List ℕ → ℕ → Type 0
 Needs search certificate size = (bytes : List ℕ) × (Finds search certificate bytes ⊎ Wants search bytes) × (size ≡ length bytes)
 
 -- the answers are malformed or a path is not UTF-8, or an allocation failed, or the search fails
-abbrev pub TellsFind : Option Search → List ℕ → Fault → Type 0
-TellsFind search certificate fault =
+abbrev pub ReportsFind : Option Search → List ℕ → FaultRecord → Type 0
+ReportsFind search certificate fault =
     ((search ≡ None) × (fault ≡ of_part 10 1)) ⊎ ((fault ≡ of_part 6 0) ⊎ ((s : Search) × (search ≡ Some s) × FailsSearch s certificate fault))
 
 -- ---- the table of a locale

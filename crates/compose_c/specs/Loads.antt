@@ -1,7 +1,7 @@
 -- When a certificate is valid for a move from one table to another, and when a table may be loaded.
 use Rattle.std.specs.Prelude.{◌≡◌, ℕ, List, Ok, Err}
 use Rattle.keysym_core.specs.Names.{KeysymNames}
-use Rattle.keysym_core.specs.Header.{names_of, NamesGives}
+use Rattle.keysym_core.specs.Header.{names_of, NamesReturns}
 use Rattle.compose_model.specs.Table.{Definition}
 use Rattle.compose_model.specs.Follows.{Follows, Waits}
 use Rattle.compose_model.specs.Certificate.{Certificate, Repertoire, IsValid, TypesAll}
@@ -10,17 +10,17 @@ use Rattle.compose_bundle.specs.Bundle.{Bundle, IsBundle}
 use Rattle.compose_bundle.specs.Written.{NotRead}
 use Rattle.compose_cert.specs.Reading.{certificate_of}
 use Rattle.compose_cert.specs.Repertoire.{repertoire_of}
-use Rattle.compose_cert.specs.CertificateGives.{CertificateGives, RepertoireGives}
+use Rattle.compose_cert.specs.CertificateReturns.{CertificateReturns, RepertoireReturns}
 use Rattle.compose_check.specs.Conditions.{fault_of}
 use Rattle.compose_check.specs.Verdict.{verdict_of}
 use Rattle.compose_check.specs.declared.verdict.Verdict.TheVariants.{No}
 use Rattle.compose_fresh.specs.declared.fault.CheckFault.{CheckFault}
-use Rattle.compose_tree.specs.TableGives.{first_table}
+use Rattle.compose_tree.specs.TableReturns.{first_table}
 use Rattle.compose_c.specs.Faults as faults
-use Rattle.compose_c.specs.Faults.{GivesNoTable}
-use Rattle.compose_c.specs.declared.fault.Fault.{Fault}
-use Rattle.compose_c.specs.declared.fault.Refusal.{Refusal}
-use Rattle.compose_c.specs.declared.fault.Refusal.TheVariants.{Names, Bundled, Table, Repertoire as OfRepertoire, Certificate as OfCertificate, Unmet}
+use Rattle.compose_c.specs.Faults.{ReturnsNoTable}
+use Rattle.compose_c.specs.declared.fault.FaultRecord.{FaultRecord}
+use Rattle.compose_c.specs.declared.fault.LoadRefusal.{LoadRefusal}
+use Rattle.compose_c.specs.declared.fault.LoadRefusal.TheVariants.{Names, Bundled, Table, Repertoire as OfRepertoire, Certificate as OfCertificate, Unmet}
 
 -- ---- with names that are read
 
@@ -43,12 +43,12 @@ pub record IsUnmet (names : KeysymNames) (old new : List Definition) (repertoire
   pub given_is : certificate_of certificate ≡ Ok given
   pub unmet : verdict_of (fault_of names old new needed given) ≡ No fault
 
-abbrev pub Misses : KeysymNames → List Definition → List Definition → List ℕ → List ℕ → Refusal → Type 0
+abbrev pub Misses : KeysymNames → List Definition → List Definition → List ℕ → List ℕ → LoadRefusal → Type 0
 Misses names old new repertoire certificate (Names fault) = ⊥
 Misses names old new repertoire certificate (Bundled fault) = ⊥
 Misses names old new repertoire certificate (Table fault column) = ⊥
-Misses names old new repertoire certificate (OfRepertoire fault) = RepertoireGives (Err fault) (repertoire_of repertoire)
-Misses names old new repertoire certificate (OfCertificate fault) = CertificateGives (Err fault) (certificate_of certificate)
+Misses names old new repertoire certificate (OfRepertoire fault) = RepertoireReturns (Err fault) (repertoire_of repertoire)
+Misses names old new repertoire certificate (OfCertificate fault) = CertificateReturns (Err fault) (certificate_of certificate)
 Misses names old new repertoire certificate (Unmet fault) = IsUnmet names old new repertoire certificate fault
 
 -- ---- with the names of a header
@@ -59,13 +59,13 @@ pub record IsCertified (header : List ℕ) (old new : List Definition) (repertoi
   pub meets : Meets names old new repertoire certificate
 
 -- the names are read, and the check with them fails for this reason
-pub record MissesNamed (header : List ℕ) (old new : List Definition) (repertoire certificate : List ℕ) (refusal : Refusal) : Type 0 where
+pub record MissesNamed (header : List ℕ) (old new : List Definition) (repertoire certificate : List ℕ) (refusal : LoadRefusal) : Type 0 where
   pub names : KeysymNames
   pub named : names_of header ≡ Ok names
   pub misses : Misses names old new repertoire certificate refusal
 
-abbrev pub IsUncertified : List ℕ → List Definition → List Definition → List ℕ → List ℕ → Refusal → Type 0
-IsUncertified header old new repertoire certificate (Names fault) = NamesGives (Err fault) (names_of header)
+abbrev pub IsUncertified : List ℕ → List Definition → List Definition → List ℕ → List ℕ → LoadRefusal → Type 0
+IsUncertified header old new repertoire certificate (Names fault) = NamesReturns (Err fault) (names_of header)
 IsUncertified header old new repertoire certificate (Bundled fault) = ⊥
 IsUncertified header old new repertoire certificate (Table fault column) = ⊥
 IsUncertified header old new repertoire certificate (OfRepertoire fault) = MissesNamed header old new repertoire certificate (OfRepertoire fault)
@@ -73,8 +73,8 @@ IsUncertified header old new repertoire certificate (OfCertificate fault) = Miss
 IsUncertified header old new repertoire certificate (Unmet fault) = MissesNamed header old new repertoire certificate (Unmet fault)
 
 -- this fault reports to C why the certificate is not valid
-abbrev pub TellsUncertified : List ℕ → List Definition → List Definition → List ℕ → List ℕ → Fault → Type 0
-TellsUncertified header old new repertoire certificate told = (r : Refusal) × IsUncertified header old new repertoire certificate r × (told ≡ faults.fault_of r)
+abbrev pub ReportsUncertified : List ℕ → List Definition → List Definition → List ℕ → List ℕ → FaultRecord → Type 0
+ReportsUncertified header old new repertoire certificate reported = (r : LoadRefusal) × IsUncertified header old new repertoire certificate r × (reported ≡ faults.fault_of r)
 
 -- ---- loads
 
@@ -89,7 +89,7 @@ pub record IsLoaded (header : List ℕ) (old : List Definition) (repertoire bund
   pub meets : Meets names old new repertoire sources.certificate
 
 -- the table is read, but the check of the bundle's certificate fails for this reason
-pub record MissesRead (header : List ℕ) (old : List Definition) (repertoire bundle : List ℕ) (rule : Rule) (refusal : Refusal) : Type 0 where
+pub record MissesRead (header : List ℕ) (old : List Definition) (repertoire bundle : List ℕ) (rule : Rule) (refusal : LoadRefusal) : Type 0 where
   pub names : KeysymNames
   pub sources : Bundle
   pub new : List Definition
@@ -98,14 +98,14 @@ pub record MissesRead (header : List ℕ) (old : List Definition) (repertoire bu
   pub is : first_table names sources.sources rule ≡ Ok new
   pub misses : Misses names old new repertoire sources.certificate refusal
 
-abbrev pub IsNotLoaded : List ℕ → List Definition → List ℕ → List ℕ → Rule → Refusal → Type 0
-IsNotLoaded header old repertoire bundle rule (Names fault) = NamesGives (Err fault) (names_of header)
+abbrev pub IsNotLoaded : List ℕ → List Definition → List ℕ → List ℕ → Rule → LoadRefusal → Type 0
+IsNotLoaded header old repertoire bundle rule (Names fault) = NamesReturns (Err fault) (names_of header)
 IsNotLoaded header old repertoire bundle rule (Bundled fault) = NotRead fault bundle
-IsNotLoaded header old repertoire bundle rule (Table fault column) = GivesNoTable header bundle rule fault column
+IsNotLoaded header old repertoire bundle rule (Table fault column) = ReturnsNoTable header bundle rule fault column
 IsNotLoaded header old repertoire bundle rule (OfRepertoire fault) = MissesRead header old repertoire bundle rule (OfRepertoire fault)
 IsNotLoaded header old repertoire bundle rule (OfCertificate fault) = MissesRead header old repertoire bundle rule (OfCertificate fault)
 IsNotLoaded header old repertoire bundle rule (Unmet fault) = MissesRead header old repertoire bundle rule (Unmet fault)
 
 -- this fault reports to C why no table is loaded
-abbrev pub TellsNotLoaded : List ℕ → List Definition → List ℕ → List ℕ → Rule → Fault → Type 0
-TellsNotLoaded header old repertoire bundle rule told = (r : Refusal) × IsNotLoaded header old repertoire bundle rule r × (told ≡ faults.fault_of r)
+abbrev pub ReportsNotLoaded : List ℕ → List Definition → List ℕ → List ℕ → Rule → FaultRecord → Type 0
+ReportsNotLoaded header old repertoire bundle rule reported = (r : LoadRefusal) × IsNotLoaded header old repertoire bundle rule r × (reported ≡ faults.fault_of r)

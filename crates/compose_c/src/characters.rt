@@ -1,9 +1,9 @@
 //! The characters of keysyms.
 ghost use Rattle.std.specs.Prelude.{◌≡◌, ◌≢◌, ◌≤◌, ◌<◌, length, map, take, unwrap_or};
 ghost use Rattle.compose_c.specs.Characters as words;
-ghost use Rattle.compose_c.specs.Characters.{AreCharacters, TellsNames};
+ghost use Rattle.compose_c.specs.Characters.{AreCharacters, ReportsNames};
 
-use crate::fault::{Fault, of_names};
+use crate::fault::{FaultRecord, of_names};
 use keysym_core::{Keysym, Names};
 use std::alloc::Global;
 
@@ -13,11 +13,11 @@ pub fn characters(
     header: &[u8],
     keysyms: &[u32],
     target: &mut [u32],
-    fault: &mut Fault,
+    fault: &mut FaultRecord,
 ) -> u32
     ensures done { result ≡ 0 → AreCharacters header.now keysyms.now
         (take (length keysyms.now) target.new) }
-    ensures refused { result ≡ 1 → TellsNames header.now fault.new }
+    ensures refused { result ≡ 1 → ReportsNames header.now fault.new }
     ensures wide { result ≡ 2 → length target.old < length keysyms.now }
     ensures few { result ≤ 2 }
     ensures same_fault { result ≢ 1 → fault.new ≡ fault.old }

@@ -2,10 +2,10 @@
 ghost use Rattle.std.specs.Prelude.{◌≡◌, ◌≢◌, ◌≤◌, true, false, length, take, MatchResult};
 ghost use Rattle.compose_tree.specs.Packed.{IsPacked, unpacked};
 ghost use Rattle.compose_c.specs.Compiled.{IsRead, Fits, rule_of};
-ghost use Rattle.compose_c.specs.Faults.{IsRefused, Tells};
+ghost use Rattle.compose_c.specs.Faults.{IsRefused, Reports};
 
 use crate::copies::put;
-use crate::fault::{Fault, Refusal, column_of, fault_of};
+use crate::fault::{FaultRecord, LoadRefusal, column_of, fault_of};
 use compose_bundle::read_bundle;
 use compose_model::Rule;
 use compose_tree::{LentArrays, PackedEdge, PackedNode, PackedTable, read_first_table};
@@ -38,7 +38,12 @@ pub fn rule(longest: bool) -> Rule
 }
 
 /// Returns the table that the bundle's first source defines, or why there is none.
-fn read(alloc: Global, header: &[u8], bundle: &[u8], longest: bool) -> Result<PackedTable, Refusal>
+fn read(
+    alloc: Global,
+    header: &[u8],
+    bundle: &[u8],
+    longest: bool,
+) -> Result<PackedTable, LoadRefusal>
     ensures { MatchResult result (λ table. IsRead header.now bundle.now (rule_of longest) table)
         (λ refusal. IsRefused header.now bundle.now (rule_of longest) refusal) }
 {
@@ -48,7 +53,7 @@ fn read(alloc: Global, header: &[u8], bundle: &[u8], longest: bool) -> Result<Pa
         Ok(table) => Ok(table),
         Err(fault) => {
             let column = column_of(&bundle.sources, &fault);
-            Err(Refusal::Table(fault, column))
+            Err(LoadRefusal::Table(fault, column))
         }
     }
 }
@@ -123,7 +128,7 @@ pub fn compile(
     texts: &mut [u8],
     hints: &mut [u8],
     sizes: &mut Sizes,
-    fault: &mut Fault,
+    fault: &mut FaultRecord,
 ) -> u32
     ensures read { result ≡ 0 → IsRead header.now bundle.now (rule_of longest)
         (unpacked (take sizes.new.nodes nodes.new) (take sizes.new.edges edges.new)
@@ -133,7 +138,7 @@ pub fn compile(
         (take sizes.new.texts texts.new)
         (unpacked (take sizes.new.nodes nodes.new) (take sizes.new.edges edges.new)
         (take sizes.new.offsets offsets.new) (take sizes.new.texts texts.new)) }
-    ensures refused { result ≡ 1 → Tells header.now bundle.now (rule_of longest) fault.new }
+    ensures refused { result ≡ 1 → Reports header.now bundle.now (rule_of longest) fault.new }
     ensures wide { result ≡ 2 → Fits sizes.new (length nodes.old) (length edges.old)
         (length offsets.old) (length texts.old) (length hints.old) → ⊥ }
     ensures few { result ≤ 2 }

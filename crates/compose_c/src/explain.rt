@@ -15,7 +15,7 @@ use std::fmt::Write;
 
 /// Returns the message why a bundle can't be read.
 fn bundle_words(fault: &BundleFault) -> &'static str
-    ensures { result.now ≡ words.bundle_said fault.now }
+    ensures { result.now ≡ words.bundle_message fault.now }
 {
     match fault {
         BundleFault::Form => "the bytes are no bundle of sources",
@@ -32,7 +32,7 @@ fn table_text(
     fault: &TableFault,
 ) -> Result<String, AllocError>
     ensures { IfOk result
-        (λ text. string_bytes text ≡ words.table_said names.now sources.now fault.now) }
+        (λ text. string_bytes text ≡ words.table_message names.now sources.now fault.now) }
 {
     match fault {
         TableFault::Read(fault) => {

@@ -15,7 +15,7 @@ use keysym_core::{Keysym, NameFault};
 /// number that a fault does not have is 0.
 #[repr(C)]
 #[derive(Clone, Copy)]
-pub struct Fault {
+pub struct FaultRecord {
     /// The part that is refused: 1 the names, 2 the bundle, 3 a source, 4 two sequences, one of
     /// which is a prefix of the other, 5 too many nodes, 6 memory, 7 the repertoire, 8 the text of
     /// the certificate, 9 a condition that the certificate doesn't meet, 10 the search for files.
@@ -41,7 +41,7 @@ pub struct Fault {
 
 /// Why a call refuses its arguments.
 #[derive(Drop)]
-pub enum Refusal {
+pub enum LoadRefusal {
     /// The header of keysym names is refused.
     Names(NameFault),
     /// The bundle is refused.
@@ -57,55 +57,55 @@ pub enum Refusal {
     Unmet(CheckFault),
 }
 
-impl From<NameFault> for Refusal {
+impl From<NameFault> for LoadRefusal {
     ghost use Rattle.std.specs.Prelude.{◌≡◌};
-    ghost use Rattle.compose_c.specs.declared.fault.Refusal.TheVariants.{Names};
+    ghost use Rattle.compose_c.specs.declared.fault.LoadRefusal.TheVariants.{Names};
 
     ghost from_gives = { λ fault e. e ≡ Names fault };
 
-    fn from(fault: NameFault) -> Refusal {
-        Refusal::Names(fault)
+    fn from(fault: NameFault) -> LoadRefusal {
+        LoadRefusal::Names(fault)
     }
 }
 
-impl From<BundleFault> for Refusal {
+impl From<BundleFault> for LoadRefusal {
     ghost use Rattle.std.specs.Prelude.{◌≡◌};
-    ghost use Rattle.compose_c.specs.declared.fault.Refusal.TheVariants.{Bundled};
+    ghost use Rattle.compose_c.specs.declared.fault.LoadRefusal.TheVariants.{Bundled};
 
     ghost from_gives = { λ fault e. e ≡ Bundled fault };
 
-    fn from(fault: BundleFault) -> Refusal {
-        Refusal::Bundled(fault)
+    fn from(fault: BundleFault) -> LoadRefusal {
+        LoadRefusal::Bundled(fault)
     }
 }
 
-impl From<RepertoireFault> for Refusal {
+impl From<RepertoireFault> for LoadRefusal {
     ghost use Rattle.std.specs.Prelude.{◌≡◌};
-    ghost use Rattle.compose_c.specs.declared.fault.Refusal.TheVariants.{Repertoire};
+    ghost use Rattle.compose_c.specs.declared.fault.LoadRefusal.TheVariants.{Repertoire};
 
     ghost from_gives = { λ fault e. e ≡ Repertoire fault };
 
-    fn from(fault: RepertoireFault) -> Refusal {
-        Refusal::Repertoire(fault)
+    fn from(fault: RepertoireFault) -> LoadRefusal {
+        LoadRefusal::Repertoire(fault)
     }
 }
 
-impl From<CertFault> for Refusal {
+impl From<CertFault> for LoadRefusal {
     ghost use Rattle.std.specs.Prelude.{◌≡◌};
-    ghost use Rattle.compose_c.specs.declared.fault.Refusal.TheVariants.{Certificate};
+    ghost use Rattle.compose_c.specs.declared.fault.LoadRefusal.TheVariants.{Certificate};
 
     ghost from_gives = { λ fault e. e ≡ Certificate fault };
 
-    fn from(fault: CertFault) -> Refusal {
-        Refusal::Certificate(fault)
+    fn from(fault: CertFault) -> LoadRefusal {
+        LoadRefusal::Certificate(fault)
     }
 }
 
 /// Returns a fault with this part and this code alone. O(1).
-pub fn of_part(part: u32, code: u32) -> Fault
+pub fn of_part(part: u32, code: u32) -> FaultRecord
     ensures { result ≡ words.of_part part code }
 {
-    Fault {
+    FaultRecord {
         part,
         code,
         lexical: 0,
@@ -118,7 +118,7 @@ pub fn of_part(part: u32, code: u32) -> Fault
     }
 }
 
-fn of_file(part: u32, code: u32, line: usize) -> Fault
+fn of_file(part: u32, code: u32, line: usize) -> FaultRecord
     ensures { result ≡ words.of_file part code line }
 {
     let mut fault = of_part(part, code);
@@ -126,7 +126,7 @@ fn of_file(part: u32, code: u32, line: usize) -> Fault
     fault
 }
 
-fn of_line(code: u32, source: usize, line: usize, at: usize) -> Fault
+fn of_line(code: u32, source: usize, line: usize, at: usize) -> FaultRecord
     ensures { result ≡ words.of_line code source line at }
 {
     let mut fault = of_part(3, code);
@@ -136,7 +136,7 @@ fn of_line(code: u32, source: usize, line: usize, at: usize) -> Fault
     fault
 }
 
-fn of_condition(code: u32, at: usize, value: u32) -> Fault
+fn of_condition(code: u32, at: usize, value: u32) -> FaultRecord
     ensures { result ≡ words.of_condition code at value }
 {
     let mut fault = of_part(9, code);
@@ -146,7 +146,7 @@ fn of_condition(code: u32, at: usize, value: u32) -> Fault
 }
 
 /// Returns the fault of a header. O(1).
-pub fn of_names(fault: &NameFault) -> Fault
+pub fn of_names(fault: &NameFault) -> FaultRecord
     ensures { result ≡ words.of_names fault.now }
 {
     match fault {
@@ -159,7 +159,7 @@ pub fn of_names(fault: &NameFault) -> Fault
     }
 }
 
-fn of_bundle(fault: &BundleFault) -> Fault
+fn of_bundle(fault: &BundleFault) -> FaultRecord
     ensures { result ≡ words.of_bundle fault.now }
 {
     match fault {
@@ -189,7 +189,7 @@ pub fn of_lexical(fault: &LexFault) -> (u32, usize)
     }
 }
 
-fn of_reading(fault: &ReadFault) -> Fault
+fn of_reading(fault: &ReadFault) -> FaultRecord
     ensures { result ≡ words.of_reading fault.now }
 {
     match fault {
@@ -201,9 +201,9 @@ fn of_reading(fault: &ReadFault) -> Fault
             fault,
         } => {
             let (lexical, at) = of_lexical(fault);
-            let mut told = of_line(3, *source, *line, at);
-            told.lexical = lexical;
-            told
+            let mut reported = of_line(3, *source, *line, at);
+            reported.lexical = lexical;
+            reported
         }
         ReadFault::UnknownKeysym {
             source,
@@ -223,7 +223,7 @@ fn of_reading(fault: &ReadFault) -> Fault
     }
 }
 
-fn of_table(fault: &TableFault) -> Fault
+fn of_table(fault: &TableFault) -> FaultRecord
     ensures { result ≡ words.of_table fault.now }
 {
     match fault {
@@ -234,7 +234,7 @@ fn of_table(fault: &TableFault) -> Fault
     }
 }
 
-fn of_repertoire(fault: &RepertoireFault) -> Fault
+fn of_repertoire(fault: &RepertoireFault) -> FaultRecord
     ensures { result ≡ words.of_repertoire fault.now }
 {
     match fault {
@@ -245,7 +245,7 @@ fn of_repertoire(fault: &RepertoireFault) -> Fault
     }
 }
 
-fn of_certificate(fault: &CertFault) -> Fault
+fn of_certificate(fault: &CertFault) -> FaultRecord
     ensures { result ≡ words.of_certificate fault.now }
 {
     match fault {
@@ -255,13 +255,13 @@ fn of_certificate(fault: &CertFault) -> Fault
     }
 }
 
-fn of_keysym(code: u32, at: usize, keysym: Keysym) -> Fault
+fn of_keysym(code: u32, at: usize, keysym: Keysym) -> FaultRecord
     ensures { result ≡ words.of_condition code at keysym }
 {
     of_condition(code, at, keysym.value())
 }
 
-fn of_check(fault: &CheckFault) -> Fault
+fn of_check(fault: &CheckFault) -> FaultRecord
     ensures { result ≡ words.of_check fault.now }
 {
     match fault {
@@ -298,19 +298,19 @@ pub fn column_of(sources: &Sources, fault: &TableFault) -> usize
 }
 
 /// Returns the refusal as numbers. O(1).
-pub fn fault_of(refusal: &Refusal) -> Fault
+pub fn fault_of(refusal: &LoadRefusal) -> FaultRecord
     ensures { result ≡ words.fault_of refusal.now }
 {
     match refusal {
-        Refusal::Names(fault) => of_names(fault),
-        Refusal::Bundled(fault) => of_bundle(fault),
-        Refusal::Table(fault, column) => {
-            let mut told = of_table(fault);
-            told.column = *column as u64;
-            told
+        LoadRefusal::Names(fault) => of_names(fault),
+        LoadRefusal::Bundled(fault) => of_bundle(fault),
+        LoadRefusal::Table(fault, column) => {
+            let mut reported = of_table(fault);
+            reported.column = *column as u64;
+            reported
         }
-        Refusal::Repertoire(fault) => of_repertoire(fault),
-        Refusal::Certificate(fault) => of_certificate(fault),
-        Refusal::Unmet(fault) => of_check(fault),
+        LoadRefusal::Repertoire(fault) => of_repertoire(fault),
+        LoadRefusal::Certificate(fault) => of_certificate(fault),
+        LoadRefusal::Unmet(fault) => of_check(fault),
     }
 }

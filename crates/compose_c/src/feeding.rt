@@ -103,7 +103,7 @@ fn target<T: ComposeTable>(
 pub fn feed<'t, T: ComposeTable>(state: &mut State, table: &'t T, keysym: Keysym) -> Fed<'t>
     ensures state { session_of state.new
         ≡ fed (T.definitions table.now) (session_of state.old) keysym }
-    ensures told { IsFedAlone (T.definitions table.now) (session_of state.old) keysym result }
+    ensures reported { IsFedAlone (T.definitions table.now) (session_of state.old) keysym result }
 {
     let ignored = keysym.is_ignored();
     if ignored {
@@ -141,7 +141,7 @@ fn follow<'t, T: ComposeTable>(
         → leaf.0 < length (leaves (T.definitions table.now)) }
     ensures state { session_of state.new
         ≡ fed (T.definitions table.now) (session_of state.old) keysym }
-    ensures told { IsFedAlone (T.definitions table.now) (session_of state.old) keysym result }
+    ensures reported { IsFedAlone (T.definitions table.now) (session_of state.old) keysym result }
 {
     match target {
         Target::Node(_) => {

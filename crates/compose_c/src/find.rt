@@ -1,13 +1,13 @@
 //! The search for the files of a table, over the answers from C.
 ghost use Rattle.std.specs.Prelude.{◌≡◌, ◌<◌, ◌≤◌, ◌≢◌, ◌⊎◌, ◌∷◌, [], IfOk, MatchResult, length, take, option_copied, option_map};
-ghost use Rattle.compose_find.specs.FindGives.{words};
+ghost use Rattle.compose_find.specs.FindReturns.{words};
 ghost use Rattle.compose_c.specs.Faults as numbers;
 ghost use Rattle.compose_c.specs.Finds as finds;
-ghost use Rattle.compose_c.specs.Finds.{IsBundled, IsFinding, IsFindingOf, FailsSearch, Finds, Wants, Needs, TellsFind, search_by, search_of, words_of};
+ghost use Rattle.compose_c.specs.Finds.{IsBundled, IsFinding, IsFindingOf, FailsSearch, Finds, Wants, Needs, ReportsFind, search_by, search_of, words_of};
 
 use crate::answers::{Answer, answer_for, files_of, held_at, read_answers};
 use crate::copies::put;
-use crate::fault::{Fault, of_lexical, of_part};
+use crate::fault::{FaultRecord, of_lexical, of_part};
 use crate::pieces::text_of;
 use compose_bundle::{BundleFault, write_bundle};
 use compose_find::{FindFault, IncludeFault, Meanings, find_table};
@@ -65,12 +65,12 @@ pub fn find(
     certificate: &[u8],
     target: &mut [u8],
     target_length: &mut usize,
-    fault: &mut Fault,
+    fault: &mut FaultRecord,
 ) -> u32
     ensures found { result ≡ 0 → Finds
         (search_of answers.now root.now system.now locale.now home.now sysroot.now)
         certificate.now (take target_length.new target.new) }
-    ensures refused { result ≡ 1 → TellsFind
+    ensures refused { result ≡ 1 → ReportsFind
         (search_of answers.now root.now system.now locale.now home.now sysroot.now)
         certificate.now fault.new }
     ensures wide { result ≡ 2 → length target.old < target_length.new }
@@ -152,12 +152,12 @@ fn search(
     home: &[u8],
     sysroot: &[u8],
     certificate: &[u8],
-) -> Result<Finding, Fault>
+) -> Result<Finding, FaultRecord>
     ensures { MatchResult result
         (λ finding. IsFindingOf
         (search_of answers.now root.now system.now locale.now home.now sysroot.now)
         certificate.now finding)
-        (λ fault. TellsFind
+        (λ fault. ReportsFind
         (search_of answers.now root.now system.now locale.now home.now sysroot.now)
         certificate.now fault) }
 {
@@ -183,7 +183,7 @@ fn search_over(
     meanings: Meanings<'_>,
     root: &str,
     certificate: &[u8],
-) -> Result<Finding, Fault>
+) -> Result<Finding, FaultRecord>
     ensures { MatchResult result
         (λ finding. IsFinding (search_by answers.now (words meanings.entry) root.now)
         certificate.now finding)
@@ -208,7 +208,7 @@ fn search_over(
 }
 
 /// Returns the bundle of these sources and this certificate.
-fn bundle_of(alloc: Global, sources: &Sources, certificate: &[u8]) -> Result<Finding, Fault>
+fn bundle_of(alloc: Global, sources: &Sources, certificate: &[u8]) -> Result<Finding, FaultRecord>
     ensures { IsBundled (record { sources = sources.now; certificate = certificate.now }) result }
 {
     match write_bundle(alloc, sources, certificate) {
@@ -220,25 +220,31 @@ fn bundle_of(alloc: Global, sources: &Sources, certificate: &[u8]) -> Result<Fin
 }
 
 /// Returns the fault of the file at this path.
-fn in_answer(answers: &[Answer<'_>], from: &str, line: usize, column: usize, code: u32) -> Fault
+fn in_answer(
+    answers: &[Answer<'_>],
+    from: &str,
+    line: usize,
+    column: usize,
+    code: u32,
+) -> FaultRecord
     ensures { result ≡ finds.in_answer answers.now from.now line column code }
 {
-    let mut told = of_part(10, code);
-    told.source = answer_for(answers, from) as u64;
-    told.line = line as u64;
-    told.column = column as u64;
-    told
+    let mut reported = of_part(10, code);
+    reported.source = answer_for(answers, from) as u64;
+    reported.line = line as u64;
+    reported.column = column as u64;
+    reported
 }
 
 /// Returns the fault that there is no file at the root's path.
-fn of_missing_root(answers: &[Answer<'_>], path: &str) -> Fault
+fn of_missing_root(answers: &[Answer<'_>], path: &str) -> FaultRecord
     ensures { result ≡ finds.of_missing_root answers.now path.now }
 {
     in_answer(answers, path, 0, 0, 2)
 }
 
 /// Returns the fault that there is no file for an include.
-fn of_missing_file(alloc: Global, answers: &[Answer<'_>], from: &str, line: usize) -> Fault
+fn of_missing_file(alloc: Global, answers: &[Answer<'_>], from: &str, line: usize) -> FaultRecord
     ensures { (result ≡ numbers.of_part 6 0)
         ⊎ (result ≡ finds.of_missing_file answers.now from.now line) }
 {
@@ -256,7 +262,7 @@ fn of_include(
     from: &str,
     line: usize,
     fault: IncludeFault,
-) -> Fault
+) -> FaultRecord
     ensures { (result ≡ numbers.of_part 6 0)
         ⊎ (result ≡ finds.of_include answers.now from.now line fault) }
 {
@@ -265,10 +271,10 @@ fn of_include(
     let read = as_read(line, fault);
     match column_in(alloc, answers, from, &read) {
         Ok(column) => {
-            let mut told = in_answer(answers, from, line, column, code);
-            told.lexical = lexical;
-            told.at = at as u64;
-            told
+            let mut reported = in_answer(answers, from, line, column, code);
+            reported.lexical = lexical;
+            reported.at = at as u64;
+            reported
         }
         Err(_) => of_part(6, 0),
     }

@@ -16,12 +16,12 @@ ghost use Rattle.compose_tree.specs.Packed.{IsPacked, unpacked};
 ghost use Rattle.compose_tree.specs.Targets.{target_of};
 ghost use Rattle.compose_c.specs.States.{session_of, status_number, feed_number};
 ghost use Rattle.compose_c.specs.Arrays.{edge_of};
-ghost use Rattle.compose_c.specs.Characters.{AreCharacters, TellsNames};
+ghost use Rattle.compose_c.specs.Characters.{AreCharacters, ReportsNames};
 ghost use Rattle.compose_c.specs.Compiled.{IsRead, IsReadWithResults, Fits, rule_of};
-ghost use Rattle.compose_c.specs.Faults.{Tells};
-ghost use Rattle.compose_c.specs.Finds.{Finds, Needs, TellsFind, Wants, locale_path, search_of};
+ghost use Rattle.compose_c.specs.Faults.{Reports};
+ghost use Rattle.compose_c.specs.Finds.{Finds, Needs, ReportsFind, Wants, locale_path, search_of};
 ghost use Rattle.compose_c.specs.Includes.{IsInclude, IncludesNone};
-ghost use Rattle.compose_c.specs.Loads.{IsCertified, TellsUncertified, IsLoaded, TellsNotLoaded};
+ghost use Rattle.compose_c.specs.Loads.{IsCertified, ReportsUncertified, IsLoaded, ReportsNotLoaded};
 ghost use Rattle.compose_c.specs.Results.{result_at};
 ghost use Rattle.compose_c.specs.Sentences.{IsSentence};
 
@@ -49,7 +49,7 @@ use compose_state::ComposeState;
 use compose_tree::{LentTable, PackedEdge, PackedNode};
 use copies::put;
 use explain::sentence;
-pub use fault::Fault;
+pub use fault::FaultRecord;
 use feeding::feed;
 use find::find;
 use following::following;
@@ -93,7 +93,7 @@ pub extern "C" fn composecheck_feed(
         (session_of state.old).pending key)
         (unpacked nodes.now edges.now offsets.now texts.now) (session_of state.old).pending key }
     ensures length { text_length.new ≤ 255 }
-    ensures told { result ≡ feed_number key }
+    ensures reported { result ≡ feed_number key }
     ensures no_keysym { 0x1fffffff < key → state.new ≡ state.old }
     ensures no_text { 0x1fffffff < key → text_length.new ≡ 0 }
 {
@@ -236,7 +236,7 @@ pub extern "C" fn composecheck_compile(
     texts: &mut [u8],
     hints: &mut [u8],
     sizes: &mut Sizes,
-    fault: &mut Fault,
+    fault: &mut FaultRecord,
 ) -> u32
     ensures read { result ≡ 0 → IsRead header.now bundle.now (rule_of longest)
         (unpacked (take sizes.new.nodes nodes.new) (take sizes.new.edges edges.new)
@@ -246,7 +246,7 @@ pub extern "C" fn composecheck_compile(
         (take sizes.new.texts texts.new)
         (unpacked (take sizes.new.nodes nodes.new) (take sizes.new.edges edges.new)
         (take sizes.new.offsets offsets.new) (take sizes.new.texts texts.new)) }
-    ensures refused { result ≡ 1 → Tells header.now bundle.now (rule_of longest) fault.new }
+    ensures refused { result ≡ 1 → Reports header.now bundle.now (rule_of longest) fault.new }
     ensures wide { result ≡ 2 → Fits sizes.new (length nodes.old) (length edges.old)
         (length offsets.old) (length texts.old) (length hints.old) → ⊥ }
     ensures few { result ≤ 2 }
@@ -281,7 +281,7 @@ pub extern "C" fn composecheck_compile_with_results(
     results: &mut [u32],
     sizes: &mut Sizes,
     result_count: &mut usize,
-    fault: &mut Fault,
+    fault: &mut FaultRecord,
 ) -> u32
     ensures read { result ≡ 0 → IsReadWithResults header.now bundle.now (rule_of longest)
         (unpacked (take sizes.new.nodes nodes.new) (take sizes.new.edges edges.new)
@@ -292,7 +292,7 @@ pub extern "C" fn composecheck_compile_with_results(
         (take sizes.new.texts texts.new)
         (unpacked (take sizes.new.nodes nodes.new) (take sizes.new.edges edges.new)
         (take sizes.new.offsets offsets.new) (take sizes.new.texts texts.new)) }
-    ensures refused { result ≡ 1 → Tells header.now bundle.now (rule_of longest) fault.new }
+    ensures refused { result ≡ 1 → Reports header.now bundle.now (rule_of longest) fault.new }
     ensures wide { result ≡ 2 → Fits sizes.new (length nodes.old) (length edges.old)
         (length offsets.old) (length texts.old) (length hints.old)
         → result_count.new ≤ length results.old → ⊥ }
@@ -360,19 +360,19 @@ pub extern "C" fn composecheck_explain(
     text: &mut [u8],
     text_length: &mut usize,
 ) -> u32
-    ensures said { result ≡ 0 → IsSentence header.now bundle.now (rule_of longest)
+    ensures reason { result ≡ 0 → IsSentence header.now bundle.now (rule_of longest)
         (take text_length.new text.new) }
     ensures wide { result ≡ 1 → length text.old < text_length.new }
     ensures few { result ≤ 2 }
 {
-    let Ok(said) = sentence(alloc, header, bundle, longest) else {
+    let Ok(reason) = sentence(alloc, header, bundle, longest) else {
         return 2;
     };
-    *text_length = said.len();
-    if said.len() > text.len() {
+    *text_length = reason.len();
+    if reason.len() > text.len() {
         return 1;
     }
-    put(said.as_bytes(), text);
+    put(reason.as_bytes(), text);
     0
 }
 
@@ -398,7 +398,7 @@ pub extern "C" fn composecheck_check(
     new_hints: &[u8],
     repertoire: &[u8],
     certificate: &[u8],
-    fault: &mut Fault,
+    fault: &mut FaultRecord,
 ) -> bool
     requires old { IsPacked old_nodes.now old_edges.now old_offsets.now old_texts.now
         (unpacked old_nodes.now old_edges.now old_offsets.now old_texts.now) }
@@ -408,7 +408,7 @@ pub extern "C" fn composecheck_check(
         (unpacked old_nodes.now old_edges.now old_offsets.now old_texts.now)
         (unpacked new_nodes.now new_edges.now new_offsets.now new_texts.now) repertoire.now
         certificate.now }
-    ensures refused { result ≡ false → TellsUncertified header.now
+    ensures refused { result ≡ false → ReportsUncertified header.now
         (unpacked old_nodes.now old_edges.now old_offsets.now old_texts.now)
         (unpacked new_nodes.now new_edges.now new_offsets.now new_texts.now) repertoire.now
         certificate.now fault.new }
@@ -442,7 +442,7 @@ pub extern "C" fn composecheck_load(
     texts: &mut [u8],
     hints: &mut [u8],
     sizes: &mut Sizes,
-    fault: &mut Fault,
+    fault: &mut FaultRecord,
 ) -> u32
     requires { IsPacked old_nodes.now old_edges.now old_offsets.now old_texts.now
         (unpacked old_nodes.now old_edges.now old_offsets.now old_texts.now) }
@@ -456,7 +456,7 @@ pub extern "C" fn composecheck_load(
         (take sizes.new.texts texts.new)
         (unpacked (take sizes.new.nodes nodes.new) (take sizes.new.edges edges.new)
         (take sizes.new.offsets offsets.new) (take sizes.new.texts texts.new)) }
-    ensures refused { result ≡ 1 → TellsNotLoaded header.now
+    ensures refused { result ≡ 1 → ReportsNotLoaded header.now
         (unpacked old_nodes.now old_edges.now old_offsets.now old_texts.now) repertoire.now
         bundle.now (rule_of longest) fault.new }
     ensures wide { result ≡ 2 → Fits sizes.new (length nodes.old) (length edges.old)
@@ -505,11 +505,11 @@ pub extern "C" fn composecheck_characters(
     header: &[u8],
     keysyms: &[u32],
     target: &mut [u32],
-    fault: &mut Fault,
+    fault: &mut FaultRecord,
 ) -> u32
     ensures done { result ≡ 0 → AreCharacters header.now keysyms.now
         (take (length keysyms.now) target.new) }
-    ensures refused { result ≡ 1 → TellsNames header.now fault.new }
+    ensures refused { result ≡ 1 → ReportsNames header.now fault.new }
     ensures wide { result ≡ 2 → length target.old < length keysyms.now }
     ensures few { result ≤ 2 }
     ensures same_fault { result ≢ 1 → fault.new ≡ fault.old }
@@ -572,12 +572,12 @@ pub extern "C" fn composecheck_find(
     certificate: &[u8],
     target: &mut [u8],
     target_length: &mut usize,
-    fault: &mut Fault,
+    fault: &mut FaultRecord,
 ) -> u32
     ensures found { result ≡ 0 → Finds
         (search_of answers.now root.now system.now locale.now home.now sysroot.now)
         certificate.now (take target_length.new target.new) }
-    ensures refused { result ≡ 1 → TellsFind
+    ensures refused { result ≡ 1 → ReportsFind
         (search_of answers.now root.now system.now locale.now home.now sysroot.now)
         certificate.now fault.new }
     ensures wide { result ≡ 2 → length target.old < target_length.new }

@@ -2,10 +2,10 @@
 ghost use Rattle.std.specs.Prelude.{◌≡◌, ◌≢◌, ◌≤◌, true, false, length, take, MatchResult};
 ghost use Rattle.compose_tree.specs.Packed.{IsPacked, unpacked};
 ghost use Rattle.compose_c.specs.Compiled.{Fits, rule_of};
-ghost use Rattle.compose_c.specs.Loads.{IsCertified, IsUncertified, TellsUncertified, IsLoaded, IsNotLoaded, TellsNotLoaded, Meets, Misses};
+ghost use Rattle.compose_c.specs.Loads.{IsCertified, IsUncertified, ReportsUncertified, IsLoaded, IsNotLoaded, ReportsNotLoaded, Meets, Misses};
 
 use crate::compile::{Sizes, put_table, rule};
-use crate::fault::{Fault, Refusal, column_of, fault_of};
+use crate::fault::{FaultRecord, LoadRefusal, column_of, fault_of};
 use compose_bundle::read_bundle;
 use compose_cert::{Certificate, Repertoire};
 use compose_check::{Verdict, check as check_tables};
@@ -23,7 +23,7 @@ fn meet<T: ComposeTable, U: ComposeTable>(
     new: &U,
     repertoire: &[u8],
     certificate: &[u8],
-) -> Result<(), Refusal>
+) -> Result<(), LoadRefusal>
     ensures { MatchResult result
         (λ _. Meets names.now (T.definitions old.now) (U.definitions new.now) repertoire.now
         certificate.now)
@@ -34,7 +34,7 @@ fn meet<T: ComposeTable, U: ComposeTable>(
     let certificate = Certificate::read(alloc, certificate)?;
     match check_tables(old, new, names, &repertoire, &certificate) {
         Verdict::Yes => Ok(()),
-        Verdict::No(fault) => Err(Refusal::Unmet(fault)),
+        Verdict::No(fault) => Err(LoadRefusal::Unmet(fault)),
     }
 }
 
@@ -46,7 +46,7 @@ fn certify<T: ComposeTable, U: ComposeTable>(
     new: &U,
     repertoire: &[u8],
     certificate: &[u8],
-) -> Result<(), Refusal>
+) -> Result<(), LoadRefusal>
     ensures { MatchResult result
         (λ _. IsCertified header.now (T.definitions old.now) (U.definitions new.now) repertoire.now
         certificate.now)
@@ -65,11 +65,11 @@ pub fn check<T: ComposeTable, U: ComposeTable>(
     new: &U,
     repertoire: &[u8],
     certificate: &[u8],
-    fault: &mut Fault,
+    fault: &mut FaultRecord,
 ) -> bool
     ensures valid { result ≡ true → IsCertified header.now (T.definitions old.now)
         (U.definitions new.now) repertoire.now certificate.now }
-    ensures refused { result ≡ false → TellsUncertified header.now (T.definitions old.now)
+    ensures refused { result ≡ false → ReportsUncertified header.now (T.definitions old.now)
         (U.definitions new.now) repertoire.now certificate.now fault.new }
     ensures same_fault { result ≡ true → fault.new ≡ fault.old }
 {
@@ -91,7 +91,7 @@ fn read<T: ComposeTable>(
     repertoire: &[u8],
     bundle: &[u8],
     longest: bool,
-) -> Result<PackedTable, Refusal>
+) -> Result<PackedTable, LoadRefusal>
     ensures { MatchResult result
         (λ table. IsLoaded header.now (T.definitions old.now) repertoire.now bundle.now
         (rule_of longest) table)
@@ -104,7 +104,7 @@ fn read<T: ComposeTable>(
         Ok(table) => table,
         Err(fault) => {
             let column = column_of(&bundle.sources, &fault);
-            return Err(Refusal::Table(fault, column));
+            return Err(LoadRefusal::Table(fault, column));
         }
     };
     match meet(alloc, &names, old, &table, repertoire, bundle.certificate) {
@@ -127,7 +127,7 @@ pub fn load<T: ComposeTable>(
     texts: &mut [u8],
     hints: &mut [u8],
     sizes: &mut Sizes,
-    fault: &mut Fault,
+    fault: &mut FaultRecord,
 ) -> u32
     ensures loaded { result ≡ 0 → IsLoaded header.now (T.definitions old.now) repertoire.now
         bundle.now (rule_of longest)
@@ -138,7 +138,7 @@ pub fn load<T: ComposeTable>(
         (take sizes.new.texts texts.new)
         (unpacked (take sizes.new.nodes nodes.new) (take sizes.new.edges edges.new)
         (take sizes.new.offsets offsets.new) (take sizes.new.texts texts.new)) }
-    ensures refused { result ≡ 1 → TellsNotLoaded header.now (T.definitions old.now)
+    ensures refused { result ≡ 1 → ReportsNotLoaded header.now (T.definitions old.now)
         repertoire.now bundle.now (rule_of longest) fault.new }
     ensures wide { result ≡ 2 → Fits sizes.new (length nodes.old) (length edges.old)
         (length offsets.old) (length texts.old) (length hints.old) → ⊥ }

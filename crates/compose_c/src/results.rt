@@ -5,12 +5,12 @@ ghost use Rattle.compose_model.specs.Nodes.{nodes};
 ghost use Rattle.compose_tree.specs.Packed.{IsPacked, unpacked};
 ghost use Rattle.compose_tree.specs.Targets.{target_of};
 ghost use Rattle.compose_c.specs.Compiled.{IsReadWithResults, Fits, rule_of};
-ghost use Rattle.compose_c.specs.Faults.{IsRefused, Tells};
+ghost use Rattle.compose_c.specs.Faults.{IsRefused, Reports};
 ghost use Rattle.compose_c.specs.Results.{result_at};
 
 use crate::compile::{Sizes, put_table, rule};
 use crate::copies::put_numbers;
-use crate::fault::{Fault, Refusal, column_of, fault_of};
+use crate::fault::{FaultRecord, LoadRefusal, column_of, fault_of};
 use crate::following::node_of;
 use compose_bundle::read_bundle;
 use compose_results::{ResultTable, read_first_results};
@@ -25,7 +25,7 @@ fn read(
     header: &[u8],
     bundle: &[u8],
     longest: bool,
-) -> Result<ResultTable<PackedTable>, Refusal>
+) -> Result<ResultTable<PackedTable>, LoadRefusal>
     ensures { MatchResult result
         (λ read. IsReadWithResults header.now bundle.now (rule_of longest) read.table
         read.results.items)
@@ -37,7 +37,7 @@ fn read(
         Ok(table) => Ok(table),
         Err(fault) => {
             let column = column_of(&bundle.sources, &fault);
-            Err(Refusal::Table(fault, column))
+            Err(LoadRefusal::Table(fault, column))
         }
     }
 }
@@ -56,7 +56,7 @@ pub fn compile_with_results(
     results: &mut [u32],
     sizes: &mut Sizes,
     result_count: &mut usize,
-    fault: &mut Fault,
+    fault: &mut FaultRecord,
 ) -> u32
     ensures read { result ≡ 0 → IsReadWithResults header.now bundle.now (rule_of longest)
         (unpacked (take sizes.new.nodes nodes.new) (take sizes.new.edges edges.new)
@@ -67,7 +67,7 @@ pub fn compile_with_results(
         (take sizes.new.texts texts.new)
         (unpacked (take sizes.new.nodes nodes.new) (take sizes.new.edges edges.new)
         (take sizes.new.offsets offsets.new) (take sizes.new.texts texts.new)) }
-    ensures refused { result ≡ 1 → Tells header.now bundle.now (rule_of longest) fault.new }
+    ensures refused { result ≡ 1 → Reports header.now bundle.now (rule_of longest) fault.new }
     ensures wide { result ≡ 2 → Fits sizes.new (length nodes.old) (length edges.old)
         (length offsets.old) (length texts.old) (length hints.old)
         → result_count.new ≤ length results.old → ⊥ }

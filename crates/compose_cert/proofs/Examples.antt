@@ -58,13 +58,13 @@ bound_too_great : certificate_of (four_pairs (codes "bound 4294967296") []) ≡ 
 unfolding digits
 bound_too_great = refl
 
-line_behind : certificate_of (four_pairs (codes "bound 1") (codes "typings 0" ++ 10 ∷ [])) ≡ Err (NotText 9)
+line_after : certificate_of (four_pairs (codes "bound 1") (codes "typings 0" ++ 10 ∷ [])) ≡ Err (NotText 9)
 unfolding digits
-line_behind = refl
+line_after = refl
 
-newline_behind : certificate_of (four_pairs (codes "bound 1") (10 ∷ [])) ≡ Err (NotText 9)
+extra_newline : certificate_of (four_pairs (codes "bound 1") (10 ∷ [])) ≡ Err (NotText 9)
 unfolding digits
-newline_behind = refl
+extra_newline = refl
 
 -- ---- fresh keysyms
 

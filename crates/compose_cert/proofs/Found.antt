@@ -16,8 +16,8 @@ use Rattle.compose_model.specs.Certificate.{Typing, Certificate}
 use Rattle.compose_cert.specs.declared.CertFault.{CertFault}
 use Rattle.compose_cert.specs.declared.CertFault.TheVariants.{NotText, TooLarge}
 use Rattle.compose_cert.specs.Spelling.{counted, character_text, keysym_text, pair_text, typing_text, version_line, fresh_lines, lines_of_text, ended, max_count, is_number, are_numbers, is_character, is_spelled, is_typing, is_typed, are_counted, is_counted, is_certificate, Spells}
-use Rattle.compose_cert.specs.Reading.{number_of, keysym_of, character_of, number_behind, both, pair_of, pair_of_words, keysyms_of, typing_of, typing_of_words, version_of, line_at, if_few, count_at, typing_at, times, if_some, end_at, some_fresh_at, fresh_at, certificate_of}
-use Rattle.compose_cert.specs.CertificateGives.{CertificateGives}
+use Rattle.compose_cert.specs.Reading.{number_of, keysym_of, character_of, number_after, both, pair_of, pair_of_words, keysyms_of, typing_of, typing_of_words, version_of, line_at, if_few, count_at, typing_at, times, if_some, end_at, some_fresh_at, fresh_at, certificate_of}
+use Rattle.compose_cert.specs.CertificateReturns.{CertificateReturns}
 use Rattle.compose_cert.proofs.LineRead.{join, join_divide, written_was}
 use Rattle.compose_cert.proofs.TextRead.{spelled_is_read, typing_parts, certificate_parts, after_fresh, after_typings, after_typing_count, after_pairs, after_count, after_bound, after_version}
 
@@ -80,12 +80,12 @@ is_any_typing t = is_spelled t && nat_lt 0 (length t.keys)
 typing_was : (line : List ℕ) (t : Typing) → typing_of line ≡ Some t → (is_any_typing t ≡ true) × (line ≡ typing_text t)
 typing_was line t h = go (divide 32 line) h (join_divide 32 line)
   where
-    told : (c k : List ℕ) (ks : List (List ℕ)) (x : Option ℕ) (y : Option (List ℕ)) → character_of c ≡ x → keysyms_of (k ∷ ks) ≡ y
+    reported : (c k : List ℕ) (ks : List (List ℕ)) (x : Option ℕ) (y : Option (List ℕ)) → character_of c ≡ x → keysyms_of (k ∷ ks) ≡ y
         → option_map (λ x. let t : Typing = record { character = x.0; keys = x.1 } in t) (both x y) ≡ Some t → join 32 (c ∷ k ∷ ks) ≡ line → (is_any_typing t ≡ true) × (line ≡ typing_text t)
-    told c k ks None None d e h j = cc
-    told c k ks None (Some keys) d e h j = cc
-    told c k ks (Some x) None d e h j = cc
-    told c k ks (Some x) (Some keys) d e h j =
+    reported c k ks None None d e h j = cc
+    reported c k ks None (Some keys) d e h j = cc
+    reported c k ks (Some x) None d e h j = cc
+    reported c k ks (Some x) (Some keys) d e h j =
         let made : Typing = record { character = x; keys = keys } in
         let same : made ≡ t = cc in
         let a = character_was c x d in
@@ -99,7 +99,7 @@ typing_was line t h = go (divide 32 line) h (join_divide 32 line)
     go : (words : List (List ℕ)) → typing_of_words words ≡ Some t → join 32 words ≡ line → (is_any_typing t ≡ true) × (line ≡ typing_text t)
     go [] h j = cc
     go (c ∷ []) h j = cc
-    go (c ∷ k ∷ ks) h j = told c k ks (character_of c) (keysyms_of (k ∷ ks)) refl refl h j
+    go (c ∷ k ∷ ks) h j = reported c k ks (character_of c) (keysyms_of (k ∷ ks)) refl refl h j
 
 -- a line that starts with these bytes, and what follows
 starts_was : (word line : List ℕ) → starts_with nat_eq line word ≡ true → line ≡ word ++ drop (length word) line
@@ -109,8 +109,8 @@ starts_was (b ∷ word) (c ∷ line) h =
     let parts = and_parts (b == c) (starts_with nat_eq line word) h in
     ap (λ x. x ∷ line) (sym (eqb-true b c parts.0)) ∙ ap (λ ds. b ∷ ds) (starts_was word line parts.1)
 
-number_behind_was : (word line : List ℕ) (n : ℕ) → number_behind word line ≡ Some n → (is_number n ≡ true) × (line ≡ counted word n)
-number_behind_was word line n h = go (starts_with nat_eq line (word ++ 32 ∷ [])) refl h
+number_after_was : (word line : List ℕ) (n : ℕ) → number_after word line ≡ Some n → (is_number n ≡ true) × (line ≡ counted word n)
+number_after_was word line n h = go (starts_with nat_eq line (word ++ 32 ∷ [])) refl h
   where
     go : (t : Bool) → starts_with nat_eq line (word ++ 32 ∷ []) ≡ t → cond t (number_of (drop (length word + 1) line)) None ≡ Some n → (is_number n ≡ true) × (line ≡ counted word n)
     go false e h = cc
@@ -161,10 +161,10 @@ few_was size x y h = go (nat_lt max_count (size x.0)) refl h
     go false e h = let same = ok_same x y h in (ap (λ z. nat_le (size z.0) max_count) (sym same) ∙ le-leb (size x.0) max_count (ltb-false max_count (size x.0) e), same)
 
 count_was : (word : List ℕ) (n : ℕ) (lines : List (List ℕ)) (x : ℕ × List (List ℕ)) → count_at word n lines ≡ Ok x → (nat_le x.0 max_count ≡ true) × (lines ≡ counted word x.0 ∷ x.1)
-count_was word n lines x h = bind_with (line_at (number_behind word) n lines) (if_few (λ count. count)) x h (λ y e f.
+count_was word n lines x h = bind_with (line_at (number_after word) n lines) (if_few (λ count. count)) x h (λ y e f.
     let few = few_was (λ count. count) y x f in
-    let was = line_was (number_behind word) n lines y e in
-    let line = number_behind_was word was.0 y.0 was.2 in
+    let was = line_was (number_after word) n lines y e in
+    let line = number_after_was word was.0 y.0 was.2 in
     (few.0, was.1 ∙ ap (λ l. l ∷ y.1) line.1 ∙ ap (λ z. counted word z.0 ∷ z.1) few.1))
 
 typing_at_was : (n : ℕ) (lines : List (List ℕ)) (x : Typing × List (List ℕ)) → typing_at n lines ≡ Ok x → (is_typing x.0 ≡ true) × (lines ≡ typing_text x.0 ∷ x.1)
@@ -320,15 +320,15 @@ parts_spell bytes version bound p q pairs typings fresh v b n ps m ts f =
 pub read_is_spelled : (bytes : List ℕ) (c : Certificate) → certificate_of bytes ≡ Ok c → Spells bytes c
 read_is_spelled bytes c h =
     bind_with (line_at version_of 1 (divide 10 bytes)) after_version c h (λ version e0 h0.
-    bind_with (line_at (number_behind (codes "bound")) 2 version.1) (after_bound version.0) c h0 (λ bound e1 h1.
+    bind_with (line_at (number_after (codes "bound")) 2 version.1) (after_bound version.0) c h0 (λ bound e1 h1.
     bind_with (count_at (codes "pairs") 3 bound.1) (after_count version.0 bound.0) c h1 (λ p e2 h2.
     bind_with (times (line_at pair_of) p.0 4 p.1) (after_pairs version.0 bound.0 p.0) c h2 (λ pairs e3 h3.
     bind_with (count_at (codes "typings") (4 + p.0) pairs.1) (after_typing_count version.0 bound.0 p.0 pairs.0) c h3 (λ q e4 h4.
     bind_with (times typing_at q.0 (5 + p.0) q.1) (after_typings version.0 bound.0 p.0 pairs.0 q.0) c h4 (λ typings e5 h5.
     bind_with (fresh_at version.0 (5 + p.0 + q.0) typings.1) (after_fresh bound.0 pairs.0 typings.0) c h5 (λ fresh e6 h6.
     let a = line_was version_of 1 (divide 10 bytes) version e0 in
-    let b = line_was (number_behind (codes "bound")) 2 version.1 bound e1 in
-    let n = number_behind_was (codes "bound") b.0 bound.0 b.2 in
+    let b = line_was (number_after (codes "bound")) 2 version.1 bound e1 in
+    let n = number_after_was (codes "bound") b.0 bound.0 b.2 in
     let spelled = parts_spell bytes version bound p q pairs typings fresh (a.1 ∙ ap (λ l. l ∷ version.1) (version_was a.0 version.0 a.2)) (n.0, b.1 ∙ ap (λ l. l ∷ bound.1) n.1)
     (count_was (codes "pairs") 3 bound.1 p e2) (times_were (line_at pair_of) pair_text are_numbers pair_line_was p.0 4 p.1 pairs e3)
     (count_was (codes "typings") (4 + p.0) pairs.1 q e4) (times_were typing_at typing_text is_typing typing_at_was q.0 (5 + p.0) q.1 typings e5)
@@ -353,10 +353,10 @@ is_counted-certificate c h =
 -- ---- what an exact reader returns for a spelled text
 
 -- a reader that returns what is read returns only a certificate that the bytes spell
-pub found_from_exact : (bytes : List ℕ) (r : Result Certificate CertFault) → CertificateGives r (certificate_of bytes) → IfOk r (λ c. Spells bytes c)
+pub found_from_exact : (bytes : List ℕ) (r : Result Certificate CertFault) → CertificateReturns r (certificate_of bytes) → IfOk r (λ c. Spells bytes c)
 found_from_exact bytes (Ok c) e = read_is_spelled bytes c e
 found_from_exact bytes (Err f) e = tt
 
 -- a reader that returns what is read returns the certificate that the bytes spell, unless memory runs out
-pub only_from_exact : (bytes : List ℕ) (c : Certificate) (r : Result Certificate CertFault) → Spells bytes c → CertificateGives r (certificate_of bytes) → CertificateGives r (Ok c)
-only_from_exact bytes c r s e = subst (CertificateGives r) (spelled_is_read bytes c s) e
+pub only_from_exact : (bytes : List ℕ) (c : Certificate) (r : Result Certificate CertFault) → Spells bytes c → CertificateReturns r (certificate_of bytes) → CertificateReturns r (Ok c)
+only_from_exact bytes c r s e = subst (CertificateReturns r) (spelled_is_read bytes c s) e

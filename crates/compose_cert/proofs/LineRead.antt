@@ -76,8 +76,8 @@ number_alone word n h =
     word_alone word (ap plain was.1 ∙ decimal_plain n (omega arith))
 
 -- two words are a pair if both are numbers; the second is never two words
-pub pair_told : (line old new : List ℕ) → divide 32 line ≡ old ∷ divide 32 new → pair_of line ≡ both (number_of old) (number_of new)
-pair_told line old new e = ap pair_of_words e ∙ go (divide 32 new) refl
+pub pair_by_words : (line old new : List ℕ) → divide 32 line ≡ old ∷ divide 32 new → pair_of line ≡ both (number_of old) (number_of new)
+pair_by_words line old new e = ap pair_of_words e ∙ go (divide 32 new) refl
   where
     no_number : (w x : List ℕ) (ws : List (List ℕ)) → divide 32 new ≡ w ∷ x ∷ ws → (o : Option ℕ) → number_of new ≡ o → None ≡ both (number_of old) o
     no_number w x ws d None is = none (number_of old)
@@ -93,9 +93,9 @@ pair_told line old new e = ap pair_of_words e ∙ go (divide 32 new) refl
     go (w ∷ x ∷ ws) d = no_number w x ws d (number_of new) refl
 
 -- a character and the keys after it
-pub typing_told : (line character keys : List ℕ) → divide 32 line ≡ character ∷ divide 32 keys
+pub typing_by_parts : (line character keys : List ℕ) → divide 32 line ≡ character ∷ divide 32 keys
     → typing_of line ≡ option_map (λ x. let t : Typing = record { character = x.0; keys = x.1 } in t) (both (character_of character) (keysyms_of (divide 32 keys)))
-typing_told line character keys e =
+typing_by_parts line character keys e =
     let h = divide_first 32 keys in
     ap typing_of_words (e ∙ ap (λ ds. character ∷ ds) h.is)
     ∙ ap (λ ds. option_map (λ x. let t : Typing = record { character = x.0; keys = x.1 } in t) (both (character_of character) (keysyms_of ds))) (sym h.is)
@@ -110,9 +110,9 @@ pub typing_read : (line word words : List ℕ) (character : ℕ) (keys : List �
     → option_map_or (λ v. Ok v) (keysyms_of (divide 32 words)) (Err (NotText n)) ≡ Ok keys
     → option_map_or (λ v. Ok v) (typing_of line) (Err (NotText n)) ≡ Ok (record { character = character; keys = keys })
 typing_read line word words character keys n d c k =
-    let told = typing_told line word words d in
+    let reported = typing_by_parts line word words d in
     let some = some_from_ok (keysyms_of (divide 32 words)) (NotText n) keys k in
-    rw (told, ← c, some) refl
+    rw (reported, ← c, some) refl
 
 -- ---- a line before others
 
@@ -144,8 +144,8 @@ none_from_err (Some x) e f h = cc
 -- ---- the end
 
 -- if bytes are left, the end is missing, and the fault has the number of their line
-pub end_behind : (n : ℕ) (bytes : List ℕ) → 0 < length bytes → end_at n (divide 10 bytes) ≡ Err (NotText n)
-end_behind n bytes l = go (divide 10 bytes) refl
+pub end_missing : (n : ℕ) (bytes : List ℕ) → 0 < length bytes → end_at n (divide 10 bytes) ≡ Err (NotText n)
+end_missing n bytes l = go (divide 10 bytes) refl
   where
     go : (parts : List (List ℕ)) → divide 10 bytes ≡ parts → end_at n parts ≡ Err (NotText n)
     go [] d = refl

@@ -28,9 +28,9 @@ strip (c ∷ d ∷ word) h = go (cases_eq c 48) (strip (d ∷ word) (omega arith
     go (inl e) r = record { count = suc r.count; rest = r.rest; is = ap (λ x. x ∷ d ∷ word) e ∙ ap (λ ds. 48 ∷ ds) r.is; some = r.some; no_zero = r.no_zero }
     go (inr n) r = record { count = 0; rest = c ∷ d ∷ word; is = refl; some = omega arith; no_zero = λ z. absurd (n z) }
 
-all_behind : (p : ℕ → Bool) (a b : List ℕ) → list_all p (a ++ b) ≡ true → list_all p b ≡ true
-all_behind p [] b h = h
-all_behind p (x ∷ a) b h = all_behind p a b (and_parts (p x) (list_all p (a ++ b)) h).1
+all_after : (p : ℕ → Bool) (a b : List ℕ) → list_all p (a ++ b) ≡ true → list_all p b ≡ true
+all_after p [] b h = h
+all_after p (x ∷ a) b h = all_after p a b (and_parts (p x) (list_all p (a ++ b)) h).1
 
 all_zeros : (count : ℕ) (ds : List ℕ) → list_all (is_digit UpperHexadecimal) ds ≡ true → list_all (is_digit UpperHexadecimal) (replicate count 48 ++ ds) ≡ true
 all_zeros zero ds h = h
@@ -49,7 +49,7 @@ padded_again : (word : List ℕ) → list_all (is_digit UpperHexadecimal) word �
 padded_again word a l f small =
     let r = strip word (omega arith) in
     let value : digits_value 16 word ≡ digits_value 16 r.rest = ap (digits_value 16) r.is ∙ zeros r.count r.rest in
-    let all = all_behind (is_digit UpperHexadecimal) (replicate r.count 48) r.rest (ap (list_all (is_digit UpperHexadecimal)) (sym r.is) ∙ a) in
+    let all = all_after (is_digit UpperHexadecimal) (replicate r.count 48) r.rest (ap (list_all (is_digit UpperHexadecimal)) (sym r.is) ∙ a) in
     let same : digits 16 true (digits_value 16 word) ≡ r.rest = ap (digits 16 true) value ∙ written_again UpperHexadecimal r.rest refl all r.some r.no_zero (omega arith) in
     ap (λ ds. replicate (4 - length ds) 48 ++ ds) same ∙ ap (λ n. replicate n 48 ++ r.rest) (filled r.count word r.rest r.is l f) ∙ sym r.is
 

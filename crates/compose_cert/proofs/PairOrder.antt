@@ -38,8 +38,8 @@ other_before p i j h = elim (before_means p (i, j) h) [
 ]
 
 -- a pair that comes after the numbers i and j is not the pair of them
-pub other_behind : (p : ℕ × ℕ) (i j : ℕ) → is_pair_before (i, j) p ≡ true → p.0 == i && p.1 == j ≡ false
-other_behind p i j h = elim (before_means (i, j) p h) [
+pub other_after : (p : ℕ × ℕ) (i j : ℕ) → is_pair_before (i, j) p ≡ true → p.0 == i && p.1 == j ≡ false
+other_after p i j h = elim (before_means (i, j) p h) [
   | inl a ↦ and_left (p.0 == i) (p.1 == j) (ne_eqb p.0 i (λ e. absurd (omega arith)))
   | inr a ↦ and_right (p.0 == i) (p.1 == j) (ne_eqb p.1 j (λ e. absurd (omega (arith, a.1))))
 ]

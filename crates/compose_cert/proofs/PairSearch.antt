@@ -11,7 +11,7 @@ use Rattle.compose_model.specs.Certificate.{is_pair_before, pairs_rise, has_pair
 use Rattle.std.proofs.lemmas.List.{take-append-drop}
 use Rattle.std.proofs.lemmas.List.Elements.{All-from_get_or}
 use Rattle.std.proofs.lemmas.List.Folds.{list_any_at, list_any_none, list_any-append}
-use Rattle.compose_cert.proofs.PairOrder.{before_means, before_trans, earlier_before, neither_is, other_before, other_behind}
+use Rattle.compose_cert.proofs.PairOrder.{before_means, before_trans, earlier_before, neither_is, other_before, other_after}
 
 -- how a pair compares with the numbers i and j
 abbrev pub compared : ℕ → ℕ → ℕ × ℕ → Ordering
@@ -96,7 +96,7 @@ is_other i j p h = go (compare i j p)
   where
     go : Compared i j p → p.0 == i && p.1 == j ≡ false
     go (before a e) = other_before p i j a
-    go (after a e) = other_behind p i j a
+    go (after a e) = other_after p i j a
     go (same a e) = elim h [
       | inl l ↦ (let clash : Equal ≡ Less = sym e ∙ l in cc)
       | inr g ↦ (let clash : Equal ≡ Greater = sym e ∙ g in cc)

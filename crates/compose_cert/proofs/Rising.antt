@@ -6,7 +6,7 @@ use Rattle.std.proofs.lemmas.Bool.{and_parts, and_from, and_left, and_right, ltb
 use Rattle.compose_text.specs.Numbers.{is_between}
 use Rattle.compose_model.specs.Certificate.{Repertoire, keys_rise}
 use Rattle.compose_cert.specs.Repertoire.{IsRepertoire, ranges_rise, max_entries, with_entry}
-use Rattle.compose_cert.specs.declared.entry.Entry.TheVariants.{Keys, Character}
+use Rattle.compose_cert.specs.declared.entry.LineEntry.TheVariants.{Keys, Character}
 use Rattle.compose_cert.specs.declared.RepertoireFault.TheVariants.{NotRising, TooMany}
 
 -- the first range goes upwards, and so do the others

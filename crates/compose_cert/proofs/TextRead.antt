@@ -10,7 +10,7 @@ use Rattle.keysym_core.specs.Keysym.{is_keysym}
 use Rattle.compose_text.specs.Lines.{divide}
 use Rattle.compose_model.specs.Certificate.{Typing, Certificate}
 use Rattle.compose_cert.specs.Spelling.{counted, character_text, keysym_text, pair_text, typing_text, version_line, fresh_lines, lines_of_text, text_of, max_count, is_number, is_character, is_typing, is_certificate, Spells}
-use Rattle.compose_cert.specs.Reading.{number_of, keysym_of, number_behind, both, pair_of, pair_of_words, keysyms_of, typing_of, typing_of_words, version_of, line_at, if_few, count_at, typing_at, times, fresh_at, certificate_at, certificate_of}
+use Rattle.compose_cert.specs.Reading.{number_of, keysym_of, number_after, both, pair_of, pair_of_words, keysyms_of, typing_of, typing_of_words, version_of, line_at, if_few, count_at, typing_at, times, fresh_at, certificate_at, certificate_of}
 use Rattle.compose_cert.specs.declared.CertFault.{CertFault}
 use Rattle.compose_cert.proofs.Words.{plain, word_divided, word_alone, is_line, lines_divided, plain_line, decimal_plain, hex_plain, number_again, keysym_again, character_again, character_plain}
 
@@ -85,9 +85,9 @@ line_again : {A : Type 0} (form : List ℕ → Option A) (n : ℕ) (line : List 
 line_again form n line [] x e l = absurd (omega arith)
 line_again form n line (r ∷ rest) x e l = rw e refl
 
-count_again : (word : List ℕ) (n count : ℕ) (rest : List (List ℕ)) → number_behind word (counted word count) ≡ Some count → nat_le count max_count ≡ true → 0 < length rest
+count_again : (word : List ℕ) (n count : ℕ) (rest : List (List ℕ)) → number_after word (counted word count) ≡ Some count → nat_le count max_count ≡ true → 0 < length rest
     → count_at word n (counted word count ∷ rest) ≡ Ok (count, rest)
-count_again word n count rest e few l = ap (λ r. r >>= if_few (λ count. count)) (line_again (number_behind word) n (counted word count) rest count e l) ∙ rw (not_more count max_count few) refl
+count_again word n count rest e few l = ap (λ r. r >>= if_few (λ count. count)) (line_again (number_after word) n (counted word count) rest count e l) ∙ rw (not_more count max_count few) refl
 
 typing_line : (n : ℕ) (t : Typing) (rest : List (List ℕ)) → is_typing t ≡ true → 0 < length rest → typing_at n (typing_text t ∷ rest) ≡ Ok (t, rest)
 typing_line n t rest h l =
@@ -256,7 +256,7 @@ after_bound version bound = count_at (codes "pairs") 3 bound.1 >>= after_count v
 
 -- the certificate that is read after the version
 abbrev pub after_version : ℕ × List (List ℕ) → Result Certificate CertFault
-after_version version = line_at (number_behind (codes "bound")) 2 version.1 >>= after_bound version.0
+after_version version = line_at (number_after (codes "bound")) 2 version.1 >>= after_bound version.0
 
 lines_again : (c : Certificate) → IsCertificate c → certificate_at (lines_of_text c ++ [] ∷ []) ≡ Ok c
 lines_again c p =
@@ -273,8 +273,8 @@ lines_again c p =
     append_assoc (map pair_text c.pairs) (counted (codes "typings") (length c.typings) ∷ (map typing_text c.typings ++ fresh_lines c.fresh)) ([] ∷ [])
     ∙ ap (λ ls. map pair_text c.pairs ++ (counted (codes "typings") (length c.typings) ∷ ls)) (append_assoc (map typing_text c.typings) (fresh_lines c.fresh) ([] ∷ [])) in
     let versions = version_again c.fresh (counted (codes "bound") c.bound ∷ first) (omega arith) in
-    let bounds : line_at (number_behind (codes "bound")) 2 (counted (codes "bound") c.bound ∷ first) ≡ Ok (c.bound, first) =
-    line_again (number_behind (codes "bound")) 2 (counted (codes "bound") c.bound) first c.bound (number_again c.bound p.bound) (omega arith) in
+    let bounds : line_at (number_after (codes "bound")) 2 (counted (codes "bound") c.bound ∷ first) ≡ Ok (c.bound, first) =
+    line_again (number_after (codes "bound")) 2 (counted (codes "bound") c.bound) first c.bound (number_again c.bound p.bound) (omega arith) in
     let counts : count_at (codes "pairs") 3 first ≡ Ok (length c.pairs, second) =
     count_again (codes "pairs") 3 (length c.pairs) second (number_again (length c.pairs) (small (length c.pairs) p.few_pairs)) p.few_pairs n2 in
     let pairs : times (line_at pair_of) (length c.pairs) 4 second ≡ Ok (c.pairs, third) =

@@ -4,7 +4,7 @@ use Rattle.std.specs.Prelude.{Result, Ok, Err}
 use Rattle.compose_text.specs.Results.{◌>>=◌}
 use Rattle.compose_cert.specs.declared.CertFault.{CertFault}
 use Rattle.compose_cert.specs.Reading.{times}
-use Rattle.compose_cert.specs.Says.{behind}
+use Rattle.compose_cert.specs.StepReturns.{behind}
 
 regrouped : {A : Type 0} (xs : List A) (x : A) (r : Result (List A × List (List ℕ)) CertFault) → behind (xs ++ x ∷ []) r ≡ behind xs (r >>= λ more. Ok (x ∷ more.0, more.1))
 regrouped xs x (Ok more) = ap (λ ys. Ok (ys, more.1)) (append_assoc xs (x ∷ []) more.0)

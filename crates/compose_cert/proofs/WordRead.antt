@@ -27,14 +27,14 @@ unwritten text test x word h = go (test x && bytes_eq word (text x)) refl
     go false e = refl
 
 -- a word that spells a number, or none, is read as this result
-pub number_told : (word : List ℕ) (r : Option ℕ) → IsSpelled (numeral Decimal) 4294967295 word r → r ≡ number_of word
-number_told word None h = sym (unwritten decimal is_number (digits_value 10 word) word (λ t e. let l = ltb-true (digits_value 10 word) 0x100000000 t in h (digits_value 10 word) (omega arith) e))
-number_told word (Some n) h = sym (ap number_of h.1 ∙ number_again n (lt-ltb n 0x100000000 (omega (arith, h.0))))
+pub number_as_read : (word : List ℕ) (r : Option ℕ) → IsSpelled (numeral Decimal) 4294967295 word r → r ≡ number_of word
+number_as_read word None h = sym (unwritten decimal is_number (digits_value 10 word) word (λ t e. let l = ltb-true (digits_value 10 word) 0x100000000 t in h (digits_value 10 word) (omega arith) e))
+number_as_read word (Some n) h = sym (ap number_of h.1 ∙ number_again n (lt-ltb n 0x100000000 (omega (arith, h.0))))
 
 -- a word that spells a keysym, or none, is read as this result
-pub keysym_told : (word : List ℕ) (r : Option ℕ) → IsSpelled (numeral LowerHexadecimal) 0x1fffffff word r → r ≡ keysym_of word
-keysym_told word None h = sym (unwritten keysym_text is_keysym (digits_value 16 word) word (λ t e. h (digits_value 16 word) (leb-true (digits_value 16 word) 0x1fffffff t) e))
-keysym_told word (Some n) h = sym (ap keysym_of h.1 ∙ keysym_again n (le-leb n 0x1fffffff h.0))
+pub keysym_as_read : (word : List ℕ) (r : Option ℕ) → IsSpelled (numeral LowerHexadecimal) 0x1fffffff word r → r ≡ keysym_of word
+keysym_as_read word None h = sym (unwritten keysym_text is_keysym (digits_value 16 word) word (λ t e. h (digits_value 16 word) (leb-true (digits_value 16 word) 0x1fffffff t) e))
+keysym_as_read word (Some n) h = sym (ap keysym_of h.1 ∙ keysym_again n (le-leb n 0x1fffffff h.0))
 
 -- ---- characters
 
@@ -50,8 +50,8 @@ prefixed : (word : List ℕ) (n : ℕ) → starts_with nat_eq word (85 ∷ 43 �
 prefixed word n h e = prefix_is word h ∙ ap (λ ds. 85 ∷ 43 ∷ ds) e
 
 -- a word that spells no character after its first two bytes is read as none
-pub no_character_told : (word : List ℕ) → IsSpelled padded 0x10ffff (drop 2 word) None → None ≡ character_of word
-no_character_told word h = sym (unwritten character_text is_character (digits_value 16 (drop 2 word)) word
+pub not_a_character : (word : List ℕ) → IsSpelled padded 0x10ffff (drop 2 word) None → None ≡ character_of word
+not_a_character word h = sym (unwritten character_text is_character (digits_value 16 (drop 2 word)) word
     (λ t e. let l = leb-true (digits_value 16 (drop 2 word)) 0x10ffff (and_parts (nat_le (digits_value 16 (drop 2 word)) 0x10ffff) (not (is_surrogate (digits_value 16 (drop 2 word)))) t).0 in
     h (digits_value 16 (drop 2 word)) l (ap (drop 2) e)))
 
@@ -68,10 +68,10 @@ gap_is_none n t (inl b) =
 gap_is_none n t (inr b) = omega (arith, leb-true n 0x10ffff (and_parts (nat_le n 0x10ffff) (not (is_surrogate n)) t).0)
 
 -- a word that spells a number after `U+` is read as its character, or as none if it is a surrogate
-pub character_told : (word : List ℕ) (n : ℕ) (r : Option ℕ) → starts_with nat_eq word (85 ∷ 43 ∷ []) ≡ true → IsSpelled padded 0x10ffff (drop 2 word) (Some n) → SomeIff r (IsScalar n) n
+pub character_as_read : (word : List ℕ) (n : ℕ) (r : Option ℕ) → starts_with nat_eq word (85 ∷ 43 ∷ []) ≡ true → IsSpelled padded 0x10ffff (drop 2 word) (Some n) → SomeIff r (IsScalar n) n
     → MatchOption r (OutOfScalarRange n) (λ _. InScalarRange n) → r ≡ character_of word
-character_told word n (Some x) h s v m = ap Some v.1 ∙ sym (ap character_of (prefixed word n h s.1) ∙ character_again n (range_is_character n s.0 m))
-character_told word n None h s v m =
+character_as_read word n (Some x) h s v m = ap Some v.1 ∙ sym (ap character_of (prefixed word n h s.1) ∙ character_again n (range_is_character n s.0 m))
+character_as_read word n None h s v m =
     let value : digits_value 16 (drop 2 word) ≡ n = ap (digits_value 16) s.1 ∙ padded_value n s.0 in
     sym (unwritten character_text is_character (digits_value 16 (drop 2 word)) word (λ t e. gap_is_none n (ap is_character (sym value) ∙ t) m))
 

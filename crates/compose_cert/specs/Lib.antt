@@ -1,6 +1,6 @@
 pub mod Spelling
 pub mod Reading
 pub mod Repertoire
-pub mod CertificateGives
+pub mod CertificateReturns
 pub mod Numerals
-pub mod Says
+pub mod StepReturns

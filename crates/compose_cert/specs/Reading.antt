@@ -35,8 +35,8 @@ abbrev pub version_of : List ℕ → Option ℕ
 version_of line = if bytes_eq line (codes "compose-certificate 1") then Some 1 else if bytes_eq line (codes "compose-certificate 2") then Some 2 else None
 
 -- the number after this word and a blank
-abbrev pub number_behind : List ℕ → List ℕ → Option ℕ
-number_behind word line = if starts_with nat_eq line (word ++ 32 ∷ []) then number_of (drop (length word + 1) line) else None
+abbrev pub number_after : List ℕ → List ℕ → Option ℕ
+number_after word line = if starts_with nat_eq line (word ++ 32 ∷ []) then number_of (drop (length word + 1) line) else None
 
 abbrev pub both : {A B : Type 0} → Option A → Option B → Option (A × B)
 both (Some x) (Some y) = Some (x, y)
@@ -77,7 +77,7 @@ abbrev pub if_few : {A : Type 0} → (A → ℕ) → A × List (List ℕ) → Re
 if_few size x = if nat_lt max_count (size x.0) then Err TooLarge else Ok x
 
 abbrev pub count_at : List ℕ → ℕ → List (List ℕ) → Result (ℕ × List (List ℕ)) CertFault
-count_at word n lines = line_at (number_behind word) n lines >>= if_few (λ count. count)
+count_at word n lines = line_at (number_after word) n lines >>= if_few (λ count. count)
 
 abbrev pub typing_at : ℕ → List (List ℕ) → Result (Typing × List (List ℕ)) CertFault
 typing_at n lines = line_at typing_of n lines >>= if_few (λ t. length t.keys)
@@ -115,7 +115,7 @@ fresh_at version n lines = if version == 1 then (end_at n lines >>= λ _. Ok [])
 abbrev pub certificate_at : List (List ℕ) → Result Certificate CertFault
 certificate_at lines = do
   version ← line_at version_of 1 lines
-  bound ← line_at (number_behind (codes "bound")) 2 version.1
+  bound ← line_at (number_after (codes "bound")) 2 version.1
   p ← count_at (codes "pairs") 3 bound.1
   pairs ← times (line_at pair_of) p.0 4 p.1
   q ← count_at (codes "typings") (4 + p.0) pairs.1

@@ -10,8 +10,8 @@ use Rattle.keysym_core.specs.Names.{number_form}
 use Rattle.compose_text.specs.Lines.{divide, lines_of}
 use Rattle.compose_model.specs.Certificate.{Repertoire, keys_rise}
 use Rattle.compose_cert.specs.Spelling.{is_character}
-use Rattle.compose_cert.specs.declared.entry.Entry.{Entry}
-use Rattle.compose_cert.specs.declared.entry.Entry.TheVariants.{Nothing, Keys, Character}
+use Rattle.compose_cert.specs.declared.entry.LineEntry.{LineEntry}
+use Rattle.compose_cert.specs.declared.entry.LineEntry.TheVariants.{Nothing, Keys, Character}
 use Rattle.compose_cert.specs.declared.RepertoireFault.{RepertoireFault}
 use Rattle.compose_cert.specs.declared.RepertoireFault.TheVariants.{BadLine, NotRising, TooMany}
 
@@ -41,27 +41,27 @@ abbrev pub character_form : List ℕ → Option ℕ
 character_form word =
     if starts_with nat_eq word (codes "U+") && is_hexadecimal 4 6 (drop 2 word) && is_character (digits_value 16 (drop 2 word)) then Some (digits_value 16 (drop 2 word)) else None
 
-abbrev pub range_entry : Option ℕ → Option ℕ → Option Entry
+abbrev pub range_entry : Option ℕ → Option ℕ → Option LineEntry
 range_entry (Some first) (Some last) = if nat_le first last then Some (Keys first last) else None
 range_entry (Some first) None = None
 range_entry None last = None
 
 -- no word; `keys` and two numbers; or a character. None for a line of another form
-abbrev pub entry_of : List (List ℕ) → Option Entry
+abbrev pub entry_of : List (List ℕ) → Option LineEntry
 entry_of [] = Some Nothing
 entry_of (word ∷ []) = option_map (λ c. Character c) (character_form word)
 entry_of (word ∷ first ∷ last ∷ []) = if bytes_eq word (codes "keys") then range_entry (number_form first) (number_form last) else None
 entry_of _ = None
 
 -- the last key of a range isn't below its first
-abbrev pub IsOrdered : Entry → Type 0
+abbrev pub IsOrdered : LineEntry → Type 0
 IsOrdered (Keys first last) = first ≤ last
 IsOrdered _ = Unit {0}
 
 -- ---- all lines
 
 -- the repertoire with the content of line n; ranges increase and come before the characters, which increase as well
-abbrev pub with_entry : ℕ → Option Entry → Repertoire → Result Repertoire RepertoireFault
+abbrev pub with_entry : ℕ → Option LineEntry → Repertoire → Result Repertoire RepertoireFault
 with_entry n None r = Err (BadLine n)
 with_entry n (Some Nothing) r = Ok r
 with_entry n (Some (Keys first last)) r =
@@ -72,7 +72,7 @@ with_entry n (Some (Character c)) r =
     if not (list_all (λ d. nat_lt d c) r.characters) then Err (NotRising n) else
     if nat_le max_entries (length r.characters) then Err TooMany else Ok (record r { characters = r.characters ++ c ∷ [] })
 
-abbrev pub line_entry : List ℕ → Option Entry
+abbrev pub line_entry : List ℕ → Option LineEntry
 line_entry line = if is_utf8 line then entry_of (words_of line) else None
 
 -- the repertoire with the content of these lines, the first of which has the number n

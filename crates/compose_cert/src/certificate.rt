@@ -2,7 +2,7 @@
 ghost use Rattle.std.specs.Prelude.{◌≡◌, ◌<◌, ◌≤◌, [], length, map, Some, None, slice_get, if◌then◌else◌, nat_le, Ok, IfOk, IfErr, string_bytes, IsTrue};
 ghost use Rattle.std.specs.List.{list_all};
 ghost use Rattle.compose_model.specs.Certificate as model;
-ghost use Rattle.compose_cert.specs.CertificateGives.{CertificateGives};
+ghost use Rattle.compose_cert.specs.CertificateReturns.{CertificateReturns};
 ghost use Rattle.compose_cert.specs.Reading.{certificate_of};
 ghost use Rattle.compose_cert.specs.Spelling.{max_count, are_counted, is_typed, is_counted, Spells};
 
@@ -111,10 +111,10 @@ impl Certificate {
     ///
     /// Errors: that of the first faulty line, `NotText` or `TooLarge`; or `NoMemory`.
     pub fn read(alloc: Global, bytes: &[u8]) -> Result<Certificate, CertFault>
-        ensures exact { CertificateGives result (certificate_of bytes.now) }
+        ensures exact { CertificateReturns result (certificate_of bytes.now) }
         ensures found { IfOk result (λ c. Spells bytes.now c) }
         ensures only { (c : model.Certificate) → Spells bytes.now c
-            → CertificateGives result (Ok c) }
+            → CertificateReturns result (Ok c) }
     {
         read_lines(alloc, bytes)
     }
@@ -244,7 +244,7 @@ impl Certificate {
 
 /// Reads the certificate from its lines; the first faulty line is the error.
 fn read_lines(alloc: Global, bytes: &[u8]) -> Result<Certificate, CertFault>
-    ensures { CertificateGives result (certificate_of bytes.now) }
+    ensures { CertificateReturns result (certificate_of bytes.now) }
 {
     let (version, rest) = version_at(bytes)?;
     let (bound, rest) = number_at(rest, b"bound ", 2)?;

@@ -2,7 +2,7 @@
 ghost use Rattle.std.specs.Prelude.{◌≡◌, ◌++◌, ◌∷◌, [], ℕ, List, Ok, Err, IfOk, IfErr};
 ghost use Rattle.std.specs.Option.{option_map_or};
 ghost use Rattle.compose_text.specs.Lines.{divide};
-ghost use Rattle.compose_cert.specs.Says.{Says};
+ghost use Rattle.compose_cert.specs.StepReturns.{StepReturns};
 ghost use Rattle.compose_cert.specs.Reading as reading;
 
 use crate::CertFault;
@@ -37,9 +37,9 @@ pub fn version_of(line: &[u8]) -> Option<u8>
 }
 
 /// Returns the number after a word. The word is given with the blank that ends it.
-pub fn number_behind(line: &[u8], word: &[u8]) -> Option<u32>
+pub fn number_after(line: &[u8], word: &[u8]) -> Option<u32>
     ensures { (name : List ℕ) → word.now ≡ name ++ 32 ∷ []
-        → result ≡ reading.number_behind name line.now }
+        → result ≡ reading.number_after name line.now }
 {
     if !line.starts_with(word) {
         return None;
@@ -61,7 +61,7 @@ pub fn pair_of(line: &[u8]) -> Option<(u32, u32)>
 ///
 /// Errors: `NotText` with this line number if the text is no typing, or `NoMemory`.
 pub fn typing_of(alloc: Global, text: &[u8], line: usize) -> Result<Typing, CertFault>
-    ensures { Says (λ t. t) result
+    ensures { StepReturns (λ t. t) result
         (option_map_or Ok (reading.typing_of text.now) (Err (CertFault.NotText line))) }
 {
     let (character, keys) = split_at_byte(text, b' ').ok_or(CertFault::NotText { line })?;
@@ -72,7 +72,7 @@ pub fn typing_of(alloc: Global, text: &[u8], line: usize) -> Result<Typing, Cert
 
 /// Returns keysyms with a blank between them.
 fn keysyms_of(alloc: Global, words: &[u8], line: usize) -> Result<Vec<Keysym>, CertFault>
-    ensures { Says (λ keys. keys.items) result
+    ensures { StepReturns (λ keys. keys.items) result
         (option_map_or Ok (reading.keysyms_of (divide 32 words.now))
         (Err (CertFault.NotText line))) }
 {

@@ -10,7 +10,7 @@ use std::str;
 
 /// The content of a line.
 #[derive(Clone, Copy)]
-pub enum Entry {
+pub enum LineEntry {
     /// An empty line or a comment.
     Nothing,
     /// A range of keys: its first and its last keysym.
@@ -20,7 +20,7 @@ pub enum Entry {
 }
 
 /// Returns the content of the line, or `None` if it has none of the forms. O(bytes).
-pub fn line_entry(line: &[u8]) -> Option<Entry>
+pub fn line_entry(line: &[u8]) -> Option<LineEntry>
     ensures same { result ≡ repertoire.line_entry line.now }
     ensures ordered { IfSome result repertoire.IsOrdered }
 {
@@ -41,16 +41,16 @@ fn is_text(bytes: &[u8]) -> bool
 }
 
 /// Returns the entry of a line with no word; with `keys` and two numbers; or with a character.
-fn entry_of(content: &[u8]) -> Option<Entry>
+fn entry_of(content: &[u8]) -> Option<LineEntry>
     ensures same { result ≡ repertoire.entry_of (repertoire.words_in content.now) }
     ensures ordered { IfSome result repertoire.IsOrdered }
 {
     let Some((word, rest)) = first_word(content) else {
-        return Some(Entry::Nothing);
+        return Some(LineEntry::Nothing);
     };
     let Some((first, rest)) = first_word(rest) else {
         let character = character_form(word)?;
-        return Some(Entry::Character(character));
+        return Some(LineEntry::Character(character));
     };
     let (last, rest) = first_word(rest)?;
     if word != b"keys".as_slice() || first_word(rest).is_some() {
@@ -60,7 +60,7 @@ fn entry_of(content: &[u8]) -> Option<Entry>
 }
 
 /// Returns a range whose last key isn't below its first.
-fn range_entry(first: &[u8], last: &[u8]) -> Option<Entry>
+fn range_entry(first: &[u8], last: &[u8]) -> Option<LineEntry>
     ensures same { result ≡ repertoire.range_entry (number_form first.now) (number_form last.now) }
     ensures ordered { IfSome result repertoire.IsOrdered }
 {
@@ -69,5 +69,5 @@ fn range_entry(first: &[u8], last: &[u8]) -> Option<Entry>
     if last < first {
         return None;
     }
-    Some(Entry::Keys(first, last))
+    Some(LineEntry::Keys(first, last))
 }

@@ -1,13 +1,13 @@
 //! Reads a certificate line by line; the first faulty line is the error.
 ghost use Rattle.std.specs.Prelude.{◌≡◌, ◌≢◌, ◌+◌, ◌<◌, ◌≤◌, ◌++◌, ◌∷◌, [], ℕ, List, Ok, Err, length, IfOk, IfErr, ◌^◌};
 ghost use Rattle.compose_text.specs.Lines.{divide};
-ghost use Rattle.compose_cert.specs.Says.{Says};
+ghost use Rattle.compose_cert.specs.StepReturns.{StepReturns};
 ghost use Rattle.compose_cert.specs.Spelling.{max_count};
 ghost use Rattle.compose_cert.specs.Reading as reading;
 
 use crate::CertFault;
 use crate::certificate::{MOST, Typing};
-use crate::certificate_lines::{number_behind, pair_of, take_line, typing_of, version_of};
+use crate::certificate_lines::{number_after, pair_of, take_line, typing_of, version_of};
 use crate::certificate_words::keysym_of;
 use keysym_core::Keysym;
 use std::alloc::Global;
@@ -16,7 +16,7 @@ use std::alloc::Global;
 ///
 /// Errors: `NotText` for line 1.
 pub fn version_at(bytes: &[u8]) -> Result<(u8, &[u8]), CertFault>
-    ensures { Says (λ x. (x.0, divide 10 x.1.now)) result
+    ensures { StepReturns (λ x. (x.0, divide 10 x.1.now)) result
         (reading.line_at reading.version_of 1 (divide 10 bytes.now)) }
 {
     let (text, rest) = take_line(bytes, 1)?;
@@ -33,12 +33,12 @@ pub fn number_at<'a>(
     line: usize,
 ) -> Result<(u32, &'a [u8]), CertFault>
     ensures says { (name : List ℕ) → word.now ≡ name ++ 32 ∷ []
-        → Says (λ x. (x.0, divide 10 x.1.now)) result
-        (reading.line_at (reading.number_behind name) line (divide 10 bytes.now)) }
+        → StepReturns (λ x. (x.0, divide 10 x.1.now)) result
+        (reading.line_at (reading.number_after name) line (divide 10 bytes.now)) }
     ensures no_memory { IfErr result (λ fault. fault ≢ CertFault.NoMemory) }
 {
     let (text, rest) = take_line(bytes, line)?;
-    let number = number_behind(text, word).ok_or(CertFault::NotText { line })?;
+    let number = number_after(text, word).ok_or(CertFault::NotText { line })?;
     Ok((number, rest))
 }
 
@@ -52,7 +52,7 @@ pub fn count_at<'a>(
     line: usize,
 ) -> Result<(usize, &'a [u8]), CertFault>
     ensures says { (name : List ℕ) → word.now ≡ name ++ 32 ∷ []
-        → Says (λ x. (x.0, divide 10 x.1.now)) result
+        → StepReturns (λ x. (x.0, divide 10 x.1.now)) result
         (reading.count_at name line (divide 10 bytes.now)) }
     ensures few { IfOk result (λ x. x.0 ≤ max_count) }
     ensures no_memory { IfErr result (λ fault. fault ≢ CertFault.NoMemory) }
@@ -67,7 +67,7 @@ pub fn count_at<'a>(
 
 /// Reads a pair, and returns it with what follows its line.
 fn pair_at(bytes: &[u8], line: usize) -> Result<((u32, u32), &[u8]), CertFault>
-    ensures { Says (λ x. (x.0, divide 10 x.1.now)) result
+    ensures { StepReturns (λ x. (x.0, divide 10 x.1.now)) result
         (reading.line_at reading.pair_of line (divide 10 bytes.now)) }
 {
     let (text, rest) = take_line(bytes, line)?;
@@ -77,7 +77,7 @@ fn pair_at(bytes: &[u8], line: usize) -> Result<((u32, u32), &[u8]), CertFault>
 
 /// Reads a typing with at most 1,048,576 keys, and returns it with what follows its line.
 fn typing_at(alloc: Global, bytes: &[u8], line: usize) -> Result<(Typing, &[u8]), CertFault>
-    ensures { Says (λ x. (x.0, divide 10 x.1.now)) result
+    ensures { StepReturns (λ x. (x.0, divide 10 x.1.now)) result
         (reading.typing_at line (divide 10 bytes.now)) }
 {
     let (text, rest) = take_line(bytes, line)?;
@@ -99,7 +99,7 @@ pub fn pairs_at(
     line: usize,
 ) -> Result<(Vec<(u32, u32)>, &[u8]), CertFault>
     requires { line + count < 2 ^ 64 }
-    ensures { Says (λ x. (x.0.items, divide 10 x.1.now)) result
+    ensures { StepReturns (λ x. (x.0.items, divide 10 x.1.now)) result
         (reading.times (reading.line_at reading.pair_of) count line (divide 10 bytes.now)) }
 {
     let mut pairs = Vec::with_capacity(alloc, count.min(bytes.len() / SHORTEST_PAIR))?;
@@ -124,7 +124,7 @@ pub fn typings_at(
     line: usize,
 ) -> Result<(Vec<Typing>, &[u8]), CertFault>
     requires { line + count < 2 ^ 64 }
-    ensures { Says (λ x. (x.0.items, divide 10 x.1.now)) result
+    ensures { StepReturns (λ x. (x.0.items, divide 10 x.1.now)) result
         (reading.times reading.typing_at count line (divide 10 bytes.now)) }
 {
     let mut typings = Vec::with_capacity(alloc, count.min(bytes.len() / SHORTEST_TYPING))?;
@@ -145,7 +145,7 @@ fn keys_at(
     line: usize,
 ) -> Result<(Vec<Keysym>, &[u8]), CertFault>
     requires { line + count < 2 ^ 64 }
-    ensures { Says (λ x. (x.0.items, divide 10 x.1.now)) result
+    ensures { StepReturns (λ x. (x.0.items, divide 10 x.1.now)) result
         (reading.times (reading.line_at reading.keysym_of) count line (divide 10 bytes.now)) }
 {
     let mut keys = Vec::with_capacity(alloc, count.min(bytes.len() / SHORTEST_KEY))?;
@@ -171,7 +171,7 @@ pub fn fresh_at(
     line: usize,
 ) -> Result<Vec<Keysym>, CertFault>
     requires { line < 2 ^ 32 }
-    ensures { Says (λ keys. keys.items) result
+    ensures { StepReturns (λ keys. keys.items) result
         (reading.fresh_at version line (divide 10 bytes.now)) }
 {
     if version == 1 {
@@ -184,7 +184,7 @@ pub fn fresh_at(
 /// Reads one or more fresh keysyms.
 fn some_fresh_at(alloc: Global, bytes: &[u8], line: usize) -> Result<Vec<Keysym>, CertFault>
     requires { line < 2 ^ 32 }
-    ensures { Says (λ keys. keys.items) result (reading.some_fresh_at line (divide 10 bytes.now)) }
+    ensures { StepReturns (λ keys. keys.items) result (reading.some_fresh_at line (divide 10 bytes.now)) }
 {
     let (count, rest) = count_at(bytes, b"fresh ", line)?;
     if count == 0 {
@@ -197,7 +197,7 @@ fn some_fresh_at(alloc: Global, bytes: &[u8], line: usize) -> Result<Vec<Keysym>
 
 /// Checks that nothing follows the last newline.
 fn end_at(bytes: &[u8], line: usize) -> Result<(), CertFault>
-    ensures { Says (λ _. tt) result (reading.end_at line (divide 10 bytes.now)) }
+    ensures { StepReturns (λ _. tt) result (reading.end_at line (divide 10 bytes.now)) }
 {
     if bytes.is_empty() {
         return Ok(());

@@ -5,10 +5,10 @@ ghost use Rattle.compose_text.specs.Numbers.{is_between};
 ghost use Rattle.compose_model.specs.Certificate as model;
 ghost use Rattle.compose_model.specs.Certificate.{keys_rise};
 ghost use Rattle.compose_cert.specs.Repertoire.{IsRepertoire, IsOrdered, ranges_rise, with_entry, repertoire_of};
-ghost use Rattle.compose_cert.specs.CertificateGives.{RepertoireGives};
+ghost use Rattle.compose_cert.specs.CertificateReturns.{RepertoireReturns};
 
 use crate::RepertoireFault;
-use crate::entry::{Entry, line_entry};
+use crate::entry::{LineEntry, line_entry};
 use compose_text::first_line;
 use keysym_core::Keysym;
 use std::alloc::Global;
@@ -35,7 +35,7 @@ impl Repertoire {
     ///
     /// Errors: that of the first faulty line, `BadLine`, `NotRising` or `TooMany`; or `NoMemory`.
     pub fn read(alloc: Global, bytes: &[u8]) -> Result<Repertoire, RepertoireFault>
-        ensures { RepertoireGives result (repertoire_of bytes.now) }
+        ensures { RepertoireReturns result (repertoire_of bytes.now) }
     {
         let mut characters = Vec::new(alloc);
         let mut keys = Vec::new(alloc);
@@ -93,7 +93,7 @@ impl Repertoire {
 fn add_entry(
     characters: &mut Vec<char>,
     keys: &mut Vec<(Keysym, Keysym)>,
-    entry: Entry,
+    entry: LineEntry,
     line: usize,
 ) -> Result<(), RepertoireFault>
     requires sound { IsRepertoire
@@ -116,8 +116,8 @@ fn add_entry(
         (record { characters = characters.old.items; keys = keys.old.items }))) }
 {
     match entry {
-        Entry::Nothing => Ok(()),
-        Entry::Keys(first, last) => {
+        LineEntry::Nothing => Ok(()),
+        LineEntry::Keys(first, last) => {
             if !characters.is_empty() {
                 return Err(RepertoireFault::BadLine { line });
             }
@@ -130,7 +130,7 @@ fn add_entry(
             keys.push((first, last))?;
             Ok(())
         }
-        Entry::Character(character) => {
+        LineEntry::Character(character) => {
             if !is_above_characters(characters, character) {
                 return Err(RepertoireFault::NotRising { line });
             }

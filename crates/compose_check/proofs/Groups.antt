@@ -45,30 +45,30 @@ module _ (names : KeysymNames) (old new : List Definition) (repertoire : Reperto
         (all.0, (and_parts (pairs_in_range old new c.pairs) (has_pair c.pairs 0 0 && (rest_is_kept c.pairs && true)) all.1).0)
 
     module _ (no_fresh : first_unmet fresh ≡ None) where
-      behind_fresh : fault_of names old new repertoire c ≡ first_unmet (starts ++ (edges ++ (bound ++ typings)))
-      behind_fresh = behind_pairs ∙ met_before fresh (starts ++ (edges ++ (bound ++ typings))) no_fresh
+      fault_after_fresh : fault_of names old new repertoire c ≡ first_unmet (starts ++ (edges ++ (bound ++ typings)))
+      fault_after_fresh = behind_pairs ∙ met_before fresh (starts ++ (edges ++ (bound ++ typings))) no_fresh
 
       -- if those on pairs and fresh keysyms are met, the first fault of the new starts is the certificate's
       pub start_fault : (fault : CheckFault) → first_unmet starts ≡ Some fault → Some fault ≡ fault_of names old new repertoire c
-      start_fault fault h = sym (behind_fresh ∙ unmet_before starts (edges ++ (bound ++ typings)) fault h)
+      start_fault fault h = sym (fault_after_fresh ∙ unmet_before starts (edges ++ (bound ++ typings)) fault h)
 
       module _ (no_start : first_unmet starts ≡ None) where
-        behind_starts : fault_of names old new repertoire c ≡ first_unmet (edges ++ (bound ++ typings))
-        behind_starts = behind_fresh ∙ met_before starts (edges ++ (bound ++ typings)) no_start
+        fault_after_starts : fault_of names old new repertoire c ≡ first_unmet (edges ++ (bound ++ typings))
+        fault_after_starts = fault_after_fresh ∙ met_before starts (edges ++ (bound ++ typings)) no_start
 
         -- if those on pairs, fresh keysyms and starts are met, the first fault at an edge is the certificate's
         pub edge_fault : (fault : CheckFault) → first_unmet edges ≡ Some fault → Some fault ≡ fault_of names old new repertoire c
-        edge_fault fault h = sym (behind_starts ∙ unmet_before edges (bound ++ typings) fault h)
+        edge_fault fault h = sym (fault_after_starts ∙ unmet_before edges (bound ++ typings) fault h)
 
         module _ (no_edge : first_unmet edges ≡ None) where
-          behind_edges : fault_of names old new repertoire c ≡ first_unmet (bound ++ typings)
-          behind_edges = behind_starts ∙ met_before edges (bound ++ typings) no_edge
+          fault_after_edges : fault_of names old new repertoire c ≡ first_unmet (bound ++ typings)
+          fault_after_edges = fault_after_starts ∙ met_before edges (bound ++ typings) no_edge
 
           -- if all conditions but those on the bound and the typings are met, the first fault of the bound is the
           -- certificate's
           pub bound_fault : (fault : CheckFault) → first_unmet bound ≡ Some fault → Some fault ≡ fault_of names old new repertoire c
-          bound_fault fault h = sym (behind_edges ∙ unmet_before bound typings fault h)
+          bound_fault fault h = sym (fault_after_edges ∙ unmet_before bound typings fault h)
 
           -- if all conditions but those on typings are met, the certificate has the fault of its typings, or none
           pub typing_faults : first_unmet bound ≡ None → first_unmet typings ≡ fault_of names old new repertoire c
-          typing_faults h = sym (behind_edges ∙ met_before bound typings h)
+          typing_faults h = sym (fault_after_edges ∙ met_before bound typings h)

@@ -7,7 +7,7 @@ use Rattle.keysym_core.specs.Names.{KeysymNames}
 use Rattle.keysym_core.specs.Header.{names_of}
 use Rattle.keysym_core.specs.declared.fault.NameFault.{NameFault}
 use Rattle.compose_model.specs.Table.{Definition}
-use Rattle.compose_tree.specs.TableGives.{NoTable, first_table}
+use Rattle.compose_tree.specs.TableReturns.{NoTable, first_table}
 use Rattle.compose_migration.specs.Keys.{keys_of}
 use Rattle.compose_migration.specs.declared.fault.Side.TheVariants as sides
 use Rattle.compose_migration.specs.Migration as migrations
@@ -19,7 +19,7 @@ use Rattle.compose_cert.specs.Repertoire.{repertoire_of}
 use Rattle.compose_cert.specs.declared.CertFault.TheVariants as cert_faults
 use Rattle.compose_cert.specs.declared.RepertoireFault.TheVariants as repertoire_faults
 use Rattle.compose_check.specs.Input.{Input, Parts, Unread, no_migration, no_repertoire, no_certificate, certified_parts, parts_of}
-use Rattle.compose_check.specs.CheckGives.{InputRefused, InputGives, Promises, IsVerdict, CheckGives}
+use Rattle.compose_check.specs.CheckReturns.{InputRefused, InputReturns, Promises, IsVerdict, CheckReturns}
 use Rattle.compose_check.specs.declared.verdict.Verdict.{Verdict}
 use Rattle.compose_check.specs.declared.verdict.Verdict.TheVariants.{Yes}
 use Rattle.compose_check.specs.declared.input.InputFault.{InputFault}
@@ -57,10 +57,10 @@ no_key_name header old new index e = names_is old new index (names_of header) e
 
 -- this is read
 abbrev pub IsRead : {A : Type 0} → Result A Unread → A → Type 0
-IsRead {A} said x = (a : A) × (said ≡ Ok a) × (a ≡ x)
+IsRead {A} expected x = (a : A) × (expected ≡ Ok a) × (a ≡ x)
 
-is_read : {A : Type 0} (said : Result A Unread) (x : A) → IsRead said x → said ≡ Ok x
-is_read said x h = h.1 ∙ ap (λ a. Ok a) h.2
+is_read : {A : Type 0} (expected : Result A Unread) (x : A) → IsRead expected x → expected ≡ Ok x
+is_read expected x h = h.1 ∙ ap (λ a. Ok a) h.2
 
 -- a fault of one step is the fault of the whole
 step_refused : {A B : Type 0} (fault : InputFault) (r : Result A Unread) (f : A → Result B Unread) → InputRefused fault r → InputRefused fault (r >>= f)
@@ -82,10 +82,10 @@ step_refused (faults.Certificate cert_faults.NoMemory) r f h = absurd h
 step_refused faults.NoMemory r f h = tt
 
 -- a result that is this fault has the properties of the fault
-pub fault_gives : {P A : Type 0} (reads : P → A → Type 0) (r : Result A InputFault) (fault : InputFault) (said : Result P Unread) → IsErrAnd r (λ e. e ≡ fault)
-    → InputRefused fault said → InputGives reads r said
-fault_gives reads (Ok a) fault said h g = absurd h
-fault_gives reads (Err e) fault said h g = subst (λ (x : InputFault). InputRefused x said) (sym h) g
+pub fault_gives : {P A : Type 0} (reads : P → A → Type 0) (r : Result A InputFault) (fault : InputFault) (expected : Result P Unread) → IsErrAnd r (λ e. e ≡ fault)
+    → InputRefused fault expected → InputReturns reads r expected
+fault_gives reads (Ok a) fault expected h g = absurd h
+fault_gives reads (Err e) fault expected h g = subst (λ (x : InputFault). InputRefused x expected) (sym h) g
 
 -- ---- the parts of a migration that is read
 
@@ -119,13 +119,13 @@ module _ (m : migrations.Parts) (repertoire certificate : List ℕ) where
 one : (p q : Parts) → ◌≡◌ {A = Result Parts Unread} (Ok p) (Ok q) → p ≡ q
 one p q e = cc
 
-verdict_alone : (r : Result Verdict InputFault) (said : Result Parts Unread) → InputGives IsVerdict r said → CheckGives r said
-verdict_alone (Ok v) said h = (h.0, h.1, h.2.0)
-verdict_alone (Err fault) said h = h
+verdict_alone : (r : Result Verdict InputFault) (expected : Result Parts Unread) → InputReturns IsVerdict r expected → CheckReturns r expected
+verdict_alone (Ok v) expected h = (h.0, h.1, h.2.0)
+verdict_alone (Err fault) expected h = h
 
-promised : (r : Result Verdict InputFault) (said : Result Parts Unread) → InputGives IsVerdict r said → (p : Parts) → said ≡ Ok p → r ≡ Ok Yes → Promises p
-promised (Ok v) said h p e is = let is_yes : v ≡ Yes = cc in subst (λ (q : Parts). Promises q) (one h.0 p (sym h.1 ∙ e)) (h.2.1 is_yes)
-promised (Err fault) said h p e is = cc
+promised : (r : Result Verdict InputFault) (expected : Result Parts Unread) → InputReturns IsVerdict r expected → (p : Parts) → expected ≡ Ok p → r ≡ Ok Yes → Promises p
+promised (Ok v) expected h p e is = let is_yes : v ≡ Yes = cc in subst (λ (q : Parts). Promises q) (one h.0 p (sym h.1 ∙ e)) (h.2.1 is_yes)
+promised (Err fault) expected h p e is = cc
 
 module _ (input : Input) where
   abbrev certified : migrations.Parts → Result Parts Unread
@@ -135,13 +135,13 @@ module _ (input : Input) where
   pub migration_refused : (fault : InputFault) → InputRefused fault (or_because no_migration (migration_of input.migration)) → InputRefused fault (parts_of input)
   migration_refused fault h = step_refused fault (or_because no_migration (migration_of input.migration)) certified h
 
-  module _ (m : migrations.Parts) (m_read : IsRead (or_because no_migration (migration_of input.migration)) m) (r : Result Verdict InputFault) (given : InputGives IsVerdict r (certified m)) where
+  module _ (m : migrations.Parts) (m_read : IsRead (or_because no_migration (migration_of input.migration)) m) (r : Result Verdict InputFault) (given : InputReturns IsVerdict r (certified m)) where
     after_migration : parts_of input ≡ certified m
     after_migration = ap (λ r. r >>= certified) (is_read (or_because no_migration (migration_of input.migration)) m m_read)
 
     -- if the migration is read, the verdict on the parts with it is that on the parts of the input
-    pub verdict_gives : CheckGives r (parts_of input)
-    verdict_gives = subst (λ (said : Result Parts Unread). CheckGives r said) (sym after_migration) (verdict_alone r (certified m) given)
+    pub verdict_gives : CheckReturns r (parts_of input)
+    verdict_gives = subst (λ (expected : Result Parts Unread). CheckReturns r expected) (sym after_migration) (verdict_alone r (certified m) given)
 
     -- if that verdict is yes, its promises hold for the parts of the input
     pub yes_promises : (p : Parts) → parts_of input ≡ Ok p → r ≡ Ok Yes → Promises p

@@ -77,11 +77,11 @@ module _ (names : KeysymNames) (new : List Definition) where
   types_from_test : (w : List ℕ) (c : ℕ) → types names new w c ≡ true → Types names new w c
   unfolding typed wanted
   types_from_test w c h =
-      let both = and_parts (pointwise same (typed w) (wanted w c)) (is_empty (pending new w)) h in record { texts = lists_are (typed w) (wanted w c) both.0; rests = empty_is (pending new w) both.1 }
+      let both = and_parts (pointwise same (typed w) (wanted w c)) (is_empty (pending new w)) h in record { texts = lists_are (typed w) (wanted w c) both.0; nothing_pending = empty_is (pending new w) both.1 }
 
   test_from_types : (w : List ℕ) (c : ℕ) → Types names new w c → types names new w c ≡ true
   unfolding typed wanted
-  test_from_types w c t = and_from (pointwise same (typed w) (wanted w c)) (is_empty (pending new w)) (ap (pointwise same (typed w)) (sym t.texts) ∙ lists_from (typed w)) (ap is_empty t.rests)
+  test_from_types w c t = and_from (pointwise same (typed w) (wanted w c)) (is_empty (pending new w)) (ap (pointwise same (typed w)) (sym t.texts) ∙ lists_from (typed w)) (ap is_empty t.nothing_pending)
 
   module _ (repertoire : Repertoire) where
     -- the meaning of the conditions on the typings of these characters

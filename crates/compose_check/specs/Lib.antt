@@ -3,4 +3,4 @@ pub mod Landing
 pub mod Typings
 pub mod Verdict
 pub mod Input
-pub mod CheckGives
+pub mod CheckReturns

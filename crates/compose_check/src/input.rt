@@ -5,9 +5,9 @@ ghost use Rattle.compose_model.specs.Certificate.{IsValid, TypesAll};
 ghost use Rattle.compose_cert.specs.Reading.{certificate_of};
 ghost use Rattle.compose_cert.specs.Repertoire.{repertoire_of};
 ghost use Rattle.compose_migration.specs.Migration.{Parts as GivenParts, NoMigration, or_because, migration_of};
-ghost use Rattle.compose_migration.specs.MigrationGives.{MigrationRefused, parts};
+ghost use Rattle.compose_migration.specs.MigrationReturns.{MigrationRefused, parts};
 ghost use Rattle.compose_check.specs.Input.{Parts, certified_parts, parts_of, no_migration, no_repertoire, no_certificate};
-ghost use Rattle.compose_check.specs.CheckGives.{CheckGives, InputGives, InputRefused, IsVerdict, input_of};
+ghost use Rattle.compose_check.specs.CheckReturns.{CheckReturns, InputReturns, InputRefused, IsVerdict, input_of};
 
 use crate::verdict::{Verdict, check};
 use compose_cert::{CertFault, Certificate, Repertoire, RepertoireFault};
@@ -73,7 +73,7 @@ pub fn check_bytes<T: ComposeTable>(
     alloc: Global,
     input: &CheckInput<'_>,
 ) -> Result<Verdict, InputFault>
-    ensures exact { CheckGives result (parts_of (input_of input.entry.now)) }
+    ensures exact { CheckReturns result (parts_of (input_of input.entry.now)) }
     ensures valid { (p : Parts) → parts_of (input_of input.entry.now) ≡ Ok p
         → result ≡ Ok Verdict.Yes → IsValid p.names p.old p.new p.repertoire p.certificate }
     ensures follows { (p : Parts) → parts_of (input_of input.entry.now) ≡ Ok p
@@ -94,7 +94,7 @@ fn check_migration<T: ComposeTable>(
     input: &CheckInput<'_>,
     migration: &Migration<T>,
 ) -> Result<Verdict, InputFault>
-    ensures { InputGives IsVerdict result
+    ensures { InputReturns IsVerdict result
         (certified_parts (parts T.definitions migration.now)
         input.entry.now.repertoire.now input.entry.now.certificate.now) }
 {
@@ -114,7 +114,7 @@ fn read_migration<T: ComposeTable>(
     alloc: Global,
     input: &CheckInput<'_>,
 ) -> Result<Migration<T>, InputFault>
-    ensures { InputGives (λ said read. said ≡ parts T.definitions read) result
+    ensures { InputReturns (λ expected read. expected ≡ parts T.definitions read) result
         (or_because no_migration (migration_of (input_of input.entry.now).migration)) }
 {
     let given = MigrationInput {
@@ -138,8 +138,8 @@ fn read_migration<T: ComposeTable>(
 /// Returns the fault of a migration without key names.
 fn input_fault(fault: MigrationFault) -> InputFault
     requires { (index : ℕ) → fault ≢ MigrationFault.Key index }
-    ensures { (said : Result GivenParts NoMigration) → MigrationRefused fault said
-        → InputRefused result (or_because no_migration said) }
+    ensures { (expected : Result GivenParts NoMigration) → MigrationRefused fault expected
+        → InputRefused result (or_because no_migration expected) }
 {
     match fault {
         MigrationFault::Names(fault) => InputFault::Names(fault),
@@ -158,7 +158,7 @@ fn input_fault(fault: MigrationFault) -> InputFault
 
 /// Reads the repertoire.
 fn read_repertoire(alloc: Global, bytes: &[u8]) -> Result<Repertoire, InputFault>
-    ensures { InputGives (λ said repertoire. said ≡ repertoire) result
+    ensures { InputReturns (λ expected repertoire. expected ≡ repertoire) result
         (or_because no_repertoire (repertoire_of bytes.now)) }
 {
     match Repertoire::read(alloc, bytes) {
@@ -170,7 +170,7 @@ fn read_repertoire(alloc: Global, bytes: &[u8]) -> Result<Repertoire, InputFault
 
 /// Reads the certificate.
 fn read_certificate(alloc: Global, bytes: &[u8]) -> Result<Certificate, InputFault>
-    ensures { InputGives (λ said certificate. said ≡ certificate) result
+    ensures { InputReturns (λ expected certificate. expected ≡ certificate) result
         (or_because no_certificate (certificate_of bytes.now)) }
 {
     match Certificate::read(alloc, bytes) {

@@ -5,11 +5,11 @@ use Rattle.std.specs.Int.{to_be_bytes, from_be_bytes, w32}
 use Rattle.std.proofs.Math.Seq.{take-append_seam}
 use Rattle.std.proofs.lemmas.List.{take-append-drop}
 use Rattle.std.proofs.lemmas.Nat.{from_be_bytes-to_be_bytes_4}
-use Rattle.compose_wire.specs.Messages.{Answer, Reply}
-use Rattle.compose_wire.specs.Frames.{reply_bytes, answer_kind, answer_payload, size_said}
+use Rattle.compose_wire.specs.Messages.{ReplyBody, Reply}
+use Rattle.compose_wire.specs.Frames.{reply_bytes, answer_kind, answer_payload, stated_size}
 use Rattle.std.specs.Prelude.{Some, None, Ok}
-use Rattle.compose_wire.specs.Replies.{SaysAnswer, SaysReply}
-use Rattle.compose_wire.specs.declared.reply.Answer.{Answer as AnswerGiven}
+use Rattle.compose_wire.specs.Replies.{HasAnswerValue, HasReplyValue}
+use Rattle.compose_wire.specs.declared.reply.ReplyBody.{ReplyBody as AnswerGiven}
 use Rattle.compose_client.specs.Replies.{ReplyFits, BeginsWithReply, HasBadPayload, AnswerFits}
 use Rattle.compose_client.specs.Giving.{answer_at, reply_at, IsSize, ReadsAnswer, GivesOut}
 use Rattle.compose_client.proofs.OneReply.{answer_again, length_again}
@@ -18,31 +18,31 @@ use Rattle.compose_client.proofs.OneReply.{answer_again, length_again}
 pub record IsRead (bytes : List ℕ) : Type 0 where
   pub fits : ReplyFits (reply_at bytes)
   pub kind : answer_kind (reply_at bytes).answer ≡ get_or bytes 0 0
-  pub payload : answer_payload (reply_at bytes).answer ≡ take (size_said bytes) (drop 9 bytes)
-  pub prefix : reply_bytes (reply_at bytes) ≡ take (9 + size_said bytes) bytes
-  pub long : 9 + size_said bytes ≤ length bytes
+  pub payload : answer_payload (reply_at bytes).answer ≡ take (stated_size bytes) (drop 9 bytes)
+  pub prefix : reply_bytes (reply_at bytes) ≡ take (9 + stated_size bytes) bytes
+  pub long : 9 + stated_size bytes ≤ length bytes
 
 module _ (r : Reply) (more : List ℕ) (f : ReplyFits r) where
-  size_again : size_said (reply_bytes r ++ more) ≡ length (answer_payload r.answer)
+  size_again : stated_size (reply_bytes r ++ more) ≡ length (answer_payload r.answer)
   size_again = length_again r.answer f.answer
 
-  payload_again : take (size_said (reply_bytes r ++ more)) (drop 9 (reply_bytes r ++ more)) ≡ answer_payload r.answer
+  payload_again : take (stated_size (reply_bytes r ++ more)) (drop 9 (reply_bytes r ++ more)) ≡ answer_payload r.answer
   payload_again = ap (λ n. take n (answer_payload r.answer ++ more)) size_again ∙ take-append_seam (answer_payload r.answer) more
 
   reply_again : reply_at (reply_bytes r ++ more) ≡ r
   reply_again =
       let session : from_be_bytes w32 (to_be_bytes w32 r.session) ≡ r.session = from_be_bytes-to_be_bytes_4 r.session f.session in
-      let answer : answer_at (answer_kind r.answer) (take (size_said (reply_bytes r ++ more)) (drop 9 (reply_bytes r ++ more))) ≡ r.answer =
+      let answer : answer_at (answer_kind r.answer) (take (stated_size (reply_bytes r ++ more)) (drop 9 (reply_bytes r ++ more))) ≡ r.answer =
       ap (answer_at (answer_kind r.answer)) payload_again ∙ answer_again r.answer f.answer in
       λ i. record { session = session i; answer = answer i }
 
-  frame_long : 9 + size_said (reply_bytes r ++ more) ≡ length (reply_bytes r)
+  frame_long : 9 + stated_size (reply_bytes r ++ more) ≡ length (reply_bytes r)
   frame_long = let e = size_again in omega arith
 
-  prefix_again : take (9 + size_said (reply_bytes r ++ more)) (reply_bytes r ++ more) ≡ reply_bytes r
+  prefix_again : take (9 + stated_size (reply_bytes r ++ more)) (reply_bytes r ++ more) ≡ reply_bytes r
   prefix_again = ap (λ n. take n (reply_bytes r ++ more)) frame_long ∙ take-append_seam (reply_bytes r) more
 
-  within : 9 + size_said (reply_bytes r ++ more) ≤ length (reply_bytes r ++ more)
+  within : 9 + stated_size (reply_bytes r ++ more) ≤ length (reply_bytes r ++ more)
   within =
       let says : from_be_bytes w32 (to_be_bytes w32 (length (answer_payload r.answer))) ≡ length (answer_payload r.answer) = length_again r.answer f.answer in
       let long : length (answer_payload r.answer ++ more) ≡ length (answer_payload r.answer) + length more = length-append (answer_payload r.answer) more in
@@ -81,15 +81,15 @@ session_small h f session reads =
 
 -- if there are as many bytes of payload as the head requires
 module _ (h : List ℕ) (n : ℕ) (sized : IsSize (Ok (Some n)) h) where
-  prefix_said : (BeginsWithReply h) → reply_bytes (reply_at h) ≡ take (9 + n) h
-  prefix_said b = (is_read h b).prefix ∙ ap (λ m. take (9 + m) h) (sym sized.1)
+  prefix_is_frame : (BeginsWithReply h) → reply_bytes (reply_at h) ≡ take (9 + n) h
+  prefix_is_frame b = (is_read h b).prefix ∙ ap (λ m. take (9 + m) h) (sym sized.1)
 
   -- a whole frame whose head has no fault, but that is no reply's, has a bad payload
   pub bad_payload : (BeginsWithReply h → ⊥) → HasBadPayload h
   bad_payload none =
-      let said = sized.1 in
+      let expected = sized.1 in
       let long = sized.2 in
-      record { head = sized.0; whole = omega arith; said = omega arith; no_reply = none }
+      record { head = sized.0; whole = omega arith; expected = omega arith; no_reply = none }
 
   -- if no answer was read, the payload is bad
   pub not_read : ReadsAnswer None (get_or h 0 0) (take n (drop 9 h)) → HasBadPayload h
@@ -109,12 +109,12 @@ module _ (h : List ℕ) (n : ℕ) (sized : IsSize (Ok (Some n)) h) where
       same_answer = ap (λ m. answer_at (get_or h 0 0) (take m (drop 9 h))) sized.1
 
       -- the session and the answer that are read from a whole frame are those of its reply
-      pub says : SaysReply (record { session = session; answer = answer }) (reply_at h)
-      says = (same_session, subst (λ (v : Answer). SaysAnswer answer v) same_answer read.0)
+      pub says : HasReplyValue (record { session = session; answer = answer }) (reply_at h)
+      says = (same_session, subst (λ (v : ReplyBody). HasAnswerValue answer v) same_answer read.0)
 
       -- if what was read has another frame than these bytes, their payload is bad
       pub other_frame : (reply_bytes (reply_at h) ≡ take (9 + n) h → ⊥) → HasBadPayload h
-      other_frame other = bad_payload (λ b. other (prefix_said b))
+      other_frame other = bad_payload (λ b. other (prefix_is_frame b))
 
       -- if what was read has this frame, it is returned
       pub given : session < 2 ^ 32 → reply_bytes (reply_at h) ≡ take (9 + n) h → GivesOut (record { session = session; answer = answer }) h (drop (9 + n) h)
@@ -123,7 +123,7 @@ module _ (h : List ℕ) (n : ℕ) (sized : IsSize (Ok (Some n)) h) where
         says = says;
         fits = record {
           session = subst (λ (s : ℕ). s < 2 ^ 32) same_session small;
-          answer = subst (λ (v : Answer). AnswerFits v) same_answer read.1;
+          answer = subst (λ (v : ReplyBody). AnswerFits v) same_answer read.1;
         };
         bytes = sym (take-append-drop (9 + n) h) ∙ ap (λ x. x ++ drop (9 + n) h) (sym same);
       }

@@ -1,7 +1,7 @@
 -- Reading keysyms from bytes, four for each.
 use Rattle.std.proofs.Common.{◌≡◌, ℕ, suc, ◌+◌, ◌-◌, ◌*◌, ◌<◌, ◌≤◌, List, [], ◌∷◌, ◌++◌, length, take, drop, get_or, refl, sym, ◌∙◌, ap, subst, arith, length-drop}
 use Rattle.std.proofs.lemmas.List.{take_all}
-use Rattle.compose_wire.specs.Messages.{Answer, opened, fed, was_reset, closed, loaded, state, refused}
+use Rattle.compose_wire.specs.Messages.{ReplyBody, opened, fed, was_reset, closed, loaded, state, refused}
 use Rattle.compose_wire.specs.Frames.{answer_kind, answer_payload}
 use Rattle.compose_client.specs.Replies.{AreKeysyms, AnswerFits}
 use Rattle.compose_client.specs.Giving.{keysyms_at}
@@ -48,11 +48,11 @@ few_keysyms (a ∷ b ∷ c ∷ []) = omega arith
 few_keysyms (a ∷ b ∷ c ∷ d ∷ rest) = omega (arith, few_keysyms rest)
 
 -- what follows two bytes, cut at the end
-pub behind_two : (bytes : List ℕ) → take (length bytes - 2) (drop 2 bytes) ≡ drop 2 bytes
-behind_two bytes = take_all (length bytes - 2) (drop 2 bytes) (omega (arith, length-drop 2 bytes))
+pub after_two : (bytes : List ℕ) → take (length bytes - 2) (drop 2 bytes) ≡ drop 2 bytes
+after_two bytes = take_all (length bytes - 2) (drop 2 bytes) (omega (arith, length-drop 2 bytes))
 
 -- a state with a keysym that is too large is no reply's
-pub no_state : (bytes : List ℕ) → (AreKeysyms (keysyms_at (drop 2 bytes)) → ⊥) → (v : Answer) → AnswerFits v → answer_kind v ≡ 0x86 → answer_payload v ≡ bytes → ⊥
+pub no_state : (bytes : List ℕ) → (AreKeysyms (keysyms_at (drop 2 bytes)) → ⊥) → (v : ReplyBody) → AnswerFits v → answer_kind v ≡ 0x86 → answer_payload v ≡ bytes → ⊥
 no_state bytes absent opened f k p = omega arith
 no_state bytes absent (fed status accepted text) f k p = omega arith
 no_state bytes absent was_reset f k p = omega arith

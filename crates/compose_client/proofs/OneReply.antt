@@ -5,7 +5,7 @@ use Rattle.std.specs.Int.{to_be_bytes, from_be_bytes, w16, w32}
 use Rattle.std.proofs.lemmas.Nat.{from_be_bytes-to_be_bytes_4, from_be_bytes-to_be_bytes_8}
 use Rattle.compose_model.specs.declared.Status.{Status}
 use Rattle.compose_model.specs.declared.Status.TheVariants.{Nothing, Composing, Composed, Cancelled}
-use Rattle.compose_wire.specs.Messages.{Answer, opened, fed, was_reset, closed, loaded, state, refused, Reply, Refusal, session_taken, no_session, full, bad_keysym, bad_bundle, table_refused, certificate_refused, verdict_no, no_memory, malformed, code}
+use Rattle.compose_wire.specs.Messages.{ReplyBody, opened, fed, was_reset, closed, loaded, state, refused, Reply, Refusal, session_taken, no_session, full, bad_keysym, bad_bundle, table_refused, certificate_refused, verdict_no, no_memory, malformed, code}
 use Rattle.compose_wire.specs.Frames.{reply_bytes, answer_kind, answer_payload, status_byte}
 use Rattle.compose_wire.proofs.OneFrame.{parted}
 use Rattle.compose_wire.proofs.Keysyms.{keysym_bytes_length}
@@ -42,7 +42,7 @@ keysyms_again (k ∷ ks) a =
     ap₂ (λ n ns. n ∷ ns) (from_be_bytes-to_be_bytes_4 k (omega arith)) (keysyms_again ks a.1)
 
 -- the answer of a reply that fits is read back from its kind and payload
-pub answer_again : (v : Answer) → AnswerFits v → answer_at (answer_kind v) (answer_payload v) ≡ v
+pub answer_again : (v : ReplyBody) → AnswerFits v → answer_at (answer_kind v) (answer_payload v) ≡ v
 answer_again opened f = refl
 answer_again (fed status accepted text) f = ap₂ (λ s b. fed s b text) (status_again status) (flag_again accepted)
 answer_again was_reset f = refl
@@ -52,7 +52,7 @@ answer_again (state status pending) f = ap₂ state (status_again status) (keysy
 answer_again (refused why) f = ap refused (refusal_again why)
 
 -- the payload of an answer has at most 257 bytes
-pub payload_short : (v : Answer) → AnswerFits v → length (answer_payload v) ≤ 257
+pub payload_short : (v : ReplyBody) → AnswerFits v → length (answer_payload v) ≤ 257
 payload_short opened f = omega arith
 payload_short (fed status accepted text) f = let few = f.1 in omega arith
 payload_short was_reset f = omega arith
@@ -62,7 +62,7 @@ payload_short (state status pending) f = let few = f.1 in let long = keysym_byte
 payload_short (refused why) f = omega arith
 
 -- the length of an answer's payload is read back from its four bytes
-pub length_again : (v : Answer) → AnswerFits v → from_be_bytes w32 (to_be_bytes w32 (length (answer_payload v))) ≡ length (answer_payload v)
+pub length_again : (v : ReplyBody) → AnswerFits v → from_be_bytes w32 (to_be_bytes w32 (length (answer_payload v))) ≡ length (answer_payload v)
 length_again v f = let short = payload_short v f in from_be_bytes-to_be_bytes_4 (length (answer_payload v)) (omega arith)
 
 -- bytes begin with the frame of at most one reply, and what follows it is the same

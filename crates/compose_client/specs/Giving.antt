@@ -3,10 +3,10 @@ use Rattle.std.specs.Prelude.{◌≡◌, ℕ, ◌+◌, ◌==◌, ◌<◌, ◌≤
 use Rattle.std.specs.Int.{from_be_bytes, w16, w32, w64}
 use Rattle.compose_model.specs.declared.Status.{Status}
 use Rattle.compose_model.specs.declared.Status.TheVariants.{Nothing, Composing, Composed, Cancelled}
-use Rattle.compose_wire.specs.Messages.{Answer as AnswerValue, opened, fed, was_reset, closed, loaded, state, refused, Reply as ReplyValue, Refusal, session_taken, no_session, full, bad_keysym, bad_bundle, table_refused, certificate_refused, verdict_no, no_memory, malformed}
-use Rattle.compose_wire.specs.Frames.{reply_bytes, answer_kind, answer_payload, Fault, unknown_kind, bad_length, size_said}
-use Rattle.compose_wire.specs.Replies.{SaysAnswer, SaysReply}
-use Rattle.compose_wire.specs.declared.reply.Answer.{Answer}
+use Rattle.compose_wire.specs.Messages.{ReplyBody as AnswerValue, opened, fed, was_reset, closed, loaded, state, refused, Reply as ReplyValue, Refusal, session_taken, no_session, full, bad_keysym, bad_bundle, table_refused, certificate_refused, verdict_no, no_memory, malformed}
+use Rattle.compose_wire.specs.Frames.{reply_bytes, answer_kind, answer_payload, Fault, unknown_kind, bad_length, stated_size}
+use Rattle.compose_wire.specs.Replies.{HasAnswerValue, HasReplyValue}
+use Rattle.compose_wire.specs.declared.reply.ReplyBody.{ReplyBody}
 use Rattle.compose_wire.specs.declared.reply.Reply.{Reply}
 use Rattle.compose_client.specs.Replies.{AnswerFits, ReplyFits, head_fault, HasBadPayload, IsReplyBegun, max_reply}
 use Rattle.compose_client.specs.declared.fault.ReplyFault.{ReplyFault}
@@ -15,7 +15,7 @@ use Rattle.compose_client.specs.declared.fault.ReplyFault.TheVariants.{UnknownKi
 -- the held bytes were the frame of this reply, followed by what is held now
 pub record GivesOut (reply : Reply) (held held' : List ℕ) : Type 0 where
   pub value : ReplyValue
-  pub says : SaysReply reply value
+  pub says : HasReplyValue reply value
   pub fits : ReplyFits value
   pub bytes : held ≡ reply_bytes value ++ held'
 
@@ -28,15 +28,15 @@ IsFaultOf held NoMemory = ⊥
 
 -- the result for the held bytes, and what is held after it: if they begin with a reply's frame, the reply is returned;
 -- else all is held as before
-abbrev pub Gives : Result (Option Reply) ReplyFault → List ℕ → List ℕ → Type 0
-Gives (Ok (Some reply)) held held' = GivesOut reply held held'
-Gives (Ok None) held held' = IsReplyBegun held × (length held < max_reply) × (held' ≡ held)
-Gives (Err fault) held held' = IsFaultOf held fault × (held' ≡ held)
+abbrev pub Returns : Result (Option Reply) ReplyFault → List ℕ → List ℕ → Type 0
+Returns (Ok (Some reply)) held held' = GivesOut reply held held'
+Returns (Ok None) held held' = IsReplyBegun held × (length held < max_reply) × (held' ≡ held)
+Returns (Err fault) held held' = IsFaultOf held fault × (held' ≡ held)
 
 -- the result if the bytes begin with a reply's frame: the reply
-abbrev pub GivesReply : ReplyValue → List ℕ → Result (Option Reply) ReplyFault → List ℕ → Type 0
-GivesReply r more (Ok (Some reply)) held' = SaysReply reply r × (held' ≡ more)
-GivesReply r more _ held' = ⊥
+abbrev pub ReturnsReply : ReplyValue → List ℕ → Result (Option Reply) ReplyFault → List ℕ → Type 0
+ReturnsReply r more (Ok (Some reply)) held' = HasReplyValue reply r × (held' ≡ more)
+ReturnsReply r more _ held' = ⊥
 
 -- the program's name of a fault of a head, which is never too long
 abbrev pub reply_fault : Fault → ReplyFault
@@ -73,7 +73,7 @@ answer_at kind bytes =
 abbrev pub reply_at : List ℕ → ReplyValue
 reply_at held = record {
   session = from_be_bytes w32 (take 4 (drop 1 held));
-  answer = answer_at (slice_index held 0) (take (size_said held) (drop 9 held));
+  answer = answer_at (slice_index held 0) (take (stated_size held) (drop 9 held));
 }
 
 -- the lengths that fit a kind of reply, and the largest length
@@ -81,13 +81,13 @@ abbrev pub HasLength : ℕ → ℕ → Type 0
 HasLength kind n = (kind ≡ 0x82 → 2 ≤ n) × (kind ≡ 0x85 → n ≡ 8) × (kind ≡ 0x86 → (2 ≤ n) × (n ≤ 126)) × (kind ≡ 0xff → n ≡ 2) × (n ≤ 257)
 
 -- the answer is that of the kind and the payload, and fits; none if no answer that fits has this kind and this payload
-abbrev pub ReadsAnswer : Option Answer → ℕ → List ℕ → Type 0
-ReadsAnswer (Some answer) kind bytes = SaysAnswer answer (answer_at kind bytes) × AnswerFits (answer_at kind bytes)
+abbrev pub ReadsAnswer : Option ReplyBody → ℕ → List ℕ → Type 0
+ReadsAnswer (Some answer) kind bytes = HasAnswerValue answer (answer_at kind bytes) × AnswerFits (answer_at kind bytes)
 ReadsAnswer None kind bytes = (v : AnswerValue) → AnswerFits v → answer_kind v ≡ kind → answer_payload v ≡ bytes → ⊥
 
 -- the length of the payload, if there is a whole frame
 abbrev pub IsSize : Result (Option ℕ) ReplyFault → List ℕ → Type 0
-IsSize (Ok (Some size)) held = (head_fault held ≡ None) × (size ≡ size_said held) × (9 + size ≤ length held) × HasLength (slice_index held 0) size
+IsSize (Ok (Some size)) held = (head_fault held ≡ None) × (size ≡ stated_size held) × (9 + size ≤ length held) × HasLength (slice_index held 0) size
 IsSize (Ok None) held = IsReplyBegun held × (length held < max_reply)
 IsSize (Err BadPayload) held = ⊥
 IsSize (Err fault) held = IsFaultOf held fault

@@ -3,8 +3,8 @@ use Rattle.std.specs.Prelude.{◌≡◌, ℕ, Bool, not, ◌||◌, ◌==◌, ◌
 use Rattle.std.specs.Int.{from_be_bytes, w32}
 use Rattle.std.specs.List.{AllByRecursion}
 use Rattle.compose_text.specs.Numbers.{is_between}
-use Rattle.compose_wire.specs.Messages.{Answer, fed, loaded, state, Reply}
-use Rattle.compose_wire.specs.Frames.{reply_bytes, Fault, unknown_kind, bad_length, size_said}
+use Rattle.compose_wire.specs.Messages.{ReplyBody, fed, loaded, state, Reply}
+use Rattle.compose_wire.specs.Frames.{reply_bytes, Fault, unknown_kind, bad_length, stated_size}
 
 -- ---- which replies exist
 
@@ -13,7 +13,7 @@ abbrev pub AreKeysyms : List ℕ → Type 0
 AreKeysyms ks = AllByRecursion (λ k. k ≤ 0x1fffffff) ks
 
 -- a text is UTF-8 of at most 255 bytes, a count fits into eight bytes, and at most 31 keysyms are pending
-abbrev pub AnswerFits : Answer → Type 0
+abbrev pub AnswerFits : ReplyBody → Type 0
 AnswerFits (fed status accepted text) = IsUtf8 text × (length text ≤ 255)
 AnswerFits (loaded count) = count < 2 ^ 64
 AnswerFits (state status pending) = AreKeysyms pending × (length pending ≤ 31)
@@ -53,13 +53,13 @@ head_fault (kind ∷ rest) =
 pub record HasBadPayload (bytes : List ℕ) : Type 0 where
   pub head : head_fault bytes ≡ None
   pub whole : 9 ≤ length bytes
-  pub said : 9 + size_said bytes ≤ length bytes
+  pub expected : 9 + stated_size bytes ≤ length bytes
   pub no_reply : BeginsWithReply bytes → ⊥
 
 -- the bytes, perhaps none, are less than a head, or less than the head requires; they have no fault
 pub record IsReplyBegun (bytes : List ℕ) : Type 0 where
   pub head : head_fault bytes ≡ None
-  pub short : 9 ≤ length bytes → length bytes < 9 + size_said bytes
+  pub short : 9 ≤ length bytes → length bytes < 9 + stated_size bytes
 
 -- the length of the largest frame of a reply
 abbrev pub max_reply : ℕ

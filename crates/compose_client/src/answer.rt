@@ -5,7 +5,7 @@ ghost use Rattle.compose_client.specs.Giving.{status_at, keysyms_at, HasLength, 
 
 use arrayvec::{ArrayString, ArrayVec};
 use compose_model::Status;
-use compose_wire::Answer;
+use compose_wire::ReplyBody;
 use keysym_core::Keysym;
 
 /// Returns the status of a byte; a byte above 3 is read as 3.
@@ -21,7 +21,7 @@ fn read_status(byte: u8) -> Status
 }
 
 /// Reads the answer to a key; `None` if the text is not UTF-8.
-fn read_fed(payload: &[u8]) -> Option<Answer>
+fn read_fed(payload: &[u8]) -> Option<ReplyBody>
     requires some { 2 ≤ length payload.now }
     requires few { length payload.now ≤ 257 }
     ensures { ReadsAnswer result 0x82 payload.now }
@@ -30,15 +30,15 @@ fn read_fed(payload: &[u8]) -> Option<Answer>
         return None;
     };
     let text = ArrayString::from(text).unwrap();
-    Some(Answer::Fed(read_status(payload[0]), payload[1] == 1, text))
+    Some(ReplyBody::Fed(read_status(payload[0]), payload[1] == 1, text))
 }
 
 /// Reads the number of loads that were accepted.
-fn read_loaded(payload: &[u8]) -> Answer
+fn read_loaded(payload: &[u8]) -> ReplyBody
     requires { length payload.now ≡ 8 }
     ensures { ReadsAnswer (Some result) 0x85 payload.now }
 {
-    Answer::Loaded(u64::from_be_bytes([
+    ReplyBody::Loaded(u64::from_be_bytes([
         payload[0], payload[1], payload[2], payload[3], payload[4], payload[5], payload[6],
         payload[7],
     ]))
@@ -65,7 +65,7 @@ fn read_keysyms(bytes: &[u8]) -> Option<ArrayVec<Keysym, 31>>
 }
 
 /// Reads the state of a session; `None` if a keysym is too large.
-fn read_state(payload: &[u8]) -> Option<Answer>
+fn read_state(payload: &[u8]) -> Option<ReplyBody>
     requires some { 2 ≤ length payload.now }
     requires few { length payload.now ≤ 126 }
     ensures { ReadsAnswer result 0x86 payload.now }
@@ -73,11 +73,11 @@ fn read_state(payload: &[u8]) -> Option<Answer>
     let Some(pending) = read_keysyms(&payload[2..]) else {
         return None;
     };
-    Some(Answer::State(read_status(payload[0]), pending))
+    Some(ReplyBody::State(read_status(payload[0]), pending))
 }
 
 /// Reads the code of a refusal; `None` if no refusal has this code.
-fn read_refused(payload: &[u8]) -> Option<Answer>
+fn read_refused(payload: &[u8]) -> Option<ReplyBody>
     requires { length payload.now ≡ 2 }
     ensures { ReadsAnswer result 0xff payload.now }
 {
@@ -85,24 +85,24 @@ fn read_refused(payload: &[u8]) -> Option<Answer>
     if code < 1 || code > 10 {
         return None;
     }
-    Some(Answer::Refused(code))
+    Some(ReplyBody::Refused(code))
 }
 
 /// Reads the answer from a payload of this kind.
 ///
 /// `None` only if no reply has this kind and payload. Bytes that no reply has may be read as
 /// another reply, so the caller has to compare. Allocates nothing; linear in the payload.
-pub(crate) fn read_answer(kind: u8, payload: &[u8]) -> Option<Answer>
+pub(crate) fn read_answer(kind: u8, payload: &[u8]) -> Option<ReplyBody>
     requires { HasLength kind (length payload.now) }
     ensures { ReadsAnswer result kind payload.now }
 {
     match kind {
         0x82 => read_fed(payload),
-        0x83 => Some(Answer::WasReset),
-        0x84 => Some(Answer::Closed),
+        0x83 => Some(ReplyBody::WasReset),
+        0x84 => Some(ReplyBody::Closed),
         0x85 => Some(read_loaded(payload)),
         0x86 => read_state(payload),
         0xff => read_refused(payload),
-        _ => Some(Answer::Opened),
+        _ => Some(ReplyBody::Opened),
     }
 }

@@ -3,7 +3,7 @@ ghost use Rattle.std.specs.Prelude.{◌≡◌, ◌+◌, ◌≤◌, ◌++◌, ℕ
 ghost use Rattle.compose_wire.specs.Messages as words;
 ghost use Rattle.compose_wire.specs.Frames.{Fault, reply_bytes};
 ghost use Rattle.compose_client.specs.Replies.{ReplyFits, head_fault, HasBadPayload, IsReplyBegun};
-ghost use Rattle.compose_client.specs.Giving.{Gives, GivesReply, reply_fault};
+ghost use Rattle.compose_client.specs.Giving.{Returns, ReturnsReply, reply_fault};
 
 use crate::fault::ReplyFault;
 use crate::reply::first_reply;
@@ -73,9 +73,9 @@ impl ReplyFeeder {
     /// fault; nothing changes, and each further call returns the same: these bytes can't become the
     /// frame of a reply, whatever follows.
     pub fn next_reply(&mut self) -> Result<Option<Reply>, ReplyFault>
-        ensures so { Gives result self.old self.new }
+        ensures so { Returns result self.old self.new }
         ensures reply { (r : words.Reply) (more : List ℕ) → ReplyFits r
-            → self.old ≡ reply_bytes r ++ more → GivesReply r more result self.new }
+            → self.old ≡ reply_bytes r ++ more → ReturnsReply r more result self.new }
         ensures fault { (fault : Fault) → head_fault self.old ≡ Some fault
             → result ≡ Err (reply_fault fault) }
         ensures bad_payload { HasBadPayload self.old → result ≡ Err ReplyFault.BadPayload }
@@ -86,7 +86,7 @@ impl ReplyFeeder {
 
     /// Removes the frame with which the buffered bytes begin.
     fn take_first(&mut self) -> Result<Option<Reply>, ReplyFault>
-        ensures { Gives result self.old self.new }
+        ensures { Returns result self.old self.new }
     {
         let Some((reply, size)) = first_reply(&self.buffer[self.start..])? else {
             return Ok(None);

@@ -2,11 +2,11 @@
 ghost use Rattle.std.specs.Prelude.{◌≡◌, ◌+◌, ◌≤◌, ◌++◌, List, ℕ, length, Some, None};
 ghost use Rattle.compose_wire.specs.Messages as words;
 ghost use Rattle.compose_wire.specs.Messages.{Reply as ReplyValue};
-ghost use Rattle.compose_wire.specs.Replies.{SaysAnswer, SaysReply};
-ghost use Rattle.compose_wire.specs.Frames.{reply_bytes, Fault, size_said};
+ghost use Rattle.compose_wire.specs.Replies.{HasAnswerValue, HasReplyValue};
+ghost use Rattle.compose_wire.specs.Frames.{reply_bytes, Fault, stated_size};
 ghost use Rattle.compose_client.specs.Replies.{AreKeysyms, AnswerFits, ReplyFits, BeginsWithReply, head_fault, HasBadPayload};
 
-use compose_wire::{Answer, Reply};
+use compose_wire::{Reply, ReplyBody};
 use keysym_core::Keysym;
 
 /// No frame of a reply is a prefix of another one, so no two replies begin the same bytes.
@@ -20,7 +20,7 @@ pub fn law_one_reply()
 pub fn law_reply_fault()
     ensures no_fault { (r : ReplyValue) (x : List ℕ) → ReplyFits r
         → head_fault (reply_bytes r ++ x) ≡ None }
-    ensures whole { (bytes : List ℕ) → BeginsWithReply bytes → 9 + size_said bytes ≤ length bytes }
+    ensures whole { (bytes : List ℕ) → BeginsWithReply bytes → 9 + stated_size bytes ≤ length bytes }
     ensures stays { (bytes more : List ℕ) (fault : Fault) → head_fault bytes ≡ Some fault
         → head_fault (bytes ++ more) ≡ Some fault }
     ensures never { (bytes more : List ℕ) (fault : Fault) → head_fault bytes ≡ Some fault
@@ -32,24 +32,24 @@ pub fn law_reply_fault()
 /// Every reply fits into a frame, so `next_reply` returns what `put_reply` wrote. O(pending
 /// keysyms).
 pub fn law_replies_fit(reply: &Reply)
-    ensures { (value : ReplyValue) → SaysReply reply.now value → ReplyFits value }
+    ensures { (value : ReplyValue) → HasReplyValue reply.now value → ReplyFits value }
 {
     let _session = reply.session;
     answer_fits(&reply.answer);
 }
 
 /// Every answer fits into a frame.
-fn answer_fits(answer: &Answer)
-    ensures { (value : words.Answer) → SaysAnswer answer.now value → AnswerFits value }
+fn answer_fits(answer: &ReplyBody)
+    ensures { (value : words.ReplyBody) → HasAnswerValue answer.now value → AnswerFits value }
 {
     match answer {
-        Answer::Fed(_, _, text) => {
+        ReplyBody::Fed(_, _, text) => {
             let _text = text.as_str();
         }
-        Answer::Loaded(count) => {
+        ReplyBody::Loaded(count) => {
             let _count = *count;
         }
-        Answer::State(_, pending) => are_keysyms(pending.as_slice()),
+        ReplyBody::State(_, pending) => are_keysyms(pending.as_slice()),
         _ => {}
     }
 }

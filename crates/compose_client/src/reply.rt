@@ -2,7 +2,7 @@
 ghost use Rattle.std.specs.Prelude.{◌≡◌, ◌≢◌, IsTrue, true, false};
 ghost use Rattle.compose_wire.specs.Messages as words;
 ghost use Rattle.compose_wire.specs.Frames.{reply_bytes};
-ghost use Rattle.compose_wire.specs.Replies.{SaysReply};
+ghost use Rattle.compose_wire.specs.Replies.{HasReplyValue};
 ghost use Rattle.compose_client.specs.Replies as replies;
 ghost use Rattle.compose_client.specs.Giving.{HasLength, IsSize, IsFirst};
 
@@ -61,9 +61,9 @@ fn payload_size(held: &[u8]) -> Result<Option<usize>, ReplyFault>
 
 /// Returns whether the bytes are the frame of this reply.
 fn is_frame_of(bytes: &[u8], reply: &Reply) -> bool
-    ensures yes { (value : words.Reply) → SaysReply reply.now value → result ≡ true
+    ensures yes { (value : words.Reply) → HasReplyValue reply.now value → result ≡ true
         → reply_bytes value ≡ bytes.now }
-    ensures no { (value : words.Reply) → SaysReply reply.now value → result ≡ false
+    ensures no { (value : words.Reply) → HasReplyValue reply.now value → result ≡ false
         → reply_bytes value ≢ bytes.now }
 {
     let written = put_reply(reply);

@@ -4,9 +4,9 @@ ghost use Rattle.std.specs.Prelude.{None};
 use crate::connection_ends::EndLines;
 use compose_answer::Ended;
 use compose_arguments::ServeArguments;
-use compose_hub::{ConnectionEnd, Limits, PolledSockets, Report, serve_at_once};
+use compose_hub::{ConnectionEnd, EndReport, Limits, PolledSockets, serve_at_once};
 use compose_input::Fault;
-use compose_serve::Answer;
+use compose_serve::Responder;
 use mio::net::UnixListener as PolledListener;
 use std::alloc::Global;
 use std::io;
@@ -14,8 +14,8 @@ use std::net::Net;
 use std::os::unix::net::UnixListener;
 use std::rt::Clock;
 
-impl<R: Print + Eprint + AllocGlobal> Report for EndLines<'_, R> {
-    ghost told = { λ lines. None };
+impl<R: Print + Eprint + AllocGlobal> EndReport for EndLines<'_, R> {
+    ghost reported = { λ lines. None };
 
     /// Prints the line of the connection, or counts it.
     fn ended(&mut self, number: u32, how: ConnectionEnd) -> io::Result<()> {
@@ -31,7 +31,7 @@ impl<R: Print + Eprint + AllocGlobal> Report for EndLines<'_, R> {
 /// Serves the number of connections that the arguments give, up to `at_once` at a time, and prints
 /// how each ended. Returns how the run ends.
 /// Errors: a fault of the socket if it can't be served on; `NoMemory` if memory runs out.
-pub fn serve_many<S: Answer>(
+pub fn serve_many<S: Responder>(
     rt: &(impl Clock + Net + Print + Eprint + AllocGlobal),
     listener: UnixListener,
     service: &mut S,
@@ -48,12 +48,12 @@ pub fn serve_many<S: Answer>(
     };
     match poll_all(rt, listener, service, limits, &mut lines) {
         Ok(()) => Ok(lines.finish()),
-        Err(error) => Err(unserved(rt.alloc(), arguments.socket, error.kind())),
+        Err(error) => Err(serving_fault(rt.alloc(), arguments.socket, error.kind())),
     }
 }
 
 /// Serves the connections to a listener, which becomes nonblocking.
-fn poll_all<S: Answer, E: Report>(
+fn poll_all<S: Responder, E: EndReport>(
     rt: &(impl Clock + Net + AllocGlobal),
     listener: UnixListener,
     service: &mut S,
@@ -67,7 +67,7 @@ fn poll_all<S: Answer, E: Report>(
 }
 
 /// Returns why connections can't be served: memory ran out, or a fault of the socket.
-fn unserved(alloc: Global, path: &str, kind: io::ErrorKind) -> Fault {
+fn serving_fault(alloc: Global, path: &str, kind: io::ErrorKind) -> Fault {
     match kind {
         io::ErrorKind::OutOfMemory => Fault::NoMemory,
         kind => Fault::socket(String::from_str(alloc, path), kind),

@@ -7,7 +7,7 @@ use crate::output::{put, put_outcome};
 use crate::serving::serve_files;
 use crate::updating::update_files;
 use compose_answer::Ended;
-use compose_arguments::{CommandLine, Request};
+use compose_arguments::{CommandLine, CommandRequest};
 use compose_folder::{Folder, ReadOnce};
 use compose_input::Fault;
 use compose_program::{FaultForm, run_question};
@@ -34,7 +34,7 @@ pub fn answer<T: ComposeTable, F: Folder>(
     };
     let environment = read_environment(rt, is_terminal)?;
     match &asked.request {
-        Request::Answer(question) => {
+        CommandRequest::Answer(question) => {
             let outcome = run_question::<T, F>(
                 rt.alloc(),
                 files,
@@ -45,10 +45,10 @@ pub fn answer<T: ComposeTable, F: Folder>(
             )?;
             Ok(put_outcome(rt, form, &outcome))
         }
-        Request::Update { arguments, fresh } => {
+        CommandRequest::Update { arguments, fresh } => {
             update_files::<T, F>(rt, files, form, arguments, fresh)
         }
-        Request::Serve { arguments, fresh } => {
+        CommandRequest::Serve { arguments, fresh } => {
             let allowed = fresh.as_deref();
             serve_files::<T, F>(
                 rt,
@@ -60,10 +60,10 @@ pub fn answer<T: ComposeTable, F: Folder>(
                 allowed,
             )
         }
-        Request::Load(arguments) => {
+        CommandRequest::Load(arguments) => {
             put(rt, form, load_files(rt, files, &environment, arguments))
         }
-        Request::Session(arguments) => {
+        CommandRequest::Session(arguments) => {
             put(
                 rt,
                 form,

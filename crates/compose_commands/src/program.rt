@@ -56,7 +56,7 @@ fn answer_arguments<T: ComposeTable>(
     arguments: &[String],
 ) -> Ended {
     match read_command_line(rt.alloc(), arguments) {
-        Ok(said) => answer_command::<T>(rt, process_id, is_terminal, &said),
+        Ok(expected) => answer_command::<T>(rt, process_id, is_terminal, &expected),
         Err(error) => report_error(rt, &error),
     }
 }

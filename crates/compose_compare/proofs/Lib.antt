@@ -3,7 +3,7 @@ pub mod Sequences
 pub mod Enough
 pub mod Needed
 pub mod OneKind
-pub mod Told
+pub mod Reported
 pub mod InWords
 pub mod Pass
 pub mod Evident

@@ -23,10 +23,10 @@ use Rattle.compose_walk.proofs.Candidates.{shorter_node}
 use Rattle.compose_walk.proofs.NodeNumbers.{number_at_node, node_is_node}
 use Rattle.compose_walk.proofs.Standing.{zero_test, differs_alike}
 use Rattle.compose_compare.specs.declared.Change.TheVariants.{Kept, Changed, Waiting, Removed, Added, NewStart}
-use Rattle.compose_compare.specs.Change.{agrees, agree_along, change, is_new_start, stands, stands_after}
-use Rattle.compose_compare.specs.Passes.{node_id, node_of, node_in, stand_of, begins_anew, old_change, new_change}
+use Rattle.compose_compare.specs.Change.{agrees, agree_along, change, is_new_start, stands, position_after}
+use Rattle.compose_compare.specs.Passes.{node_id, node_of, node_in, position_node, begins_anew, old_change, new_change}
 use Rattle.compose_compare.proofs.Sequences.{before_last}
-use Rattle.compose_compare.proofs.Pass.{stands_on, stands_where_kept}
+use Rattle.compose_compare.proofs.Pass.{position_on, position_when_kept}
 
 -- ---- the node of the same keys
 
@@ -91,14 +91,14 @@ module _ (names : KeysymNames) (old new : List Definition) (p : List ℕ) where
     pub stands : stands names old new p ≡ Some (pending new p)
     pub number : t.0 ≡ number_of new (pending new p)
 
-  pub stood : (t : NodeId) → Some t ≡ stand_of names old new p → Stood t
+  pub stood : (t : NodeId) → Some t ≡ position_node names old new p → Stood t
   stood t e = go (agree_along names old new [] [] p) refl e
     where
       go : (b : Bool) → agree_along names old new [] [] p ≡ b → Some t ≡ option_map (λ v. node_id (number_of new v)) (cond b (Some (pending new p)) None) → Stood t
       go true h e = record { stands = ap (λ c. cond c (Some (pending new p)) None) h; number = (let is : t ≡ node_id (number_of new (pending new p)) = cc in ap (λ (m : NodeId). m.0) is) }
       go false h e = cc
 
-  pub lost : None ≡ stand_of names old new p → stands names old new p ≡ None
+  pub lost : None ≡ position_node names old new p → stands names old new p ≡ None
   lost e = go (stands names old new p) e
     where
       go : (o : Option (List ℕ)) → None ≡ option_map (λ v. node_id (number_of new v)) o → o ≡ None
@@ -109,10 +109,10 @@ module _ (names : KeysymNames) (old new : List Definition) (p : List ℕ) where
   stood_node = pending_is_node new [] p (root_is_node new)
 
   -- the node that is the new table's position has a number below the number of its nodes
-  pub stood_below : (t : NodeId) → Some t ≡ stand_of names old new p → t.0 < length (nodes new)
+  pub stood_below : (t : NodeId) → Some t ≡ position_node names old new p → t.0 < length (nodes new)
   stood_below t e = subst (λ (m : ℕ). m < length (nodes new)) (sym (stood t e).number) (number_below new (pending new p) stood_node)
 
-  pub stood_path : (t : NodeId) → Some t ≡ stand_of names old new p → node new t.0 ≡ pending new p
+  pub stood_path : (t : NodeId) → Some t ≡ position_node names old new p → node new t.0 ≡ pending new p
   stood_path t e = ap (node new) (stood t e).number ∙ node_at_number new (pending new p) stood_node
 
 -- steps agree if they do not differ
@@ -128,24 +128,24 @@ agrees_unless a b = go (is_cancel b.effect) (same b.text a.text) (is_empty a.pen
 
 module _ (names : KeysymNames) (old new : List Definition) (p : List ℕ) (k : ℕ) (t_old : is_table old ≡ true) (here : is_node old p ≡ true) where
   -- without a position, the new table has none one key on
-  pub still_lost : None ≡ stand_of names old new p → None ≡ stand_of names old new (p ++ k ∷ [])
-  still_lost e = sym (ap (option_map (λ v. node_id (number_of new v))) (stands_on names old new p k t_old here ∙ ap (stands_after names old new p k) (lost names old new p e)))
+  pub still_lost : None ≡ position_node names old new p → None ≡ position_node names old new (p ++ k ∷ [])
+  still_lost e = sym (ap (option_map (λ v. node_id (number_of new v))) (position_on names old new p k t_old here ∙ ap (position_after names old new p k) (lost names old new p e)))
 
-  module _ (t : NodeId) (e : Some t ≡ stand_of names old new p) (a b : KeyStep) (sa : IsStep names old p k a) (sb : IsStep names new (node new t.0) k b) where
+  module _ (t : NodeId) (e : Some t ≡ position_node names old new p) (a b : KeyStep) (sa : IsStep names old p k a) (sb : IsStep names new (node new t.0) k b) where
     on : (c : Bool) → is_some (difference_of a b) ≡ c → stands names old new (p ++ k ∷ []) ≡ cond (not c) (Some (pending_after new (pending new p) k)) None
     on c h =
-        stands_on names old new p k t_old here ∙ ap (stands_after names old new p k) (stood names old new p t e).stands
+        position_on names old new p k t_old here ∙ ap (position_after names old new p k) (stood names old new p t e).stands
         ∙ ap (λ y. cond y (Some (pending_after new (pending new p) k)) None) (agrees_unless (step names old p k) (step names new (pending new p) k)
         ∙ ap not
         (sym (differs_alike names old new p (node new t.0) k a b here (ap (is_node new) (stood_path names old new p t e) ∙ stood_node names old new p) (stood_path names old new p t e) sa sb) ∙ h))
 
     -- with a position, it has none once the tables differ
-    pub now_lost : is_some (difference_of a b) ≡ true → None ≡ stand_of names old new (p ++ k ∷ [])
+    pub now_lost : is_some (difference_of a b) ≡ true → None ≡ position_node names old new (p ++ k ∷ [])
     now_lost h = sym (ap (option_map (λ v. node_id (number_of new v))) (on true h))
 
     -- and otherwise its position is the one to which its step leads
-    pub stands_next : is_some (difference_of a b) ≡ false → Some b.next ≡ stand_of names old new (p ++ k ∷ [])
-    stands_next h =
+    pub position_next : is_some (difference_of a b) ≡ false → Some b.next ≡ position_node names old new (p ++ k ∷ [])
+    position_next h =
         ap Some (next b.next (sb.next ∙ ap (λ v. number_of new (pending_after new v k)) (stood_path names old new p t e)))
         ∙ sym (ap (option_map (λ v. node_id (number_of new v))) (on false h))
       where
@@ -155,8 +155,8 @@ module _ (names : KeysymNames) (old new : List Definition) (p : List ℕ) (k : �
 -- ---- at the root
 
 -- after no keys the new table's position is its root
-pub root_stands : (names : KeysymNames) (old new : List Definition) → Some (node_id 0) ≡ stand_of names old new (node old 0)
-root_stands names old new = ap (λ n. Some (node_id n)) (sym (root_number new)) ∙ ap (stand_of names old new) (sym (node_zero old))
+pub root_position : (names : KeysymNames) (old new : List Definition) → Some (node_id 0) ≡ position_node names old new (node old 0)
+root_position names old new = ap (λ n. Some (node_id n)) (sym (root_number new)) ∙ ap (position_node names old new) (sym (node_zero old))
 
 -- each table has its own root for the root of another table
 pub root_same : (table other : List Definition) → Some (node_id 0) ≡ node_of table (node other 0)
@@ -179,9 +179,9 @@ no_sequence table z s x = elim (cases_Bool (is_sequence table z)) [
 
 module _ (names : KeysymNames) (fresh : List ℕ) (old new : List Definition) where
   -- a sequence of the old table
-  pub old_told : (p : List ℕ) (k : ℕ) → IsSettled new → is_sequence old (p ++ k ∷ []) ≡ true → (kept : Bool) → kept ≡ is_some (stand_of names old new (p ++ k ∷ []))
+  pub old_reported : (p : List ℕ) (k : ℕ) → IsSettled new → is_sequence old (p ++ k ∷ []) ≡ true → (kept : Bool) → kept ≡ is_some (position_node names old new (p ++ k ∷ []))
       → old_change kept (target_of new p k) ≡ change names fresh old new (p ++ k ∷ [])
-  old_told p k s o kept h = go (target_of new p k) (leads new p k) kept (h ∙ some_mapped (stands names old new (p ++ k ∷ [])) ∙ stands_where_kept names old new (p ++ k ∷ [])) ∙ sym whole
+  old_reported p k s o kept h = go (target_of new p k) (leads new p k) kept (h ∙ some_mapped (stands names old new (p ++ k ∷ [])) ∙ position_when_kept names old new (p ++ k ∷ [])) ∙ sym whole
     where
       some_mapped : (o : Option (List ℕ)) → is_some (option_map (λ v. node_id (number_of new v)) o) ≡ is_some o
       some_mapped None = refl
@@ -208,9 +208,9 @@ module _ (names : KeysymNames) (fresh : List ℕ) (old new : List Definition) wh
           (sym (ap₂ (λ q x. cond q Changed (cond x Waiting Removed)) l.sequence l.extended))
 
   -- a sequence of the new table
-  pub new_told : (p : List ℕ) (k : ℕ) → IsSettled old → (starts : Bool) → starts ≡ is_new_start names fresh old new (p ++ k ∷ [])
+  pub new_reported : (p : List ℕ) (k : ℕ) → IsSettled old → (starts : Bool) → starts ≡ is_new_start names fresh old new (p ++ k ∷ [])
       → new_change (target_of old p k) starts ≡ cond (is_sequence old (p ++ k ∷ [])) None (Some (change names fresh old new (p ++ k ∷ [])))
-  new_told p k s starts h = go (target_of old p k) (leads old p k)
+  new_reported p k s starts h = go (target_of old p k) (leads old p k)
     where
       alone : is_sequence old (p ++ k ∷ []) ≡ false → Some (cond starts NewStart Added) ≡ cond (is_sequence old (p ++ k ∷ [])) None (Some (change names fresh old new (p ++ k ∷ [])))
       alone e =

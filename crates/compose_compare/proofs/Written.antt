@@ -18,7 +18,7 @@ use Rattle.compose_tree.proofs.Steps.{leaf_means}
 use Rattle.compose_fresh.proofs.Positions.{any_more}
 use Rattle.compose_fresh.proofs.Used.{same_test}
 use Rattle.compose_walk.proofs.NodeNumbers.{index_is, any_at}
-use Rattle.compose_walk.proofs.Onward.{begins, first_key, goes_behind}
+use Rattle.compose_walk.proofs.Onward.{begins, first_key, goes_after}
 use Rattle.compose_compare.specs.Passes.{IsWritten}
 use Rattle.compose_compare.proofs.OneKind.{no_empty}
 
@@ -100,7 +100,7 @@ module _ {X : Type 0} (d : X) (value : List ℕ → X) (table : List Definition)
     where
       some_by : (ks : List ℕ) → is_through p ks s ≡ true → is_proper_prefix p s ≡ true
       some_by [] h = cc
-      some_by (k ∷ ks) h = elim (or_cases (begins (p ++ k ∷ []) s) (is_through p ks s) h) [ inl e ↦ goes_behind p k s e | inr e ↦ some_by ks e ]
+      some_by (k ∷ ks) h = elim (or_cases (begins (p ++ k ∷ []) s) (is_through p ks s) h) [ inl e ↦ goes_after p k s e | inr e ↦ some_by ks e ]
 
       edge_by : (k : ℕ) → begins (p ++ k ∷ []) s ≡ true → has_edge table p k ≡ true
       edge_by k h = edge_extends table p k ∙ elim (or_cases (same (p ++ k ∷ []) s) (is_proper_prefix (p ++ k ∷ []) s) h) [

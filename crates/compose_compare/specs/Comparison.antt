@@ -7,10 +7,10 @@ use Rattle.compose_compare.specs.declared.Change.{Change}
 use Rattle.compose_compare.specs.Change.{is_harmless}
 
 -- both lists are in the order of sequences; a sequence of the new table that the old one has too has none
-pub record Told : Type 0 where
+pub record Reported : Type 0 where
   pub of_old : List Change
   pub of_new : List (Option Change)
 
 -- all of it is harmless
-abbrev pub is_all_harmless : Told → Bool
-is_all_harmless told = list_all is_harmless told.of_old && list_all (λ c. option_map_or is_harmless c true) told.of_new
+abbrev pub is_all_harmless : Reported → Bool
+is_all_harmless reported = list_all is_harmless reported.of_old && list_all (λ c. option_map_or is_harmless c true) reported.of_new

@@ -30,8 +30,8 @@ node_in (Some (Leaf leaf)) = None
 node_in None = None
 
 -- the node that is the new table's position after the keys p, if it agreed with the old one along them
-abbrev pub stand_of : KeysymNames → List Definition → List Definition → List ℕ → Option NodeId
-stand_of names old new p = option_map (λ v. node_id (number_of new v)) (stands names old new p)
+abbrev pub position_node : KeysymNames → List Definition → List Definition → List ℕ → Option NodeId
+position_node names old new p = option_map (λ v. node_id (number_of new v)) (stands names old new p)
 
 -- no sequence of the old table begins with the first of these keys, and it is not fresh
 abbrev pub begins_anew : List ℕ → List Definition → List ℕ → Bool

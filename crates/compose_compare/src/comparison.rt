@@ -22,9 +22,9 @@ pub struct Comparison {
 }
 
 impl Model for Comparison {
-    ghost use Rattle.compose_compare.specs.Comparison.{Told};
+    ghost use Rattle.compose_compare.specs.Comparison.{Reported};
 
-    ghost Value = { Told };
+    ghost Value = { Reported };
 
     ghost view = { λ c. record { of_old = c.of_old.items; of_new = c.of_new.items } };
 }

@@ -22,7 +22,7 @@ ghost use Rattle.compose_model.specs.Nodes.{leaves, is_node};
 ghost use Rattle.compose_model.specs.Follows.{Follows};
 ghost use Rattle.compose_model.specs.Certificate.{AreFresh};
 ghost use Rattle.compose_compare.specs.declared.Change.TheVariants.{Removed};
-ghost use Rattle.compose_compare.specs.Change.{KeepsAll, IsKept, StillTypes, Happens, change, is_harmless, loses_nothing, old_changes, new_changes, agree_along, stands, stands_after, is_new_start, Evidence};
+ghost use Rattle.compose_compare.specs.Change.{KeepsAll, IsKept, StillTypes, Happens, change, is_harmless, loses_nothing, old_changes, new_changes, agree_along, stands, position_after, is_new_start, Evidence};
 
 mod comparison;
 mod passes;
@@ -109,7 +109,7 @@ pub fn law_pass()
     ensures on { (names : KeysymNames) (old new : List Definition) (p : List ℕ) (k : ℕ)
         → IsTrue (is_table old) → IsTrue (is_node old p)
         → stands names old new (p ++ k ∷ [])
-        ≡ stands_after names old new p k (stands names old new p) }
+        ≡ position_after names old new p k (stands names old new p) }
     ensures kept { (names : KeysymNames) (old new : List Definition) (s : List ℕ)
         → is_some (stands names old new s) ≡ agree_along names old new [] [] s }
     ensures both { (names : KeysymNames) (old new : List Definition) (p : List ℕ)

@@ -9,7 +9,7 @@ ghost use Rattle.compose_read.specs.Settle.{IsSettled};
 ghost use Rattle.compose_tree.specs.Targets.{target_of};
 ghost use Rattle.compose_compare.specs.declared.Change.TheVariants.{Removed};
 ghost use Rattle.compose_compare.specs.Change.{change};
-ghost use Rattle.compose_compare.specs.Passes.{node_of, node_in, stand_of, begins_anew, old_change, new_change, IsWritten};
+ghost use Rattle.compose_compare.specs.Passes.{node_of, node_in, position_node, begins_anew, old_change, new_change, IsWritten};
 
 use crate::Change;
 use compose_fresh::is_among;
@@ -33,7 +33,7 @@ pub fn visit_old<T: ComposeTable, U: ComposeTable>(
     requires new_settled { IsSettled (U.definitions new.now) }
     requires in_range { node.0 < length (nodes (T.definitions old.now)) }
     requires stand { stand
-        ≡ stand_of names.now (T.definitions old.now) (U.definitions new.now)
+        ≡ position_node names.now (T.definitions old.now) (U.definitions new.now)
         (words.node (T.definitions old.now) node.0) }
     requires same { same
         ≡ node_of (U.definitions new.now) (words.node (T.definitions old.now) node.0) }
@@ -47,7 +47,7 @@ pub fn visit_old<T: ComposeTable, U: ComposeTable>(
 {
     for index in 0..old.edge_count(node) {
         let (keysym, target) = old.edge(node, index);
-        let after = stand_after(old, new, names, node, stand, keysym, target);
+        let after = node_after(old, new, names, node, stand, keysym, target);
         let there = target_from(new, same, keysym);
         match target {
             Target::Node(child) => {
@@ -114,7 +114,7 @@ pub fn visit_new<T: ComposeTable, U: ComposeTable>(
 }
 
 /// Returns the new table's position one key on, if it agrees with the old one up to there.
-fn stand_after<T: ComposeTable, U: ComposeTable>(
+fn node_after<T: ComposeTable, U: ComposeTable>(
     old: &T,
     new: &U,
     names: &Names,
@@ -126,12 +126,12 @@ fn stand_after<T: ComposeTable, U: ComposeTable>(
     requires table { IsTrue (is_table (T.definitions old.now)) }
     requires in_range { node.0 < length (nodes (T.definitions old.now)) }
     requires stand { stand
-        ≡ stand_of names.now (T.definitions old.now) (U.definitions new.now)
+        ≡ position_node names.now (T.definitions old.now) (U.definitions new.now)
         (words.node (T.definitions old.now) node.0) }
     requires target { target_of (T.definitions old.now)
         (words.node (T.definitions old.now) node.0) keysym ≡ Some target }
     ensures { result
-        ≡ stand_of names.now (T.definitions old.now) (U.definitions new.now)
+        ≡ position_node names.now (T.definitions old.now) (U.definitions new.now)
         (words.node (T.definitions old.now) node.0 ++ keysym ∷ []) }
 {
     let Some(there) = stand else {

@@ -8,7 +8,7 @@ use Rattle.compose_read.specs.Read.{max_lines}
 use Rattle.compose_read.specs.Faults.{faults_of}
 use Rattle.compose_read.specs.declared.ReadFault.{ReadFault}
 use Rattle.compose_messages.specs.Places.{line_of, position_of}
-use Rattle.compose_messages.specs.Messages.{read_said}
+use Rattle.compose_messages.specs.Messages.{read_message_text}
 use Rattle.compose_messages.specs.declared.position.Position.{Position}
 use Rattle.compose_details.specs.Lines.{line, path_of}
 use Rattle.compose_details.specs.declared.given.GivenTable.{GivenTable}
@@ -22,23 +22,23 @@ is_among places at = list_any (λ p. p.0 == at.0 && p.1 == at.1) places
 
 -- the faults in order, without those in lines that were reported or that have an earlier fault
 abbrev pub each_once : List (ℕ × ℕ) → List ReadFault → List ReadFault
-each_once told [] = []
-each_once told (f ∷ fs) = if is_among told (place_of f) then each_once told fs else f ∷ each_once (told ++ place_of f ∷ []) fs
+each_once reported [] = []
+each_once reported (f ∷ fs) = if is_among reported (place_of f) then each_once reported fs else f ∷ each_once (reported ++ place_of f ∷ []) fs
 
-abbrev pub max_told : ℕ
-max_told = 20
+abbrev pub max_reported : ℕ
+max_reported = 20
 
 -- the line of a fault: its file and place, or the manifest if it is in no line
 abbrev pub fault_line : List Source → List ℕ → List (List ℕ) → ReadFault → List ℕ
 fault_line sources manifest paths fault =
-    option_map_or (λ (at : ℕ × Position). line (path_of paths at.0) (Some at.1) (read_said sources fault)) (position_of sources fault) (line manifest None (read_said sources fault))
+    option_map_or (λ (at : ℕ × Position). line (path_of paths at.0) (Some at.1) (read_message_text sources fault)) (position_of sources fault) (line manifest None (read_message_text sources fault))
 
 -- the faults that are reported: the first one, and then the others of the table
-abbrev pub told_faults : KeysymNames → List Source → List ℕ → ReadFault → List ReadFault
-told_faults names sources root first = take max_told (each_once [] (first ∷ take max_lines (faults_of names sources root)))
+abbrev pub reported_faults : KeysymNames → List Source → List ℕ → ReadFault → List ReadFault
+reported_faults names sources root first = take max_reported (each_once [] (first ∷ take max_lines (faults_of names sources root)))
 
 abbrev pub faulty_lines : KeysymNames → List Source → List ℕ → List (List ℕ) → List ℕ → ReadFault → List ℕ
-faulty_lines names sources manifest paths root first = flat_map (fault_line sources manifest paths) (told_faults names sources root first)
+faulty_lines names sources manifest paths root first = flat_map (fault_line sources manifest paths) (reported_faults names sources root first)
 
 -- ---- of a table as it was given: its root is the first source
 

@@ -6,14 +6,14 @@ use Rattle.std.specs.Option.{option_map_or}
 use Rattle.compose_shown.specs.Shown.{shown_text}
 use Rattle.compose_find.specs.declared.found_source.FindFault.{FindFault}
 use Rattle.compose_find.specs.declared.found_source.FindFault.TheVariants.{MissingFile}
-use Rattle.compose_messages.specs.Faults.{open_said, socket_said, source_said}
+use Rattle.compose_messages.specs.Faults.{open_message, socket_message, source_message}
 use Rattle.compose_messages.specs.Hints.{include_hint}
 use Rattle.compose_messages.specs.declared.hints.Hint.{Hint}
 use Rattle.compose_input.specs.declared.fault.Unopened.{Unopened}
 use Rattle.compose_input.specs.declared.fault.Fault.{Fault}
 use Rattle.compose_input.specs.declared.fault.Fault.TheVariants.{Unread, Manifest, Source, Find, Socket, Refused, Word, NoMemory}
 use Rattle.compose_details.specs.Lines.{line}
-use Rattle.compose_details.specs.Files.{manifest_lines, find_said}
+use Rattle.compose_details.specs.Files.{manifest_lines, found_include_message}
 use Rattle.compose_details.specs.Refusals.{hint_line}
 
 -- the line that refuses the input (code 10 ends it)
@@ -29,15 +29,15 @@ refusal_line own NoMemory = codes "out of memory\n"
 
 -- why nothing is read at a path
 abbrev pub unopened_line : Unopened → List ℕ
-unopened_line unopened = line (string_bytes unopened.path) None (open_said unopened.kind)
+unopened_line unopened = line (string_bytes unopened.path) None (open_message unopened.kind)
 
 -- why a socket can't be used
 abbrev pub socket_line : Unopened → List ℕ
-socket_line unopened = line (string_bytes unopened.path) None (socket_said unopened.kind)
+socket_line unopened = line (string_bytes unopened.path) None (socket_message unopened.kind)
 
 -- which include leads to no file, if the fault concerns an include
 abbrev pub include_line : FindFault → List ℕ
-include_line fault = option_map_or (λ said. said ++ 10 ∷ []) (find_said fault) []
+include_line fault = option_map_or (λ sentence. sentence ++ 10 ∷ []) (found_include_message fault) []
 
 -- the hint for an include that leads to no file, if one helps
 abbrev pub find_hint : FindFault → Option Hint
@@ -52,7 +52,7 @@ search_lines fault tried = include_line fault ++ flat_map unopened_line tried ++
 abbrev pub fault_details : Fault → List ℕ
 fault_details (Unread unopened) = unopened_line unopened
 fault_details (Manifest path bytes fault) = manifest_lines (string_bytes path) bytes.items fault
-fault_details (Source part path fault) = line (string_bytes path) None (source_said fault)
+fault_details (Source part path fault) = line (string_bytes path) None (source_message fault)
 fault_details (Find fault tried) = search_lines fault tried.items
 fault_details (Socket unopened) = socket_line unopened
 fault_details fault = []

@@ -7,11 +7,11 @@ use Rattle.compose_input.specs.declared.names.Header.{Header}
 
 -- a line: the path, the position if there is one, and the message (code 10 ends it)
 abbrev pub line : List ℕ → Option Position → List ℕ → List ℕ
-line path position said = codes "composecheck: " ++ shown_text path ++ position_text position ++ codes ": " ++ said ++ 10 ∷ []
+line path position sentence = codes "composecheck: " ++ shown_text path ++ position_text position ++ codes ": " ++ sentence ++ 10 ∷ []
 
 -- a line that concerns no file
 abbrev pub remark : List ℕ → List ℕ
-remark said = codes "composecheck: " ++ said ++ 10 ∷ []
+remark sentence = codes "composecheck: " ++ sentence ++ 10 ∷ []
 
 -- the beginning of a line
 abbrev pub whole_line : ℕ → Option Position

@@ -13,7 +13,7 @@ use Rattle.compose_fresh.specs.declared.fault.CheckFault.{CheckFault}
 use Rattle.compose_fresh.specs.declared.fault.CheckFault.TheVariants.{FreshIgnored, FreshUsed}
 use Rattle.compose_answer.specs.declared.refusal.Refusal.{Refusal}
 use Rattle.compose_answer.specs.declared.refusal.Refusal.TheVariants.{Names, Key, Table, Side, Repertoire, Certificate, Fresh, TooManyFresh}
-use Rattle.compose_messages.specs.Faults.{name_line, name_said, certificate_line, certificate_said, repertoire_line, repertoire_said}
+use Rattle.compose_messages.specs.Faults.{name_line, name_message, certificate_line, certificate_message, repertoire_line, repertoire_message}
 use Rattle.compose_messages.specs.Hints.{certificate_hint, header_hint, hint_text, locale_hint, name_hint, repertoire_hint, source_not_utf8, table_hint}
 use Rattle.compose_messages.specs.Characters.{IsKeyOfText, character_hint, text_in_place}
 use Rattle.compose_messages.specs.Messages.{naming}
@@ -33,14 +33,14 @@ hint_line hint = option_map_or (λ h. hint_text h ++ 10 ∷ []) hint []
 
 -- the message for a line of a file, or for the whole file
 abbrev pub words_line : List ℕ → Option ℕ → List ℕ → List ℕ
-words_line path number said = line path (option_and_then whole_line number) said
+words_line path number sentence = line path (option_and_then whole_line number) sentence
 
 -- ---- names and arguments
 
 -- the message for a line of the names, at its file
 abbrev pub name_lines : List Header → NameFault → List ℕ
 name_lines headers fault =
-    option_map_or (λ (at : Header × ℕ). line at.0.path.now (whole_line at.1) (name_said fault)) (option_and_then (header_line headers) (name_line fault)) (remark (name_said fault))
+    option_map_or (λ (at : Header × ℕ). line at.0.path.now (whole_line at.1) (name_message fault)) (option_and_then (header_line headers) (name_line fault)) (remark (name_message fault))
 
 -- no names were given
 abbrev pub is_unnamed : Given → Bool
@@ -87,12 +87,12 @@ numbered_text given index fault = option_map_or (λ (table : GivenTable). text_i
 
 -- these words, and the keysyms as a table writes events; empty if there are no keysyms
 abbrev pub named_line : KeysymNames → List ℕ → List ℕ → List ℕ
-named_line names said [] = []
-named_line names said (k ∷ ks) = codes "composecheck: " ++ (said ++ (events names (k ∷ ks) ++ codes "\n"))
+named_line names sentence [] = []
+named_line names sentence (k ∷ ks) = codes "composecheck: " ++ (sentence ++ (events names (k ∷ ks) ++ codes "\n"))
 
 abbrev pub keysyms_line : List ℕ → List ℕ → Result KeysymNames NameFault → List ℕ
-keysyms_line said ks (Ok names) = named_line names said ks
-keysyms_line said ks (Err why) = []
+keysyms_line sentence ks (Ok names) = named_line names sentence ks
+keysyms_line sentence ks (Err why) = []
 
 abbrev pub fresh_lines : Given → CheckFault → List ℕ
 fresh_lines given (FreshIgnored k) = keysyms_line (codes "a compose state ignores the keysym") (k ∷ []) (names_of given.header.now)
@@ -107,8 +107,8 @@ refusal_lines given (Key index) = argument_line (map (λ a. a.now) given.argumen
 refusal_lines given (Table fault) = numbered_lines given 0 fault
 refusal_lines given (Side Old fault) = numbered_lines given 0 fault
 refusal_lines given (Side New fault) = numbered_lines given 1 fault
-refusal_lines given (Repertoire fault) = words_line given.repertoire.now (repertoire_line fault) (repertoire_said fault)
-refusal_lines given (Certificate fault) = words_line given.certificate.now (certificate_line fault) (certificate_said fault)
+refusal_lines given (Repertoire fault) = words_line given.repertoire.now (repertoire_line fault) (repertoire_message fault)
+refusal_lines given (Certificate fault) = words_line given.certificate.now (certificate_line fault) (certificate_message fault)
 refusal_lines given (Fresh fault) = fresh_lines given fault
 refusal_lines given TooManyFresh = remark (codes "there are more than 1,048,576 fresh keysyms")
 refusal_lines given refusal = []

@@ -150,9 +150,9 @@ fn push_found<T: ComposeTable>(
         Err(MakeFault::NoMemory) => return Err(AllocError),
         Err(_) => return Ok(()),
     };
-    let told = found.as_slice();
-    let most = if all { told.len() } else { 1 };
-    push_hinted_differences(alloc, text, old, new, &told[..most.min(told.len())])
+    let reported = found.as_slice();
+    let most = if all { reported.len() } else { 1 };
+    push_hinted_differences(alloc, text, old, new, &reported[..most.min(reported.len())])
 }
 
 /// Adds the lines of a pair of a certificate: the keys that lead to it, and the places of the

@@ -122,8 +122,8 @@ fn push_short_at(
         ≡ string_bytes text.old
         ++ words.short_lines_at placed.now short.now long.now index) }
 {
-    let said = overlap_words(alloc, placed.names, short, long)?;
-    push_line_at(text, placed, index, &said)?;
+    let sentence = overlap_words(alloc, placed.names, short, long)?;
+    push_line_at(text, placed, index, &sentence)?;
     push_definition(alloc, text, placed, index)
 }
 
@@ -177,8 +177,8 @@ pub(crate) fn push_definition(
     if index >= placed.definitions.len() {
         return Ok(());
     }
-    let said = definition_words(alloc, placed.names, placed.definitions, index)?;
-    push_line_at(text, placed, index, &said)
+    let sentence = definition_words(alloc, placed.names, placed.definitions, index)?;
+    push_line_at(text, placed, index, &sentence)
 }
 
 /// Returns the sequence and the text of the definition with this index, as words.
@@ -191,7 +191,7 @@ fn definition_words(
     requires { index < length definitions.now }
     ensures { IfOk result
         (λ text. (d : Definition) → slice_get definitions.now index ≡ Some d
-        → string_bytes text ≡ words.definition_said names.now d) }
+        → string_bytes text ≡ words.definition_message names.now d) }
 {
     let Ok(quoted) = quote(alloc, definitions.text(index)) else {
         return Err(AllocError);
@@ -218,18 +218,18 @@ fn push_line_at(
     text: &mut String,
     placed: &PlacedTable<'_>,
     index: usize,
-    said: &str,
+    sentence: &str,
 ) -> Result<(), AllocError>
     ensures { OnOk result
         (string_bytes text.new
-        ≡ string_bytes text.old ++ words.line_at_place placed.now index said.now) }
+        ≡ string_bytes text.old ++ words.line_at_place placed.now index sentence.now) }
 {
     match placed.places.get(index) {
         Some(place) => push_line(
             text,
             path_of(placed.paths, place.source),
             whole_line(place.line),
-            &Message::Plain(said),
+            &Message::Plain(sentence),
         ),
         None => Ok(()),
     }

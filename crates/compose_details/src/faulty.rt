@@ -14,7 +14,7 @@ use std::alloc::{AllocError, Global};
 const MOST_FAULTS: usize = 1_000_000;
 
 /// The lines that were reported, as the index of their source and their number.
-type Told = ArrayVec<(usize, usize), 20>;
+type Reported = ArrayVec<(usize, usize), 20>;
 
 /// Adds a line for each faulty line of a table, at most twenty, beginning with this first fault.
 /// O(bytes of the lines that are visited).
@@ -50,17 +50,17 @@ fn push_others(
         ++ flat_map (faulty.line_of_fault table.now)
         (take 19 (faulty.each_once (first ∷ []) others.now))) }
 {
-    let mut told = Told::new();
-    told.push(first);
+    let mut reported = Reported::new();
+    reported.push(first);
     for fault in others {
         let place = place_of(fault);
-        if is_among(&told, place) {
+        if is_among(&reported, place) {
             continue;
         }
-        if told.is_full() {
+        if reported.is_full() {
             return Ok(());
         }
-        told.push(place);
+        reported.push(place);
         push_fault(text, table, fault)?;
     }
     Ok(())

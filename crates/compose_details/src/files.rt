@@ -33,7 +33,7 @@ pub fn manifest_details(
 /// Returns the message for an include that leads to no file: its place, and the reason. `None` for
 /// any other fault. O(1).
 pub fn find_message(fault: &FindFault) -> Option<FileMessage<'_>>
-    ensures { option_map (λ told. file_text told) result ≡ words.find_said fault.now }
+    ensures { option_map (λ reported. file_text reported) result ≡ words.found_include_message fault.now }
 {
     match fault {
         FindFault::MissingFile { from, line, path } => Some(FileMessage {
@@ -52,7 +52,7 @@ pub fn find_message(fault: &FindFault) -> Option<FileMessage<'_>>
 
 /// Returns the words for the reason why an include leads to no file.
 fn include_words(fault: &IncludeFault) -> &'static str
-    ensures { result.now ≡ words.include_said fault.now }
+    ensures { result.now ≡ words.include_message fault.now }
 {
     match fault {
         IncludeFault::Text { .. } => "the string of the include is no text",

@@ -19,12 +19,12 @@ pub(crate) fn push_line(
         (string_bytes text.new
         ≡ string_bytes text.old ++ lines.line path.now position (message_text message.now)) }
 {
-    let told = FileMessage {
+    let reported = FileMessage {
         path,
         position,
         message: *message,
     };
-    writeln!(text, "{told}")?;
+    writeln!(text, "{reported}")?;
     Ok(())
 }
 

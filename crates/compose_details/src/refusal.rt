@@ -324,16 +324,20 @@ fn push_refusal(
 }
 
 /// Adds the message for a line of a file, or for the whole file.
-pub(crate) fn push_words(text: &mut String, path: &str, said: &FaultWords) -> Result<(), AllocError>
+pub(crate) fn push_words(
+    text: &mut String,
+    path: &str,
+    sentence: &FaultWords,
+) -> Result<(), AllocError>
     ensures { OnOk result
         (string_bytes text.new
-        ≡ string_bytes text.old ++ words.words_line path.now said.now.line said.now.words.now) }
+        ≡ string_bytes text.old ++ words.words_line path.now sentence.now.line sentence.now.words.now) }
 {
-    let position = match said.line {
+    let position = match sentence.line {
         Some(line) => whole_line(line),
         None => None,
     };
-    push_line(text, path, position, &Message::Plain(said.words))
+    push_line(text, path, position, &Message::Plain(sentence.words))
 }
 
 /// Adds a hint, if there is one.
@@ -357,12 +361,12 @@ fn push_name_fault(
         (string_bytes text.new
         ≡ string_bytes text.old ++ words.name_lines headers.now fault.now) }
 {
-    let said = name_words(fault);
-    let found = match said.line {
+    let sentence = name_words(fault);
+    let found = match sentence.line {
         Some(line) => header_line(headers, line),
         None => None,
     };
-    let message = Message::Plain(said.words);
+    let message = Message::Plain(sentence.words);
     match found {
         Some((header, line)) => push_line(text, header.path, whole_line(line), &message),
         None => push_remark(text, &message),
@@ -491,16 +495,16 @@ pub(crate) fn push_keysyms(
     alloc: Global,
     text: &mut String,
     header: &[u8],
-    said: &str,
+    sentence: &str,
     keysyms: &[Keysym],
 ) -> Result<(), AllocError>
     ensures { OnOk result
         (string_bytes text.new
         ≡ string_bytes text.old
-        ++ words.keysyms_line said.now keysyms.now (names_of header.now)) }
+        ++ words.keysyms_line sentence.now keysyms.now (names_of header.now)) }
 {
     match Names::read(alloc, header) {
-        Ok(names) => push_named(alloc, text, &names, said, keysyms),
+        Ok(names) => push_named(alloc, text, &names, sentence, keysyms),
         Err(NameFault::NoMemory) => Err(AllocError),
         Err(_) => Ok(()),
     }
@@ -511,18 +515,18 @@ fn push_named(
     alloc: Global,
     text: &mut String,
     names: &Names,
-    said: &str,
+    sentence: &str,
     keysyms: &[Keysym],
 ) -> Result<(), AllocError>
     ensures { OnOk result
         (string_bytes text.new
-        ≡ string_bytes text.old ++ words.named_line names.now said.now keysyms.now) }
+        ≡ string_bytes text.old ++ words.named_line names.now sentence.now keysyms.now) }
 {
     if keysyms.is_empty() {
         return Ok(());
     }
     text.push_str("composecheck: ")?;
-    text.push_str(said)?;
+    text.push_str(sentence)?;
     push_events(alloc, text, names, keysyms)?;
     text.push_str("\n")
 }

@@ -161,9 +161,9 @@ fn push_missing(
         ≡ string_bytes text.old
         ++ words.missing_line side.now.placed.names.now side.now.manifest.now keys.now) }
 {
-    let mut said = String::from_str(alloc, "no sequence begins with")?;
-    push_events(alloc, &mut said, side.placed.names, keys)?;
-    push_line(text, side.manifest, None, &Message::Plain(&said))
+    let mut sentence = String::from_str(alloc, "no sequence begins with")?;
+    push_events(alloc, &mut sentence, side.placed.names, keys)?;
+    push_line(text, side.manifest, None, &Message::Plain(&sentence))
 }
 
 /// Returns the index of the first counting definition whose sequence begins with the keys.

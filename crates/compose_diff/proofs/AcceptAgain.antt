@@ -14,7 +14,7 @@ use Rattle.compose_compare.specs.Change.{is_harmless}
 use Rattle.compose_diff.specs.declared.row.DiffRow.{DiffRow}
 use Rattle.compose_diff.specs.declared.accepted.AcceptFault.TheVariants.{Stale, BadLine}
 use Rattle.compose_diff.specs.Line.{keys_text, key_names, row_text}
-use Rattle.compose_diff.specs.Accepted.{Line, is_skipped, said_from, is_in_form, begins_as, acceptable, is_end, tells, is_accepted, is_stale, accept_lines, has_key, AcceptsAll}
+use Rattle.compose_diff.specs.Accepted.{Line, is_skipped, list_lines_from, is_in_form, begins_as, acceptable, is_end, matches_text, is_accepted, is_stale, accept_lines, has_key, AcceptsAll}
 use Rattle.compose_diff.proofs.Plain.{row_text_plain}
 use Rattle.compose_diff.proofs.PlainLines.{lines_again}
 
@@ -37,9 +37,9 @@ not_skipped Removed keys more = refl
 not_skipped Added keys more = refl
 not_skipped NewStart keys more = refl
 
-said_again : (n : ℕ) (rows : List DiffRow) → said_from n (map row_text rows) ≡ numbered n rows
-said_again n [] = refl
-said_again n (row ∷ rows) = rw (not_skipped row.change (key_names row) _) (ap (λ lines. record { number = n; text = row_text row } ∷ lines) (said_again (1 + n) rows))
+list_lines_again : (n : ℕ) (rows : List DiffRow) → list_lines_from n (map row_text rows) ≡ numbered n rows
+list_lines_again n [] = refl
+list_lines_again n (row ∷ rows) = rw (not_skipped row.change (key_names row) _) (ap (λ lines. record { number = n; text = row_text row } ∷ lines) (list_lines_again (1 + n) rows))
 
 in_form : (c : Change) (key : List ℕ) (keys : List (List ℕ)) (more : List ℕ) → is_harmless c ≡ false → list_any (begins_as (keys_text c (key ∷ keys) ++ more)) acceptable ≡ true
 in_form Kept key keys more met = let clash : true ≡ false = met in cc
@@ -91,15 +91,15 @@ none_bad n (row ∷ rows) keyed =
 
 -- ---- none of them is stale
 
-tells_itself : (n : ℕ) (text : List ℕ) → tells text (record { number = n; text = text }) ≡ true
-tells_itself n text =
+matches_itself : (n : ℕ) (text : List ℕ) → matches_text text (record { number = n; text = text }) ≡ true
+matches_itself n text =
     and_from _ _ ((bytes_eq-Decides (take (length text) text) text).1 (take-length text)) (ap is_end (drop_all (length text) text (omega arith)))
 
-none_stale : (all rows : List DiffRow) (n : ℕ) → ((line : Line) → list_any (λ t. tells t line) (map row_text rows) ≡ true → list_any (λ t. tells t line) (map row_text all) ≡ true)
+none_stale : (all rows : List DiffRow) (n : ℕ) → ((line : Line) → list_any (λ t. matches_text t line) (map row_text rows) ≡ true → list_any (λ t. matches_text t line) (map row_text all) ≡ true)
     → find (is_stale (map row_text all)) (numbered n (met rows)) ≡ None
 none_stale all [] n covers = refl
 none_stale all (row ∷ rows) n covers =
-    let later = λ (line : Line) (told : list_any (λ t. tells t line) (map row_text rows) ≡ true). covers line (or_right (tells (row_text row) line) _ told) in
+    let later = λ (line : Line) (reported : list_any (λ t. matches_text t line) (map row_text rows) ≡ true). covers line (or_right (matches_text (row_text row) line) _ reported) in
     by (none_stale all rows n later) (none_stale all rows (1 + n) later) (is_harmless row.change) refl
   where
     by : find (is_stale (map row_text all)) (numbered n (met rows)) ≡ None → find (is_stale (map row_text all)) (numbered (1 + n) (met rows)) ≡ None → (t : Bool) → is_harmless row.change ≡ t
@@ -108,13 +108,13 @@ none_stale all (row ∷ rows) n covers =
     by here next false e =
         ap (λ rs. find (is_stale (map row_text all)) (numbered n rs)) (met_too row rows e)
         ∙ find_skip (is_stale (map row_text all)) (record { number = n; text = row_text row }) (numbered (1 + n) (met rows))
-        (ap not (covers (record { number = n; text = row_text row }) (or_left _ _ (tells_itself n (row_text row)))))
+        (ap not (covers (record { number = n; text = row_text row }) (or_left _ _ (matches_itself n (row_text row)))))
         ∙ next
 
 -- ---- and what is left is harmless
 
 abbrev Covers : List Line → ℕ → List DiffRow → Type 0
-Covers lines n rows = (text : List ℕ) → list_any (tells text) (numbered n (met rows)) ≡ true → list_any (tells text) lines ≡ true
+Covers lines n rows = (text : List ℕ) → list_any (matches_text text) (numbered n (met rows)) ≡ true → list_any (matches_text text) lines ≡ true
 
 left_rows : (lines : List Line) (n : ℕ) (rows : List DiffRow) → Covers lines n rows → filter (λ row. not (is_accepted lines row)) rows ≡ filter (λ row. is_harmless row.change) rows
 left_rows lines n [] covers = refl
@@ -125,25 +125,25 @@ left_rows lines n (row ∷ rows) covers = by (λ c. left_rows lines n rows c) (�
         → filter (λ r. not (is_accepted lines r)) (row ∷ rows) ≡ filter (λ r. is_harmless r.change) (row ∷ rows)
     by here next true e =
         filter_keep (λ r. not (is_accepted lines r)) row rows (ap not (and_left _ _ (ap not e)))
-        ∙ ap (λ rs. row ∷ rs) (here (λ text told. covers text (ap (λ rs. list_any (tells text) (numbered n rs)) (met_not row rows e) ∙ told)))
+        ∙ ap (λ rs. row ∷ rs) (here (λ text reported. covers text (ap (λ rs. list_any (matches_text text) (numbered n rs)) (met_not row rows e) ∙ reported)))
         ∙ sym (filter_keep (λ r. is_harmless r.change) row rows e)
     by here next false e =
         filter_drop (λ r. not (is_accepted lines r)) row rows
         (ap not
         (and_from _ _ (ap not e)
-        (covers (row_text row) (ap (λ rs. list_any (tells (row_text row)) (numbered n rs)) (met_too row rows e) ∙ or_left _ _ (tells_itself n (row_text row))))))
-        ∙ next (λ text told. covers text (ap (λ rs. list_any (tells text) (numbered n rs)) (met_too row rows e) ∙ or_right _ _ told))
+        (covers (row_text row) (ap (λ rs. list_any (matches_text (row_text row)) (numbered n rs)) (met_too row rows e) ∙ or_left _ _ (matches_itself n (row_text row))))))
+        ∙ next (λ text reported. covers text (ap (λ rs. list_any (matches_text text) (numbered n rs)) (met_too row rows e) ∙ or_right _ _ reported))
         ∙ sym (filter_drop (λ r. is_harmless r.change) row rows e)
 
 -- a written list accepts all rows for which it was written
 pub accepts_all : (rows : List DiffRow) → list_all has_key rows ≡ true → AcceptsAll (accept_lines rows) rows
 accepts_all rows keyed =
-    let said : said_from 1 (lines_of (accept_lines rows)) ≡ numbered 1 (met rows) = ap (said_from 1) (lines_again row_text (met rows) row_text_plain) ∙ said_again 1 (met rows) in record {
+    let expected : list_lines_from 1 (lines_of (accept_lines rows)) ≡ numbered 1 (met rows) = ap (list_lines_from 1) (lines_again row_text (met rows) row_text_plain) ∙ list_lines_again 1 (met rows) in record {
       lines = numbered 1 (met rows);
       read =
-          ap (λ ls. option_map_or (λ (line : Line). Err (BadLine line.number)) (find is_bad ls) (Ok ls)) said
+          ap (λ ls. option_map_or (λ (line : Line). Err (BadLine line.number)) (find is_bad ls) (Ok ls)) expected
           ∙ ap (λ o. option_map_or (λ (line : Line). Err (BadLine line.number)) o (Ok (numbered 1 (met rows)))) (none_bad 1 rows keyed);
       left =
-          ap (λ o. option_map_or (λ (line : Line). Err (Stale line.number)) o (Ok (filter (λ row. not (is_accepted (numbered 1 (met rows)) row)) rows))) (none_stale rows rows 1 (λ line told. told))
-          ∙ ap (λ (rs : List DiffRow). Ok rs) (left_rows (numbered 1 (met rows)) 1 rows (λ text told. told));
+          ap (λ o. option_map_or (λ (line : Line). Err (Stale line.number)) o (Ok (filter (λ row. not (is_accepted (numbered 1 (met rows)) row)) rows))) (none_stale rows rows 1 (λ line reported. reported))
+          ∙ ap (λ (rs : List DiffRow). Ok rs) (left_rows (numbered 1 (met rows)) 1 rows (λ text reported. reported));
     }

@@ -13,7 +13,7 @@ use Rattle.std.proofs.lemmas.Grind.{flat_map-append}
 use Rattle.compose_shown.specs.Shown.{shown_text}
 use Rattle.compose_compare.specs.declared.Change.{Change}
 use Rattle.compose_compare.specs.declared.Change.TheVariants.{Changed, Waiting, Removed, Added, NewStart}
-use Rattle.compose_diff.specs.declared.row.Entry.{Entry}
+use Rattle.compose_diff.specs.declared.row.TextPlace.{TextPlace}
 use Rattle.compose_diff.specs.declared.row.DiffRow.{DiffRow}
 use Rattle.compose_diff.specs.declared.counts.Counts.{Counts}
 use Rattle.compose_diff.specs.declared.row.NewSequence.{NewSequence}
@@ -21,13 +21,13 @@ use Rattle.compose_diff.specs.Line.{keys_text, keys_part, text_part, path_part, 
 use Rattle.compose_diff.specs.Counts.{counts_of, starts_word, texts_word, counts_line}
 use Rattle.compose_diff.specs.Causes.{is_gone, gone_entry, cause_line}
 use Rattle.compose_diff.specs.Groups.{fold_keys, groups}
-use Rattle.compose_diff.specs.Folds.{texts_part, fold_line, row_lines, told, lines_by, group_lines}
+use Rattle.compose_diff.specs.Folds.{texts_part, fold_line, row_lines, reported, lines_by, group_lines}
 use Rattle.compose_diff.specs.Lost.{shown_rows}
 use Rattle.compose_diff.specs.Overlaps.{overlaps_line}
 use Rattle.compose_diff.specs.declared.overlaps.Overlaps.{Overlaps}
-use Rattle.compose_diff.specs.Told.{lines_text, answer_text}
+use Rattle.compose_diff.specs.Reported.{lines_text, answer_text}
 use Rattle.compose_diff.specs.declared.answer.Printed.{Printed}
-use Rattle.compose_diff.specs.Colors.{begins_with_word, colored_lines, uncolored_from, uncolored}
+use Rattle.compose_diff.specs.Colors.{begins_with_word, colored_lines, uncolored_from, uncolored_text}
 use Rattle.compose_diff.proofs.Plain.{is_plain, ArePlain, both_plain, all_plain, decimal_plain, shown_plain, names_plain, keys_plain, text_plain, row_text_plain}
 
 -- ---- lines without controls
@@ -84,7 +84,7 @@ path_plain path line =
     both_plain (codes " ") (shown_text path ++ (codes ":" ++ decimal line)) refl
     (both_plain (shown_text path) (codes ":" ++ decimal line) (shown_plain path) (both_plain (codes ":") (decimal line) refl (decimal_plain line)))
 
-place_plain : (entry : Option Entry) → ArePlain (place_part entry)
+place_plain : (entry : Option TextPlace) → ArePlain (place_part entry)
 place_plain None = refl
 place_plain (Some entry) = path_plain entry.path.now entry.line
 
@@ -130,7 +130,7 @@ fold_lined (row ∷ rows) =
     (all_plain (λ r. text_part r.old ++ text_part r.new) (take 3 (row ∷ rows)) (λ r. both_plain (text_part r.old) (text_part r.new) (text_plain r.old) (text_plain r.new)))
     (behind (codes " ..") _ refl (behind (places_text row) (10 ∷ []) (places_plain row) newline)))))))
 
-cause_lined : (entry : Entry) (count : ℕ) → Lined (cause_line entry count)
+cause_lined : (entry : TextPlace) (count : ℕ) → Lined (cause_line entry count)
 cause_lined entry count =
     one_lined (cause_line entry count)
     (behind (codes "removed: all ") _ refl
@@ -138,7 +138,7 @@ cause_lined entry count =
     (behind (codes " sequences of ") _ refl
     (behind (shown_text entry.path.now) _ (shown_plain entry.path.now) (record { line = codes ", from which the new table has none"; plain = refl; is = refl })))))
 
-lined_by : (entry : Option Entry) (rows : List DiffRow) → Lined (lines_by entry rows)
+lined_by : (entry : Option TextPlace) (rows : List DiffRow) → Lined (lines_by entry rows)
 lined_by (Some entry) rows = cause_lined entry (length rows)
 lined_by None rows = by (nat_lt (length rows) 2)
   where
@@ -183,9 +183,9 @@ counts_lined counts =
 
 rows_lined : (folds : Bool) (rows shown : List DiffRow) → Lined (lines_text folds rows shown)
 rows_lined true rows shown =
-    let gone = is_gone rows (told shown) in
-    all_lined (group_lines gone) (groups gone (told shown)) (group_lined gone)
-rows_lined false rows shown = all_lined row_line (told shown) row_lined
+    let gone = is_gone rows (reported shown) in
+    all_lined (group_lines gone) (groups gone (reported shown)) (group_lined gone)
+rows_lined false rows shown = all_lined row_line (reported shown) row_lined
 
 overlaps_lined : (overlaps : Overlaps) → Lined (overlaps_line overlaps)
 overlaps_lined overlaps = by (overlaps.old == 0 && overlaps.new == 0)
@@ -218,14 +218,14 @@ first_part (b ∷ line) rest plain =
     let parts = and_parts (is_plain b) (list_all is_plain line) plain in
     slice_split-cons_no (λ c. c == 10) b (line ++ 10 ∷ rest) (ne_eqb b 10 (omega (arith, leb-true 32 b parts.0))) ∙ ap (onto_first b) (first_part line rest parts.1)
 
-behind_first : (line : List ℕ) (parts : List (List ℕ)) → 0 < length parts → lines_of_parts (line ∷ parts) ≡ strip_carriage_return line ∷ lines_of_parts parts
-behind_first line [] some = absurd (omega arith)
-behind_first line (next ∷ parts) some = refl
+after_first : (line : List ℕ) (parts : List (List ℕ)) → 0 < length parts → lines_of_parts (line ∷ parts) ≡ strip_carriage_return line ∷ lines_of_parts parts
+after_first line [] some = absurd (omega arith)
+after_first line (next ∷ parts) some = refl
 
 line_first : (line rest : List ℕ) → ArePlain line → lines (line ++ 10 ∷ rest) ≡ line ∷ lines rest
 line_first line rest plain =
     ap lines_of_parts (first_part line rest plain)
-    ∙ behind_first line (slice_split (λ b. b == 10) rest) (omega (arith, length-slice_split (λ (b : ℕ). b == 10) rest))
+    ∙ after_first line (slice_split (λ b. b == 10) rest) (omega (arith, length-slice_split (λ (b : ℕ). b == 10) rest))
     ∙ ap (λ l. l ∷ lines rest) (rw (plain_at line (length line - 1) plain) refl)
 
 lines_again : (parts : List (List ℕ)) → AllPlain parts → lines (joined parts) ≡ parts
@@ -252,7 +252,7 @@ off true t line rest plain = body line rest plain
 off false true line rest plain = body line rest plain
 off false false line rest plain = body line rest plain
 
-all_off : (parts : List (List ℕ)) → AllPlain parts → uncolored (colored_lines parts) ≡ joined parts
+all_off : (parts : List (List ℕ)) → AllPlain parts → uncolored_text (colored_lines parts) ≡ joined parts
 all_off [] plain = refl
 all_off (part ∷ parts) plain =
     let both = and_parts (list_all is_plain part) _ plain in
@@ -260,7 +260,7 @@ all_off (part ∷ parts) plain =
     ∙ ap (λ rest. part ++ 10 ∷ rest) (all_off parts both.1) ∙ sym (append_assoc part (10 ∷ []) (joined parts))
 
 -- an answer in colours is the answer without its escape sequences
-pub answer_back : (printed : Printed) (overlaps : Overlaps) (rows left : List DiffRow) → uncolored (colored_lines (lines (answer_text printed overlaps rows left))) ≡ answer_text printed overlaps rows left
+pub answer_back : (printed : Printed) (overlaps : Overlaps) (rows left : List DiffRow) → uncolored_text (colored_lines (lines (answer_text printed overlaps rows left))) ≡ answer_text printed overlaps rows left
 answer_back printed overlaps rows left =
     let lined = answer_lined printed overlaps rows left in
-    ap (λ text. uncolored (colored_lines (lines text))) lined.is ∙ ap (λ ls. uncolored (colored_lines ls)) (lines_again lined.parts lined.plain) ∙ all_off lined.parts lined.plain ∙ sym lined.is
+    ap (λ text. uncolored_text (colored_lines (lines text))) lined.is ∙ ap (λ ls. uncolored_text (colored_lines ls)) (lines_again lined.parts lined.plain) ∙ all_off lined.parts lined.plain ∙ sym lined.is

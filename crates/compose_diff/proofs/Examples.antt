@@ -8,7 +8,7 @@ use Rattle.compose_compare.specs.declared.Change.TheVariants.{Removed, Added}
 use Rattle.compose_diff.specs.Line.{keys_part, now_part}
 use Rattle.compose_diff.specs.Counts.{counts_line}
 use Rattle.compose_diff.specs.Json.{json_string, json_strings}
-use Rattle.compose_diff.specs.Accepted.{accepted_of, tells}
+use Rattle.compose_diff.specs.Accepted.{accepted_of, matches_text}
 use Rattle.compose_diff.specs.declared.accepted.AcceptFault.TheVariants.{BadLine}
 
 -- ---- what is printed
@@ -54,8 +54,8 @@ skipped = refl
 harmless : accepted_of (codes "removed: <a> \"x\"" ++ 10 ∷ codes "added: <a> \"x\"" ++ 10 ∷ []) ≡ Err (BadLine 2)
 harmless = refl
 
-with_a_place : tells (codes "removed: <a> \"x\"") (record { number = 1; text = codes "removed: <a> \"x\" OLD:9" }) ≡ true
+with_a_place : matches_text (codes "removed: <a> \"x\"") (record { number = 1; text = codes "removed: <a> \"x\" OLD:9" }) ≡ true
 with_a_place = refl
 
-other_text : tells (codes "removed: <a> \"x\"") (record { number = 1; text = codes "removed: <a> \"xy\" OLD:9" }) ≡ false
+other_text : matches_text (codes "removed: <a> \"x\"") (record { number = 1; text = codes "removed: <a> \"xy\" OLD:9" }) ≡ false
 other_text = refl

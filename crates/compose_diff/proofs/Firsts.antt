@@ -8,7 +8,7 @@ use Rattle.std.proofs.lemmas.List.Folds.{list_any_more}
 use Rattle.compose_diff.specs.declared.row.DiffRow.{DiffRow}
 use Rattle.compose_diff.specs.Causes.{is_gone}
 use Rattle.compose_diff.specs.Groups.{Common, common, has, folds_with, firsts, group_of}
-use Rattle.compose_diff.specs.Folds.{group_lines, groups_lines, told, folded_lines}
+use Rattle.compose_diff.specs.Folds.{group_lines, groups_lines, reported, folded_lines}
 use Rattle.compose_diff.specs.Members.{Key, view}
 
 -- what holds in any case also holds if all went well
@@ -108,8 +108,8 @@ module _ (gone : ℕ → Bool) where
 
 -- ---- the whole text
 
-pub folded_is : (new start : List ℕ) (gone : ℕ → Bool) (rows left shown again : List DiffRow) → new ≡ start ++ groups_lines gone again → start ≡ [] → again ≡ told left → shown ≡ told left
+pub folded_is : (new start : List ℕ) (gone : ℕ → Bool) (rows left shown again : List DiffRow) → new ≡ start ++ groups_lines gone again → start ≡ [] → again ≡ reported left → shown ≡ reported left
     → ((source : ℕ) → gone source ≡ is_gone rows shown source) → new ≡ folded_lines rows left
 folded_is new start gone rows left shown again e none same first known =
-    let is : gone ≡ is_gone rows (told left) = λ j. λ source. (known source ∙ ap (λ them. is_gone rows them source) first) j in
+    let is : gone ≡ is_gone rows (reported left) = λ j. λ source. (known source ∙ ap (λ them. is_gone rows them source) first) j in
     e ∙ ap₂ (λ x y. x ++ y) none (ap₂ groups_lines is same)

@@ -5,8 +5,8 @@ use Rattle.std.proofs.lemmas.Bool.{and_parts, and_from, and_left, and_right, or_
 use Rattle.compose_compare.specs.declared.Change.TheVariants.{Kept, Removed}
 use Rattle.compose_diff.specs.declared.row.DiffRow.{DiffRow}
 use Rattle.compose_diff.specs.Counts.{is_same}
-use Rattle.compose_diff.specs.Causes.{stands_in, count_in, removed_in, is_gone, are_removed}
-use Rattle.compose_diff.specs.Folds.{told}
+use Rattle.compose_diff.specs.Causes.{is_in_source, count_in, removed_in, is_gone, are_removed}
+use Rattle.compose_diff.specs.Folds.{reported}
 
 -- ---- the number of elements that pass a test
 
@@ -48,10 +48,10 @@ of_left keep p (x ∷ xs) = by (of_left keep p xs) (keep x) refl
 -- ---- rows of a source that are removed
 
 abbrev in_source : ℕ → DiffRow → Bool
-in_source source row = stands_in source row.old
+in_source source row = is_in_source source row.old
 
 abbrev is_removed : ℕ → DiffRow → Bool
-is_removed source row = is_same row.change Removed && stands_in source row.old
+is_removed source row = is_same row.change Removed && is_in_source source row.old
 
 fewer_removed : (source : ℕ) (rows : List DiffRow) → count (is_removed source) rows ≤ count (in_source source) rows
 fewer_removed source [] = omega arith
@@ -60,7 +60,7 @@ fewer_removed source (row ∷ rows) = by (fewer_removed source rows) (is_removed
     by : count (is_removed source) rows ≤ count (in_source source) rows → (s t : Bool) → is_removed source row ≡ s → in_source source row ≡ t
         → count (is_removed source) (row ∷ rows) ≤ count (in_source source) (row ∷ rows)
     by fewer true true e f = omega (arith, fewer, counted (is_removed source) row rows e, counted (in_source source) row rows f)
-    by fewer true false e f = let clash : false ≡ true = sym f ∙ (and_parts (is_same row.change Removed) (stands_in source row.old) e).1 in cc
+    by fewer true false e f = let clash : false ≡ true = sym f ∙ (and_parts (is_same row.change Removed) (is_in_source source row.old) e).1 in cc
     by fewer false t e f = omega (arith, fewer, ap length (left_out (is_removed source) row rows e), no_fewer (in_source source) row rows)
 
 abbrev AreRemoved : ℕ → List DiffRow → Type 0
@@ -86,10 +86,10 @@ all_removed source (row ∷ rows) many = by (λ m. all_removed source rows m) (i
 -- ---- a source that is gone
 
 -- if a source is gone by the rows that are left, all its rows are removed
-pub source_is_gone : (keep : DiffRow → Bool) (rows : List DiffRow) (source : ℕ) → is_gone rows (told (filter keep rows)) source ≡ true → AreRemoved source rows
+pub source_is_gone : (keep : DiffRow → Bool) (rows : List DiffRow) (source : ℕ) → is_gone rows (reported (filter keep rows)) source ≡ true → AreRemoved source rows
 source_is_gone keep rows source e =
-    let parts = and_parts (nat_lt 1 (count_in source rows)) (removed_in source (told (filter keep rows)) == count_in source rows) e in
-    let whole = eqb-true (removed_in source (told (filter keep rows))) (count_in source rows) parts.1 in
+    let parts = and_parts (nat_lt 1 (count_in source rows)) (removed_in source (reported (filter keep rows)) == count_in source rows) e in
+    let whole = eqb-true (removed_in source (reported (filter keep rows))) (count_in source rows) parts.1 in
     all_removed source rows
     (omega (
       arith,

@@ -13,7 +13,7 @@ use Rattle.compose_lex.specs.Escape.{quote}
 use Rattle.compose_shown.specs.Shown.{is_unsafe, shown_character, shown_text}
 use Rattle.compose_compare.specs.declared.Change.{Change}
 use Rattle.compose_compare.specs.declared.Change.TheVariants.{Kept, Changed, Waiting, Removed, Added, NewStart}
-use Rattle.compose_diff.specs.declared.row.Entry.{Entry}
+use Rattle.compose_diff.specs.declared.row.TextPlace.{TextPlace}
 use Rattle.compose_diff.specs.declared.row.DiffRow.{DiffRow}
 use Rattle.compose_diff.specs.Line.{change_word, keys_part, keys_text, key_names, text_part, row_text}
 
@@ -125,7 +125,7 @@ pub keys_plain : (c : Change) (keys : List (List ℕ)) → ArePlain (keys_text c
 keys_plain c keys = both_plain (change_word c) (codes ":" ++ keys_part keys) (word_plain c) (both_plain (codes ":") (keys_part keys) refl (names_plain keys))
 
 -- the text of a sequence in quotes
-pub text_plain : (entry : Option Entry) → ArePlain (text_part entry)
+pub text_plain : (entry : Option TextPlace) → ArePlain (text_part entry)
 text_plain None = refl
 text_plain (Some entry) = both_plain (codes " ") (shown_text (quote entry.text.now)) refl (shown_plain (quote entry.text.now))
 

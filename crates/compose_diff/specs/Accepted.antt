@@ -26,9 +26,9 @@ is_skipped [] = true
 is_skipped (b ∷ rest) = b == 35
 
 -- the lines that are not skipped, numbered from n
-abbrev pub said_from : ℕ → List (List ℕ) → List Line
-said_from n [] = []
-said_from n (line ∷ lines) = if is_skipped line then said_from (1 + n) lines else record { number = n; text = line } ∷ said_from (1 + n) lines
+abbrev pub list_lines_from : ℕ → List (List ℕ) → List Line
+list_lines_from n [] = []
+list_lines_from n (line ∷ lines) = if is_skipped line then list_lines_from (1 + n) lines else record { number = n; text = line } ∷ list_lines_from (1 + n) lines
 
 -- the text begins with these bytes
 abbrev pub begins_with : List ℕ → List ℕ → Bool
@@ -49,7 +49,7 @@ is_in_form line = list_any (begins_as line.text) acceptable
 -- the lines of a file, or the first of them that is not in the required form
 abbrev pub accepted_of : List ℕ → Result (List Line) AcceptFault
 accepted_of bytes =
-    let lines = said_from 1 (lines_of bytes) in
+    let lines = list_lines_from 1 (lines_of bytes) in
     option_map_or (λ (line : Line). Err (BadLine line.number)) (find (λ line. not (is_in_form line)) lines) (Ok lines)
 
 -- ---- what they accept
@@ -60,32 +60,32 @@ is_end [] = true
 is_end (b ∷ rest) = b == 32
 
 -- the line is this text, with or without places after it
-abbrev pub tells : List ℕ → Line → Bool
-tells text line = begins_with line.text text && is_end (drop (length text) line.text)
+abbrev pub matches_text : List ℕ → Line → Bool
+matches_text text line = begins_with line.text text && is_end (drop (length text) line.text)
 
 -- the change is not harmless, and one of the lines has it with the same keys and texts
 abbrev pub is_accepted : List Line → DiffRow → Bool
-is_accepted lines row = not (is_harmless row.change) && list_any (tells (row_text row)) lines
+is_accepted lines row = not (is_harmless row.change) && list_any (matches_text (row_text row)) lines
 
 -- the line matches none of the texts
 abbrev pub is_stale : List (List ℕ) → Line → Bool
-is_stale texts line = not (list_any (λ text. tells text line) texts)
+is_stale texts line = not (list_any (λ text. matches_text text line) texts)
 
 -- the rows that are not accepted, in order; or the first line that matches none of the rows
 abbrev pub left_of : List Line → List DiffRow → Result (List DiffRow) AcceptFault
 left_of lines rows = option_map_or (λ (line : Line). Err (Stale line.number)) (find (is_stale (map row_text rows)) lines) (Ok (filter (λ row. not (is_accepted lines row)) rows))
 
 -- the given result, unless memory ran out
-abbrev pub Gives : {A : Type 0} → Result A AcceptFault → Result A AcceptFault → Type 0
-Gives (Ok value) said = said ≡ Ok value
-Gives (Err NoMemory) said = Unit {0}
-Gives (Err fault) said = said ≡ Err fault
+abbrev pub Returns : {A : Type 0} → Result A AcceptFault → Result A AcceptFault → Type 0
+Returns (Ok value) expected = expected ≡ Ok value
+Returns (Err NoMemory) expected = Unit {0}
+Returns (Err fault) expected = expected ≡ Err fault
 
 -- the same for a list of rows
 abbrev pub Leaves : Result (Vec DiffRow Global) AcceptFault → Result (List DiffRow) AcceptFault → Type 0
-Leaves (Ok left) said = said ≡ Ok left.items
-Leaves (Err NoMemory) said = Unit {0}
-Leaves (Err fault) said = said ≡ Err fault
+Leaves (Ok left) expected = expected ≡ Ok left.items
+Leaves (Err NoMemory) expected = Unit {0}
+Leaves (Err fault) expected = expected ≡ Err fault
 
 -- ---- the list to accept
 

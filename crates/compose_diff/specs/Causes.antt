@@ -7,50 +7,50 @@ use Rattle.indexmap.specs.IndexMap.{IndexMap, get}
 use Rattle.compose_shown.specs.Shown.{shown_text}
 use Rattle.compose_compare.specs.declared.Change.{Change}
 use Rattle.compose_compare.specs.declared.Change.TheVariants.{Removed}
-use Rattle.compose_diff.specs.declared.row.Entry.{Entry}
+use Rattle.compose_diff.specs.declared.row.TextPlace.{TextPlace}
 use Rattle.compose_diff.specs.declared.row.DiffRow.{DiffRow}
 use Rattle.compose_diff.specs.declared.cause.Gone.{Gone}
 use Rattle.compose_diff.specs.Counts.{is_same}
 
 -- a table has the sequence in this source
-abbrev pub stands_in : ℕ → Option Entry → Bool
-stands_in source None = false
-stands_in source (Some entry) = entry.source == source
+abbrev pub is_in_source : ℕ → Option TextPlace → Bool
+is_in_source source None = false
+is_in_source source (Some entry) = entry.source == source
 
 -- the number of rows that the old table has in this source
 abbrev pub count_in : ℕ → List DiffRow → ℕ
-count_in source rows = length (filter (λ row. stands_in source row.old) rows)
+count_in source rows = length (filter (λ row. is_in_source source row.old) rows)
 
 -- the number of these that are removed
 abbrev pub removed_in : ℕ → List DiffRow → ℕ
-removed_in source rows = length (filter (λ row. is_same row.change Removed && stands_in source row.old) rows)
+removed_in source rows = length (filter (λ row. is_same row.change Removed && is_in_source source row.old) rows)
 
 -- the old table has two rows or more in this source, and as many of the printed rows are removed from it
 abbrev pub is_gone : List DiffRow → List DiffRow → ℕ → Bool
 is_gone rows shown source = nat_lt 1 (count_in source rows) && removed_in source shown == count_in source rows
 
 -- what the old table has, if it is removed with its source
-abbrev pub gone_with : (ℕ → Bool) → Change → Option Entry → Option Entry
+abbrev pub gone_with : (ℕ → Bool) → Change → Option TextPlace → Option TextPlace
 gone_with gone c None = None
 gone_with gone c (Some entry) = if is_same c Removed && gone entry.source then Some entry else None
 
 -- the same for a row
-abbrev pub gone_entry : (ℕ → Bool) → DiffRow → Option Entry
+abbrev pub gone_entry : (ℕ → Bool) → DiffRow → Option TextPlace
 gone_entry gone row = gone_with gone row.change row.old
 
 -- their number, and the path of the source
-abbrev pub cause_line : Entry → ℕ → List ℕ
+abbrev pub cause_line : TextPlace → ℕ → List ℕ
 cause_line entry count = codes "removed: all " ++ (decimal count ++ (codes " sequences of " ++ (shown_text entry.path.now ++ codes ", from which the new table has none\n")))
 
 -- each of the rows that the old table has in this source is removed
 abbrev pub are_removed : ℕ → List DiffRow → Bool
-are_removed source rows = list_all (λ row. is_same row.change Removed || not (stands_in source row.old)) rows
+are_removed source rows = list_all (λ row. is_same row.change Removed || not (is_in_source source row.old)) rows
 
 -- ---- counts by source
 
 -- the row is counted for this source: all rows that the old table has in it, or the removed ones alone
 abbrev pub is_counted : Bool → ℕ → DiffRow → Bool
-is_counted removed_alone source row = (not removed_alone || is_same row.change Removed) && stands_in source row.old
+is_counted removed_alone source row = (not removed_alone || is_same row.change Removed) && is_in_source source row.old
 
 abbrev pub counted_in : Bool → ℕ → List DiffRow → ℕ
 counted_in removed_alone source rows = length (filter (is_counted removed_alone source) rows)

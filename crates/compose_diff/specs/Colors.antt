@@ -33,5 +33,5 @@ uncolored_from begun [] = []
 uncolored_from false (b ∷ bytes) = if b == 27 then uncolored_from true bytes else b ∷ uncolored_from false bytes
 uncolored_from true (b ∷ bytes) = uncolored_from (not (b == 109)) bytes
 
-abbrev pub uncolored : List ℕ → List ℕ
-uncolored text = uncolored_from false text
+abbrev pub uncolored_text : List ℕ → List ℕ
+uncolored_text text = uncolored_from false text

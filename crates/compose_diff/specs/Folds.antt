@@ -2,7 +2,7 @@
 use Rattle.std.specs.Prelude.{ℕ, Bool, not, nat_lt, if◌then◌else◌, List, [], ◌∷◌, ◌++◌, length, take, filter, flat_map, Option, Some, None, codes}
 use Rattle.std.specs.Fmt.{decimal}
 use Rattle.compose_compare.specs.declared.Change.TheVariants.{Kept}
-use Rattle.compose_diff.specs.declared.row.Entry.{Entry}
+use Rattle.compose_diff.specs.declared.row.TextPlace.{TextPlace}
 use Rattle.compose_diff.specs.declared.row.DiffRow.{DiffRow}
 use Rattle.compose_diff.specs.Line.{keys_text, text_part, places_text, row_line}
 use Rattle.compose_diff.specs.Counts.{is_same}
@@ -28,17 +28,17 @@ abbrev pub row_lines : List DiffRow → List ℕ
 row_lines rows = flat_map row_line rows
 
 -- all rows but the kept ones are reported
-abbrev pub told : List DiffRow → List DiffRow
-told rows = filter (λ row. not (is_same row.change Kept)) rows
+abbrev pub reported : List DiffRow → List DiffRow
+reported rows = filter (λ row. not (is_same row.change Kept)) rows
 
 -- a line for each reported row
 abbrev pub diff_lines : List DiffRow → List ℕ
-diff_lines rows = row_lines (told rows)
+diff_lines rows = row_lines (reported rows)
 
 -- ---- folded
 
 -- the rows of a source that is gone share a line, and so do rows that fold together; a single row has its own line
-abbrev pub lines_by : Option Entry → List DiffRow → List ℕ
+abbrev pub lines_by : Option TextPlace → List DiffRow → List ℕ
 lines_by (Some entry) rows = cause_line entry (length rows)
 lines_by None rows = if nat_lt (length rows) 2 then row_lines rows else fold_line rows
 
@@ -52,4 +52,4 @@ groups_lines gone rows = flat_map (group_lines gone) (groups gone rows)
 
 -- the lines of the rows that are left of all rows, accepted ones included
 abbrev pub folded_lines : List DiffRow → List DiffRow → List ℕ
-folded_lines rows left = groups_lines (is_gone rows (told left)) (told left)
+folded_lines rows left = groups_lines (is_gone rows (reported left)) (reported left)

@@ -5,7 +5,7 @@ use Rattle.std.specs.Option.{option_map_or, option_eq}
 use Rattle.std.specs.Cmp.Lexicographic.{pointwise}
 use Rattle.compose_compare.specs.declared.Change.{Change}
 use Rattle.compose_compare.specs.declared.Change.TheVariants.{Removed, Added}
-use Rattle.compose_diff.specs.declared.row.Entry.{Entry}
+use Rattle.compose_diff.specs.declared.row.TextPlace.{TextPlace}
 use Rattle.compose_diff.specs.declared.row.DiffRow.{DiffRow}
 use Rattle.compose_diff.specs.Line.{key_names}
 use Rattle.compose_diff.specs.Order.{group}
@@ -30,7 +30,7 @@ pub record Common : Type 0 where
   pub keys : List (List ℕ)
 
 -- for a row that is removed with its source, the source; otherwise, if it can be folded, its first keys
-abbrev pub common_by : Option Entry → DiffRow → Option Common
+abbrev pub common_by : Option TextPlace → DiffRow → Option Common
 common_by (Some entry) row = Some (record { change = group row.change; source = Some entry.source; keys = [] })
 common_by None row = if can_fold row.change && nat_lt 1 (length row.keys.now) then Some (record { change = group row.change; source = None; keys = fold_keys row }) else None
 

@@ -5,7 +5,7 @@ use Rattle.std.specs.Str.{chars}
 use Rattle.std.specs.Char.{encode_utf8}
 use Rattle.compose_shown.specs.Shown.{is_unsafe}
 use Rattle.keysym_core.specs.Printed.{at_least_four}
-use Rattle.compose_diff.specs.declared.row.Entry.{Entry}
+use Rattle.compose_diff.specs.declared.row.TextPlace.{TextPlace}
 use Rattle.compose_diff.specs.declared.row.DiffRow.{DiffRow}
 use Rattle.compose_diff.specs.declared.row.NewSequence.{NewSequence}
 use Rattle.compose_diff.specs.Line.{change_word, key_names}
@@ -34,12 +34,12 @@ json_strings [] = codes "[]"
 json_strings (text ∷ texts) = codes "[" ++ (json_string text ++ (other_strings texts ++ codes "]"))
 
 -- the text that a table has, or null
-abbrev pub json_text : Option Entry → List ℕ
+abbrev pub json_text : Option TextPlace → List ℕ
 json_text None = codes "null"
 json_text (Some entry) = json_string entry.text.now
 
 -- the file and the line of a definition under these two names, or null
-abbrev pub json_place : List ℕ → Option Entry → List ℕ
+abbrev pub json_place : List ℕ → Option TextPlace → List ℕ
 json_place side None = codes ",\"" ++ (side ++ (codes "_file\":null,\"" ++ (side ++ codes "_line\":null")))
 json_place side (Some entry) = codes ",\"" ++ (side ++ (codes "_file\":" ++ (json_string entry.path.now ++ (codes ",\"" ++ (side ++ (codes "_line\":" ++ decimal entry.line))))))
 

@@ -8,7 +8,7 @@ pub mod Members
 pub mod Causes
 pub mod Folds
 pub mod Order
-pub mod Told
+pub mod Reported
 pub mod Lost
 pub mod JsonAnswer
 pub mod Overlaps

@@ -5,7 +5,7 @@ use Rattle.compose_lex.specs.Escape.{quote}
 use Rattle.compose_shown.specs.Shown.{shown_text}
 use Rattle.compose_compare.specs.declared.Change.{Change}
 use Rattle.compose_compare.specs.declared.Change.TheVariants.{Kept, Changed, Waiting, Removed, Added, NewStart}
-use Rattle.compose_diff.specs.declared.row.Entry.{Entry}
+use Rattle.compose_diff.specs.declared.row.TextPlace.{TextPlace}
 use Rattle.compose_diff.specs.declared.row.DiffRow.{DiffRow}
 use Rattle.compose_diff.specs.declared.row.NewSequence.{NewSequence}
 
@@ -22,7 +22,7 @@ abbrev pub keys_part : List (List ℕ) → List ℕ
 keys_part keys = flat_map (λ key. codes " <" ++ (shown_text key ++ codes ">")) keys
 
 -- the text in quotes, after a blank; characters that could control a terminal are escaped
-abbrev pub text_part : Option Entry → List ℕ
+abbrev pub text_part : Option TextPlace → List ℕ
 text_part None = []
 text_part (Some entry) = codes " " ++ shown_text (quote entry.text.now)
 
@@ -30,7 +30,7 @@ text_part (Some entry) = codes " " ++ shown_text (quote entry.text.now)
 abbrev pub path_part : List ℕ → ℕ → List ℕ
 path_part path line = codes " " ++ (shown_text path ++ (codes ":" ++ decimal line))
 
-abbrev pub place_part : Option Entry → List ℕ
+abbrev pub place_part : Option TextPlace → List ℕ
 place_part None = []
 place_part (Some entry) = path_part entry.path.now entry.line
 

@@ -6,7 +6,7 @@ use Rattle.std.specs.Ordering.{nat_cmp, ordering_then}
 use Rattle.std.specs.List.Sorted.{IsSortedByKey}
 use Rattle.compose_compare.specs.declared.Change.{Change}
 use Rattle.compose_compare.specs.declared.Change.TheVariants.{Kept, Changed, Waiting, Removed, Added, NewStart}
-use Rattle.compose_diff.specs.declared.row.Entry.{Entry}
+use Rattle.compose_diff.specs.declared.row.TextPlace.{TextPlace}
 use Rattle.compose_diff.specs.declared.row.DiffRow.{DiffRow}
 
 -- the group of a change
@@ -19,12 +19,12 @@ group Added = 4
 group Kept = 5
 
 -- the source and the line
-abbrev pub place : Option Entry → ℕ × ℕ
+abbrev pub place : Option TextPlace → ℕ × ℕ
 place None = (0, 0)
 place (Some entry) = (entry.source, entry.line)
 
 -- what the old table has, or else the new one
-abbrev pub first_entry : DiffRow → Option Entry
+abbrev pub first_entry : DiffRow → Option TextPlace
 first_entry row = option_or row.old row.new
 
 -- the group, and then the source and the line in the old table, or else in the new one

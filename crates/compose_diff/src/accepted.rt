@@ -5,7 +5,7 @@ ghost use Rattle.std.specs.Option.{option_map};
 ghost use Rattle.compose_text.specs.Lines.{lines_of};
 ghost use Rattle.compose_diff.specs.Line.{row_text};
 ghost use Rattle.compose_diff.specs.Accepted as words;
-ghost use Rattle.compose_diff.specs.Accepted.{Gives, accepted_of, left_of};
+ghost use Rattle.compose_diff.specs.Accepted.{Returns, accepted_of, left_of};
 
 use crate::line::{change_word, push_row_text};
 use crate::row::DiffRow;
@@ -79,7 +79,7 @@ impl<'a> Accepted<'a> {
     ///
     /// Errors: `BadLine` with the first line that doesn't, or `NoMemory` if memory runs out.
     pub fn read(alloc: Global, bytes: &'a [u8]) -> Result<Accepted<'a>, AcceptFault>
-        ensures { Gives result (accepted_of bytes.now) }
+        ensures { Returns result (accepted_of bytes.now) }
     {
         let lines = list_lines(alloc, bytes)?;
         match first_bad(&lines) {
@@ -112,7 +112,7 @@ impl<'a> Accepted<'a> {
         if let Some(line) = stale_line(alloc, &self.lines, rows)? {
             return Err(AcceptFault::Stale { line });
         }
-        Ok(not_told(alloc, rows, &self.lines)?)
+        Ok(unaccepted_rows(alloc, rows, &self.lines)?)
     }
 }
 
@@ -121,7 +121,7 @@ impl<'a> Accepted<'a> {
 ///
 /// Errors: `AllocError` if memory runs out.
 pub fn list_lines(alloc: Global, bytes: &[u8]) -> Result<Vec<ListLine<'_>>, AllocError>
-    ensures { IfOk result (λ lines. lines.items ≡ words.said_from 1 (lines_of bytes.now)) }
+    ensures { IfOk result (λ lines. lines.items ≡ words.list_lines_from 1 (lines_of bytes.now)) }
 {
     let mut lines = Vec::new(alloc);
     let mut rest = bytes;
@@ -229,7 +229,7 @@ fn first_stale(lines: &[ListLine], texts: &[String]) -> Option<usize>
 {
     let mut hint = 0;
     for line in lines {
-        match told_by(line, hint, texts) {
+        match matching_text(line, hint, texts) {
             Some(at) => hint = at + 1,
             None => return Some(line.number),
         }
@@ -238,16 +238,16 @@ fn first_stale(lines: &[ListLine], texts: &[String]) -> Option<usize>
 }
 
 /// Returns the index of a text that the line matches, trying the hint first.
-fn told_by(line: &ListLine, hint: usize, texts: &[String]) -> Option<usize>
-    ensures told { not (is_some result)
+fn matching_text(line: &ListLine, hint: usize, texts: &[String]) -> Option<usize>
+    ensures reported { not (is_some result)
         ≡ words.is_stale (map (λ text. string_bytes text) texts.now) line.now }
     ensures within { IfSome result (λ at. at < length texts.now) }
 {
-    if hint < texts.len() && tells(&texts[hint], line) {
+    if hint < texts.len() && matches_text(&texts[hint], line) {
         return Some(hint);
     }
     for (at, text) in texts.iter().enumerate() {
-        if tells(text, line) {
+        if matches_text(text, line) {
             return Some(at);
         }
     }
@@ -255,8 +255,8 @@ fn told_by(line: &ListLine, hint: usize, texts: &[String]) -> Option<usize>
 }
 
 /// Returns whether the line is the text, with or without places after it.
-fn tells(text: &str, line: &ListLine) -> bool
-    ensures { result ≡ words.tells text.now line.now }
+fn matches_text(text: &str, line: &ListLine) -> bool
+    ensures { result ≡ words.matches_text text.now line.now }
 {
     match line.text.strip_prefix(text.as_bytes()) {
         Some(rest) => is_end(rest),
@@ -276,7 +276,7 @@ fn is_end(rest: &[u8]) -> bool
 
 /// Returns the rows that no line accepts, in order. Lines in the order of the rows are found at
 /// once.
-fn not_told<'r>(
+fn unaccepted_rows<'r>(
     alloc: Global,
     rows: &[DiffRow<'r>],
     lines: &[ListLine],
@@ -309,19 +309,19 @@ fn accepting(
         return Ok(None);
     }
     let text = row_text(alloc, row)?;
-    Ok(telling(lines, hint, &text))
+    Ok(matching_line(lines, hint, &text))
 }
 
 /// Returns the index of a line that matches the text, trying the hint first.
-fn telling(lines: &[ListLine], hint: usize, text: &str) -> Option<usize>
-    ensures told { is_some result ≡ list_any (words.tells text.now) lines.now }
+fn matching_line(lines: &[ListLine], hint: usize, text: &str) -> Option<usize>
+    ensures reported { is_some result ≡ list_any (words.matches_text text.now) lines.now }
     ensures within { IfSome result (λ at. at < length lines.now) }
 {
-    if hint < lines.len() && tells(text, &lines[hint]) {
+    if hint < lines.len() && matches_text(text, &lines[hint]) {
         return Some(hint);
     }
     for (at, line) in lines.iter().enumerate() {
-        if tells(text, line) {
+        if matches_text(text, line) {
             return Some(at);
         }
     }

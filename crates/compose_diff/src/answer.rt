@@ -2,9 +2,9 @@
 ghost use Rattle.std.specs.Prelude.{◌≡◌, ◌++◌, IfOk, OnOk, string_bytes};
 ghost use Rattle.compose_diff.specs.Counts.{counts_line};
 ghost use Rattle.compose_diff.specs.Overlaps.{overlaps_line};
-ghost use Rattle.compose_diff.specs.Told as words;
+ghost use Rattle.compose_diff.specs.Reported as words;
 ghost use Rattle.compose_diff.specs.Lost.{shown_rows};
-ghost use Rattle.compose_diff.specs.Told.{Tells};
+ghost use Rattle.compose_diff.specs.Reported.{AnswersRows};
 
 use crate::accepted::{AcceptFault, Accepted};
 use crate::counts::{Counts, loses_nothing};
@@ -40,7 +40,7 @@ pub fn answer_diff(
     printed: Printed,
     overlaps: Overlaps,
 ) -> Result<Answer, AcceptFault>
-    ensures { Tells printed overlaps accepted.now rows.now result }
+    ensures { AnswersRows printed overlaps accepted.now rows.now result }
 {
     if accepted.is_empty() {
         return Ok(answer_on(alloc, rows, rows, printed, overlaps)?);

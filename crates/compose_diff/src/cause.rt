@@ -2,7 +2,7 @@
 ghost use Rattle.std.specs.Prelude.{◌≡◌, ℕ, ◌++◌, IfOk, OnOk, string_bytes};
 ghost use Rattle.compose_diff.specs.Causes as words;
 
-use crate::row::{DiffRow, Entry};
+use crate::row::{DiffRow, TextPlace};
 use compose_compare::Change;
 use compose_shown::Shown;
 use indexmap::IndexMap;
@@ -89,7 +89,7 @@ fn counted_source(row: &DiffRow, removed_alone: bool) -> Option<usize>
 }
 
 /// Returns what the old table has for a removed row whose source is gone.
-pub(crate) fn gone_entry<'r>(gone: &Gone, row: &DiffRow<'r>) -> Option<Entry<'r>>
+pub(crate) fn gone_entry<'r>(gone: &Gone, row: &DiffRow<'r>) -> Option<TextPlace<'r>>
     ensures { result ≡ words.gone_entry (words.has_gone gone.now) row.now }
 {
     let entry = row.old?;
@@ -100,7 +100,11 @@ pub(crate) fn gone_entry<'r>(gone: &Gone, row: &DiffRow<'r>) -> Option<Entry<'r>
 }
 
 /// Appends the line of this number of removed sequences, which are all of one source, to the text.
-pub(crate) fn push_cause(text: &mut String, entry: &Entry, count: usize) -> Result<(), AllocError>
+pub(crate) fn push_cause(
+    text: &mut String,
+    entry: &TextPlace,
+    count: usize,
+) -> Result<(), AllocError>
     ensures { OnOk result
         (string_bytes text.new ≡ string_bytes text.old ++ words.cause_line entry.now count) }
 {

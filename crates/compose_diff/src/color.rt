@@ -30,17 +30,17 @@ pub fn colored_text(alloc: Global, text: &str) -> Result<String, AllocError>
 fn color_of(line: &str) -> &'static str
     ensures { result.now ≡ words.color_of line.now }
 {
-    if tells_one_of(line, &[Change::Changed, Change::Waiting, Change::Removed]) {
+    if begins_with_one(line, &[Change::Changed, Change::Waiting, Change::Removed]) {
         return "31";
     }
-    if tells_one_of(line, &[Change::NewStart, Change::Added]) {
+    if begins_with_one(line, &[Change::NewStart, Change::Added]) {
         return "32";
     }
     "1"
 }
 
 /// Returns whether the line begins with the word for one of these changes.
-fn tells_one_of(line: &str, changes: &[Change]) -> bool
+fn begins_with_one(line: &str, changes: &[Change]) -> bool
     ensures { result ≡ list_any (words.begins_with_word line.now) changes.now }
 {
     changes.iter().any(|change| begins_with_word(line, *change))

@@ -19,9 +19,9 @@ use std::fmt::Write;
 pub fn diff_text(alloc: Global, rows: &[DiffRow]) -> Result<String, AllocError>
     ensures { IfOk result (λ text. string_bytes text ≡ words.diff_lines rows.now) }
 {
-    let told = told(alloc, rows)?;
+    let reported = reported(alloc, rows)?;
     let mut text = String::new(alloc);
-    push_rows(alloc, &mut text, &told)?;
+    push_rows(alloc, &mut text, &reported)?;
     Ok(text)
 }
 
@@ -41,24 +41,24 @@ pub fn diff_text(alloc: Global, rows: &[DiffRow]) -> Result<String, AllocError>
 pub fn folded_text(alloc: Global, rows: &[DiffRow], left: &[DiffRow]) -> Result<String, AllocError>
     ensures { IfOk result (λ text. string_bytes text ≡ words.folded_lines rows.now left.now) }
 {
-    let told = told(alloc, left)?;
-    let gone = gone_sources(alloc, rows, &told)?;
+    let reported = reported(alloc, left)?;
+    let gone = gone_sources(alloc, rows, &reported)?;
     let mut text = String::new(alloc);
-    push_groups(alloc, &mut text, &gone, &told)?;
+    push_groups(alloc, &mut text, &gone, &reported)?;
     Ok(text)
 }
 
 /// Returns the rows that are not kept, in order.
-fn told<'r>(alloc: Global, rows: &[DiffRow<'r>]) -> Result<Vec<DiffRow<'r>>, AllocError>
-    ensures { IfOk result (λ told. told.items ≡ words.told rows.now) }
+fn reported<'r>(alloc: Global, rows: &[DiffRow<'r>]) -> Result<Vec<DiffRow<'r>>, AllocError>
+    ensures { IfOk result (λ reported. reported.items ≡ words.reported rows.now) }
 {
-    let mut told = Vec::new(alloc);
+    let mut reported = Vec::new(alloc);
     for row in rows {
         if row.change != Change::Kept {
-            told.push(*row)?;
+            reported.push(*row)?;
         }
     }
-    Ok(told)
+    Ok(reported)
 }
 
 /// Appends the line of each row to the text.

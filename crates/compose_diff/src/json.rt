@@ -4,7 +4,7 @@ ghost use Rattle.compose_shown.specs.Shown as shown;
 ghost use Rattle.compose_diff.specs.Json as words;
 
 use crate::line::change_word;
-use crate::row::{DiffRow, Entry, NewSequence};
+use crate::row::{DiffRow, NewSequence, TextPlace};
 use std::alloc::{AllocError, Global};
 use std::fmt::Write;
 
@@ -134,7 +134,7 @@ fn push_others(text: &mut String, texts: &[&str]) -> Result<(), AllocError>
 }
 
 /// Appends the text that a table has, or `null`, to the text.
-fn push_text(text: &mut String, entry: &Option<Entry>) -> Result<(), AllocError>
+fn push_text(text: &mut String, entry: &Option<TextPlace>) -> Result<(), AllocError>
     ensures { OnOk result
         (string_bytes text.new ≡ string_bytes text.old ++ words.json_text entry.now) }
 {
@@ -145,7 +145,7 @@ fn push_text(text: &mut String, entry: &Option<Entry>) -> Result<(), AllocError>
 }
 
 /// Appends the members for the place of a definition to the text.
-fn push_place(text: &mut String, side: &str, entry: &Option<Entry>) -> Result<(), AllocError>
+fn push_place(text: &mut String, side: &str, entry: &Option<TextPlace>) -> Result<(), AllocError>
     ensures { OnOk result
         (string_bytes text.new ≡ string_bytes text.old ++ words.json_place side.now entry.now) }
 {

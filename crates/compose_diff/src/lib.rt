@@ -21,10 +21,10 @@ ghost use Rattle.compose_diff.specs.declared.overlaps.Overlaps.{Overlaps};
 ghost use Rattle.compose_diff.specs.declared.row.DiffRow.{DiffRow};
 ghost use Rattle.compose_diff.specs.Causes.{is_gone, are_removed};
 ghost use Rattle.compose_diff.specs.Groups.{groups, all_of, IsGroup};
-ghost use Rattle.compose_diff.specs.Folds.{told};
+ghost use Rattle.compose_diff.specs.Folds.{reported};
 ghost use Rattle.compose_diff.specs.Accepted.{has_key, accept_lines, AcceptsAll};
-ghost use Rattle.compose_diff.specs.Told.{answer_text};
-ghost use Rattle.compose_diff.specs.Colors.{colored_lines, uncolored};
+ghost use Rattle.compose_diff.specs.Reported.{answer_text};
+ghost use Rattle.compose_diff.specs.Colors.{colored_lines, uncolored_text};
 
 mod accepted;
 mod answer;
@@ -52,7 +52,7 @@ pub use line::is_loss;
 pub use lost::{is_lost, lost_rows};
 pub use order::sort_rows;
 pub use overlaps::{Overlaps, push_overlaps};
-pub use row::{DiffRow, Entry, NewSequence};
+pub use row::{DiffRow, NewSequence, TextPlace};
 
 /// Each group of rows has all rows that fold together with one row, in their order, or is a single
 /// row that folds together with none.
@@ -63,7 +63,7 @@ pub fn law_groups()
 
 /// Each row that remains is in exactly one group, and so in one line ([`folded_text`]): none is
 /// omitted or repeated.
-pub fn law_told()
+pub fn law_reported_rows()
     ensures { (rows left : List DiffRow) → IsPermutation left (all_of (groups (is_gone rows left) left)) }
 {}
 
@@ -71,7 +71,7 @@ pub fn law_told()
 /// the old table has in this source is removed.
 pub fn law_gone()
     ensures { (keep : DiffRow → Bool) (rows : List DiffRow) (source : ℕ)
-        → IsTrue (is_gone rows (told (filter keep rows)) source)
+        → IsTrue (is_gone rows (reported (filter keep rows)) source)
         → IsTrue (are_removed source rows) }
 {}
 
@@ -86,6 +86,6 @@ pub fn law_accept_text()
 /// An answer in colours ([`colored_text`]) without its escape sequences is the answer.
 pub fn law_colors()
     ensures { (printed : Printed) (overlaps : Overlaps) (rows left : List DiffRow)
-        → uncolored (colored_lines (lines (answer_text printed overlaps rows left)))
+        → uncolored_text (colored_lines (lines (answer_text printed overlaps rows left)))
         ≡ answer_text printed overlaps rows left }
 {}

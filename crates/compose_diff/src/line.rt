@@ -2,7 +2,7 @@
 ghost use Rattle.std.specs.Prelude.{◌≡◌, ◌++◌, map, OnOk, string_bytes};
 ghost use Rattle.compose_diff.specs.Line as words;
 
-use crate::row::{DiffRow, Entry, NewSequence};
+use crate::row::{DiffRow, NewSequence, TextPlace};
 use compose_compare::Change;
 use compose_lex::quote;
 use compose_shown::Shown;
@@ -51,7 +51,7 @@ fn push_key_names(text: &mut String, keys: &[&str]) -> Result<(), AllocError>
 pub(crate) fn push_quoted(
     alloc: Global,
     text: &mut String,
-    entry: &Option<Entry>,
+    entry: &Option<TextPlace>,
 ) -> Result<(), AllocError>
     ensures { OnOk result
         (string_bytes text.new ≡ string_bytes text.old ++ words.text_part entry.now) }
@@ -68,7 +68,7 @@ pub(crate) fn push_quoted(
 }
 
 /// Appends the place of a definition, if a table has it, to the text.
-pub(crate) fn push_place(text: &mut String, entry: &Option<Entry>) -> Result<(), AllocError>
+pub(crate) fn push_place(text: &mut String, entry: &Option<TextPlace>) -> Result<(), AllocError>
     ensures { OnOk result
         (string_bytes text.new ≡ string_bytes text.old ++ words.place_part entry.now) }
 {

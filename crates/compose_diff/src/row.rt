@@ -3,7 +3,7 @@ use compose_compare::Change;
 
 /// What a table has for a sequence: its text, and the place of the definition that counts.
 #[derive(Clone, Copy, Debug)]
-pub struct Entry<'a> {
+pub struct TextPlace<'a> {
     /// The text of the sequence.
     pub text: &'a str,
     /// The index of the source among those of its table, from 0.
@@ -33,9 +33,9 @@ pub struct DiffRow<'a> {
     /// The names of its keys, as they are written in the file.
     pub keys: &'a [&'a str],
     /// What the old table has for it, if it has the sequence.
-    pub old: Option<Entry<'a>>,
+    pub old: Option<TextPlace<'a>>,
     /// What the new table has for it, if it has the sequence.
-    pub new: Option<Entry<'a>>,
+    pub new: Option<TextPlace<'a>>,
     /// For a waiting sequence: the first of the shortest sequences of the new table that begin with
     /// it and go on.
     pub longer: Option<NewSequence<'a>>,

@@ -8,7 +8,7 @@ use Rattle.compose_model.specs.Table.{Definition}
 use Rattle.compose_model.specs.Nodes.{leaves}
 use Rattle.compose_model.specs.declared.Rule.{Rule}
 use Rattle.compose_read.specs.Lines.{Source}
-use Rattle.compose_tree.specs.TableGives.{NoTable, first_table}
+use Rattle.compose_tree.specs.TableReturns.{NoTable, first_table}
 use Rattle.compose_migration.specs.Migration.{GivenMigration, NamedParts, Parts, NoMigration, no_table, or_because, named, migration_of}
 use Rattle.compose_migration.specs.declared.fault.Side.TheVariants.{Old, New}
 use Rattle.compose_places.specs.Counting.{counting_line, read_lines, AreLines}

@@ -31,31 +31,31 @@ use Rattle.compose_compare.specs.declared.Change.{Change}
 use Rattle.compose_compare.specs.declared.Change.TheVariants.{Kept, Changed, Waiting, Removed, Added, NewStart}
 use Rattle.compose_compare.specs.Change.{change, is_harmless}
 use Rattle.compose_compare.specs.Change as compare
-use Rattle.compose_compare.proofs.Told as tables
-use Rattle.compose_diff.specs.Accepted.{Line, accepted_of, is_accepted, is_stale, left_of, tells}
+use Rattle.compose_compare.proofs.Reported as tables
+use Rattle.compose_diff.specs.Accepted.{Line, accepted_of, is_accepted, is_stale, left_of, matches_text}
 use Rattle.compose_diff.specs.Counts.{loses_nothing}
 use Rattle.compose_diff.specs.Line.{row_text, text_part, keys_text, key_names}
 use Rattle.compose_diff.specs.declared.accepted.AcceptFault.{AcceptFault}
 use Rattle.compose_diff.specs.declared.accepted.AcceptFault.TheVariants.{Stale}
 use Rattle.compose_diff.specs.declared.row.DiffRow.{DiffRow}
 use Rattle.compose_diff.specs.declared.overlaps.Overlaps.{Overlaps}
-use Rattle.compose_diff.specs.declared.row.Entry.{Entry}
-use Rattle.compose_diff_rows.specs.Answers.{Asked, IsDiff, IsTold, AreRows, overlaps_in, compared, compared_parts, old_written, new_written, tells_kept}
-use Rattle.compose_diff_rows.specs.Following.{IsYes, AreMeant, entry_text, told_text, is_named, is_meant}
-use Rattle.compose_diff_rows.specs.Rows.{ToldRow, Written, told_row, told_entry, row_of, kept_row, kept_rows, told_rows, is_told, is_told_of}
+use Rattle.compose_diff.specs.declared.row.TextPlace.{TextPlace}
+use Rattle.compose_diff_rows.specs.Answers.{Asked, IsDiff, IsFormAnswer, AreRows, overlaps_in, compared, compared_parts, old_written, new_written, reports_kept}
+use Rattle.compose_diff_rows.specs.Following.{IsYes, AreMeant, entry_text, reported_text, is_named, is_meant}
+use Rattle.compose_diff_rows.specs.Rows.{ReportedRow, Written, reported_row, reported_entry, row_of, kept_row, kept_rows, reported_rows, is_reported, is_reported_of}
 use Rattle.compose_diff_rows.specs.declared.asking.Form.{Form}
 
 -- ---- yes, by the rows that are left
 
-yes_is : (form : Form) (lost_alone : Bool) (overlaps : Overlaps) (rows left : List DiffRow) (answer : Answer) → IsTold form lost_alone overlaps rows left answer → IsYes answer ↔ loses_nothing left ≡ true
-yes_is form lost_alone overlaps rows left (Yes text) told = ((λ yes. told.0), (λ none. tt))
-yes_is form lost_alone overlaps rows left (No text) told = ((λ yes. absurd yes), (λ none. clash (loses_nothing left) none told.0))
+yes_is : (form : Form) (lost_alone : Bool) (overlaps : Overlaps) (rows left : List DiffRow) (answer : Answer) → IsFormAnswer form lost_alone overlaps rows left answer → IsYes answer ↔ loses_nothing left ≡ true
+yes_is form lost_alone overlaps rows left (Yes text) reported = ((λ yes. reported.0), (λ none. tt))
+yes_is form lost_alone overlaps rows left (No text) reported = ((λ yes. absurd yes), (λ none. clash (loses_nothing left) none reported.0))
   where
     clash : (b : Bool) → b ≡ true → not b ≡ true → ⊥
     clash true e f = cc
     clash false e f = cc
-yes_is form lost_alone overlaps rows left (Invalid fault) told = absurd told
-yes_is form lost_alone overlaps rows left (FreshNotAllowed keysym) told = absurd told
+yes_is form lost_alone overlaps rows left (Invalid fault) reported = absurd reported
+yes_is form lost_alone overlaps rows left (FreshNotAllowed keysym) reported = absurd reported
 
 same_lines : (lines read : List Line) (bytes : List ℕ) → accepted_of bytes ≡ Ok lines → accepted_of bytes ≡ Ok read → lines ≡ read
 same_lines lines read bytes f g = go (sym f ∙ g)
@@ -76,11 +76,11 @@ module _ (lines : List Line) where
 
   -- harmless, or named
   abbrev passes : DiffRow → Bool
-  passes row = is_harmless row.change || list_any (tells (row_text row)) lines
+  passes row = is_harmless row.change || list_any (matches_text (row_text row)) lines
 
   left_passes : (rows : List DiffRow) → loses_nothing (filter (λ row. not (is_accepted lines row)) rows) ≡ list_all passes rows
   left_passes [] = refl
-  left_passes (row ∷ rows) = go (is_harmless row.change) (list_any (tells (row_text row)) lines) refl (left_passes rows)
+  left_passes (row ∷ rows) = go (is_harmless row.change) (list_any (matches_text (row_text row)) lines) refl (left_passes rows)
     where
       rest : List DiffRow
       rest = filter (λ r. not (is_accepted lines r)) rows
@@ -92,10 +92,10 @@ module _ (lines : List Line) where
 
 -- ---- what is printed, by values
 
-printed : (row : DiffRow) → row_text row ≡ told_text (told_row row)
+printed : (row : DiffRow) → row_text row ≡ reported_text (reported_row row)
 printed row = ap₂ (λ old new. keys_text row.change (key_names row) ++ (old ++ new)) (part row.old) (part row.new)
   where
-    part : (o : Option Entry) → text_part o ≡ entry_text (option_map told_entry o)
+    part : (o : Option TextPlace) → text_part o ≡ entry_text (option_map reported_entry o)
     part None = refl
     part (Some entry) = refl
 
@@ -132,56 +132,56 @@ all_at p xs s all m = let x = both_at p (same s) xs all m in ap p (same_is s x.0
 -- ---- the rows of two tables
 
 module _ (names : KeysymNames) (fresh : List ℕ) (old new : Written) (whole : Bool) (lines : List Line) where
-  abbrev row : List ℕ → ToldRow
+  abbrev row : List ℕ → ReportedRow
   row = row_of names fresh old new
 
-  abbrev passes_told : ToldRow → Bool
-  passes_told r = is_harmless r.change || is_named lines r
+  abbrev passes_reported : ReportedRow → Bool
+  passes_reported r = is_harmless r.change || is_named lines r
 
   abbrev test : List ℕ → Bool
-  test = is_told_of whole names fresh old.table new.table
+  test = is_reported_of whole names fresh old.table new.table
 
   -- a sequence without a row is harmless
-  untold : (w : Bool) (c : Change) (b : Bool) → is_told w c ≡ false → is_harmless c || b ≡ true
-  untold w Kept b h = refl
-  untold w Changed b h = let clash : true ≡ false = h in cc
-  untold w Waiting b h = let clash : true ≡ false = h in cc
-  untold w Removed b h = let clash : true ≡ false = h in cc
-  untold w Added b h = let clash : true ≡ false = h in cc
-  untold w NewStart b h = let clash : true ≡ false = h in cc
+  unreported : (w : Bool) (c : Change) (b : Bool) → is_reported w c ≡ false → is_harmless c || b ≡ true
+  unreported w Kept b h = refl
+  unreported w Changed b h = let clash : true ≡ false = h in cc
+  unreported w Waiting b h = let clash : true ≡ false = h in cc
+  unreported w Removed b h = let clash : true ≡ false = h in cc
+  unreported w Added b h = let clash : true ≡ false = h in cc
+  unreported w NewStart b h = let clash : true ≡ false = h in cc
 
-  all_told : list_all passes_told (told_rows whole names fresh old new)
-      ≡ list_all (λ s. not (test s) || passes_told (row s)) (leaves old.table) && list_all (λ s. not (not (is_sequence old.table s)) || passes_told (row s)) (leaves new.table)
-  all_told =
-      list_all-append passes_told (map row (filter test (leaves old.table))) (map row (filter (λ s. not (is_sequence old.table s)) (leaves new.table)))
-      ∙ ap₂ (λ a b. a && b) (list_all-map passes_told row (filter test (leaves old.table)) ∙ filtered (λ s. passes_told (row s)) test (leaves old.table))
-      (list_all-map passes_told row (filter (λ s. not (is_sequence old.table s)) (leaves new.table)) ∙ filtered (λ s. passes_told (row s)) (λ s. not (is_sequence old.table s)) (leaves new.table))
+  all_reported : list_all passes_reported (reported_rows whole names fresh old new)
+      ≡ list_all (λ s. not (test s) || passes_reported (row s)) (leaves old.table) && list_all (λ s. not (not (is_sequence old.table s)) || passes_reported (row s)) (leaves new.table)
+  all_reported =
+      list_all-append passes_reported (map row (filter test (leaves old.table))) (map row (filter (λ s. not (is_sequence old.table s)) (leaves new.table)))
+      ∙ ap₂ (λ a b. a && b) (list_all-map passes_reported row (filter test (leaves old.table)) ∙ filtered (λ s. passes_reported (row s)) test (leaves old.table))
+      (list_all-map passes_reported row (filter (λ s. not (is_sequence old.table s)) (leaves new.table)) ∙ filtered (λ s. passes_reported (row s)) (λ s. not (is_sequence old.table s)) (leaves new.table))
 
-  told_each : list_all passes_told (told_rows whole names fresh old new) ≡ true → (s : List ℕ) → is_sequence old.table s || is_sequence new.table s ≡ true → passes_told (row s) ≡ true
-  told_each h s either =
-      let parts = and_parts (list_all (λ t. not (test t) || passes_told (row t)) (leaves old.table)) (list_all (λ t. not (not (is_sequence old.table t)) || passes_told (row t)) (leaves new.table)) (sym all_told ∙ h) in
+  reported_each : list_all passes_reported (reported_rows whole names fresh old new) ≡ true → (s : List ℕ) → is_sequence old.table s || is_sequence new.table s ≡ true → passes_reported (row s) ≡ true
+  reported_each h s either =
+      let parts = and_parts (list_all (λ t. not (test t) || passes_reported (row t)) (leaves old.table)) (list_all (λ t. not (not (is_sequence old.table t)) || passes_reported (row t)) (leaves new.table)) (sym all_reported ∙ h) in
       elim (cases_Bool (is_sequence old.table s)) [
-        | inl o ↦ by_test (test s) refl (all_at (λ t. not (test t) || passes_told (row t)) (leaves old.table) s parts.0 (leaf_means old.table s ∙ o))
+        | inl o ↦ by_test (test s) refl (all_at (λ t. not (test t) || passes_reported (row t)) (leaves old.table) s parts.0 (leaf_means old.table s ∙ o))
         | inr o ↦
-            ap (λ b. not (not b) || passes_told (row s)) (sym o)
-            ∙ all_at (λ t. not (not (is_sequence old.table t)) || passes_told (row t)) (leaves new.table) s parts.1 (leaf_means new.table s ∙ ap (λ b. b || is_sequence new.table s) (sym o) ∙ either)
+            ap (λ b. not (not b) || passes_reported (row s)) (sym o)
+            ∙ all_at (λ t. not (not (is_sequence old.table t)) || passes_reported (row t)) (leaves new.table) s parts.1 (leaf_means new.table s ∙ ap (λ b. b || is_sequence new.table s) (sym o) ∙ either)
       ]
     where
-      by_test : (b : Bool) → test s ≡ b → not (test s) || passes_told (row s) ≡ true → passes_told (row s) ≡ true
-      by_test true e at = ap (λ b. not b || passes_told (row s)) (sym e) ∙ at
-      by_test false e at = untold whole (change names fresh old.table new.table s) (is_named lines (row s)) e
+      by_test : (b : Bool) → test s ≡ b → not (test s) || passes_reported (row s) ≡ true → passes_reported (row s) ≡ true
+      by_test true e at = ap (λ b. not b || passes_reported (row s)) (sym e) ∙ at
+      by_test false e at = unreported whole (change names fresh old.table new.table s) (is_named lines (row s)) e
 
-  each_told : ((s : List ℕ) → is_sequence old.table s || is_sequence new.table s ≡ true → passes_told (row s) ≡ true) → list_all passes_told (told_rows whole names fresh old new) ≡ true
-  each_told f =
-      all_told
-      ∙ and_from (list_all (λ t. not (test t) || passes_told (row t)) (leaves old.table)) (list_all (λ t. not (not (is_sequence old.table t)) || passes_told (row t)) (leaves new.table))
-      (all_lists (λ t. not (test t) || passes_told (row t)) (leaves old.table)
-      (λ s m. or_right (not (test s)) (passes_told (row s)) (f s (or_left (is_sequence old.table s) (is_sequence new.table s) (sym (leaf_means old.table s) ∙ m)))))
-      (all_lists (λ t. not (not (is_sequence old.table t)) || passes_told (row t)) (leaves new.table)
-      (λ s m. or_right (not (not (is_sequence old.table s))) (passes_told (row s)) (f s (or_right (is_sequence old.table s) (is_sequence new.table s) (sym (leaf_means new.table s) ∙ m)))))
+  each_reported : ((s : List ℕ) → is_sequence old.table s || is_sequence new.table s ≡ true → passes_reported (row s) ≡ true) → list_all passes_reported (reported_rows whole names fresh old new) ≡ true
+  each_reported f =
+      all_reported
+      ∙ and_from (list_all (λ t. not (test t) || passes_reported (row t)) (leaves old.table)) (list_all (λ t. not (not (is_sequence old.table t)) || passes_reported (row t)) (leaves new.table))
+      (all_lists (λ t. not (test t) || passes_reported (row t)) (leaves old.table)
+      (λ s m. or_right (not (test s)) (passes_reported (row s)) (f s (or_left (is_sequence old.table s) (is_sequence new.table s) (sym (leaf_means old.table s) ∙ m)))))
+      (all_lists (λ t. not (not (is_sequence old.table t)) || passes_reported (row t)) (leaves new.table)
+      (λ s m. or_right (not (not (is_sequence old.table s))) (passes_reported (row s)) (f s (or_right (is_sequence old.table s) (is_sequence new.table s) (sym (leaf_means new.table s) ∙ m)))))
 
   -- kept rows are harmless
-  kept_pass : (xs : List (List ℕ)) → list_all passes_told (map (kept_row old) xs) ≡ true
+  kept_pass : (xs : List (List ℕ)) → list_all passes_reported (map (kept_row old) xs) ≡ true
   kept_pass [] = refl
   kept_pass (x ∷ xs) = kept_pass xs
 
@@ -195,20 +195,20 @@ module _ (asked : Asked) (e : Explainable) where
   new = new_written asked e
 
   rows_pass : (lines : List Line) (rows : List DiffRow) (are : AreRows asked e rows)
-      → list_all (passes lines) rows ≡ list_all (passes_told e.move.names e.fresh old new (tells_kept asked.form) lines) (map told_row are.told)
+      → list_all (passes lines) rows ≡ list_all (passes_reported e.move.names e.fresh old new (reports_kept asked.form) lines) (map reported_row are.reported)
   rows_pass lines rows are =
-      ap (list_all (passes lines)) are.both ∙ list_all-append (passes lines) are.told are.kept
-      ∙ ap₂ (λ a b. a && b) (by_value are.told)
-      (by_value are.kept ∙ ap (list_all passes_here) are.others ∙ kept_pass e.move.names e.fresh old new (tells_kept asked.form) lines
-      (filter (λ s. not (is_told_of (tells_kept asked.form) e.move.names e.fresh old.table new.table s)) (leaves old.table)))
-      ∙ and_true (list_all passes_here (map told_row are.told))
+      ap (list_all (passes lines)) are.both ∙ list_all-append (passes lines) are.reported are.kept
+      ∙ ap₂ (λ a b. a && b) (by_value are.reported)
+      (by_value are.kept ∙ ap (list_all passes_here) are.others ∙ kept_pass e.move.names e.fresh old new (reports_kept asked.form) lines
+      (filter (λ s. not (is_reported_of (reports_kept asked.form) e.move.names e.fresh old.table new.table s)) (leaves old.table)))
+      ∙ and_true (list_all passes_here (map reported_row are.reported))
     where
-      passes_here : ToldRow → Bool
-      passes_here = passes_told e.move.names e.fresh old new (tells_kept asked.form) lines
+      passes_here : ReportedRow → Bool
+      passes_here = passes_reported e.move.names e.fresh old new (reports_kept asked.form) lines
 
-      by_value : (xs : List DiffRow) → list_all (passes lines) xs ≡ list_all passes_here (map told_row xs)
+      by_value : (xs : List DiffRow) → list_all (passes lines) xs ≡ list_all passes_here (map reported_row xs)
       by_value [] = refl
-      by_value (x ∷ xs) = ap₂ (λ t b. (is_harmless x.change || list_any (tells t) lines) && b) (printed x) (by_value xs)
+      by_value (x ∷ xs) = ap₂ (λ t b. (is_harmless x.change || list_any (matches_text t) lines) && b) (printed x) (by_value xs)
 
       and_true : (b : Bool) → b && true ≡ b
       and_true true = refl
@@ -217,19 +217,19 @@ module _ (asked : Asked) (e : Explainable) where
   -- yes exactly if each harmful change is named
   pub meant_is : (answer : Answer) (lines : List Line) → IsDiff asked e answer → accepted_of asked.accepted ≡ Ok lines → IsYes answer ↔ AreMeant asked e lines
   meant_is answer lines diff read =
-      let yes = yes_is asked.form asked.lost_alone (overlaps_in asked e) diff.rows diff.left answer diff.told in
-      let all : loses_nothing diff.left ≡ list_all passes_here (map told_row diff.are.told) =
+      let yes = yes_is asked.form asked.lost_alone (overlaps_in asked e) diff.rows diff.left answer diff.reported in
+      let all : loses_nothing diff.left ≡ list_all passes_here (map reported_row diff.are.reported) =
       ap loses_nothing (left_is diff.lines diff.rows diff.left diff.leaves) ∙ left_passes diff.lines diff.rows
       ∙ ap (λ (ls : List Line). list_all (passes ls) diff.rows) (same_lines diff.lines lines asked.accepted diff.read read) ∙ rows_pass lines diff.rows diff.are in (
-        (λ y. told_each e.move.names e.fresh old new whole lines (moved passes_here (map told_row diff.are.told) (told_rows whole e.move.names e.fresh old new) (IsPermutation-sym _ _ diff.are.each) (sym all ∙ yes.0 y))),
-        (λ meant. yes.1 (all ∙ moved passes_here (told_rows whole e.move.names e.fresh old new) (map told_row diff.are.told) diff.are.each (each_told e.move.names e.fresh old new whole lines meant))),
+        (λ y. reported_each e.move.names e.fresh old new whole lines (moved passes_here (map reported_row diff.are.reported) (reported_rows whole e.move.names e.fresh old new) (IsPermutation-sym _ _ diff.are.each) (sym all ∙ yes.0 y))),
+        (λ meant. yes.1 (all ∙ moved passes_here (reported_rows whole e.move.names e.fresh old new) (map reported_row diff.are.reported) diff.are.each (each_reported e.move.names e.fresh old new whole lines meant))),
       )
     where
       whole : Bool
-      whole = tells_kept asked.form
+      whole = reports_kept asked.form
 
-      passes_here : ToldRow → Bool
-      passes_here = passes_told e.move.names e.fresh old new whole lines
+      passes_here : ReportedRow → Bool
+      passes_here = passes_reported e.move.names e.fresh old new whole lines
 
 -- ---- no accepted lines
 
@@ -266,7 +266,7 @@ follows_is asked e answer is diff read =
     or_false false = refl
 
     all_harmless : AreMeant asked e [] → compare.loses_nothing e.move.names e.fresh e.move.old e.move.new ≡ true
-    all_harmless meant = all_lists harmless (leaves (e.move.old ++ e.move.new)) (λ s m. sym (or_false (harmless s)) ∙ meant s (sym (tables.told e.move.old e.move.new s) ∙ m))
+    all_harmless meant = all_lists harmless (leaves (e.move.old ++ e.move.new)) (λ s m. sym (or_false (harmless s)) ∙ meant s (sym (tables.reported e.move.old e.move.new s) ∙ m))
 
     each_harmless : compare.loses_nothing e.move.names e.fresh e.move.old e.move.new ≡ true → AreMeant asked e []
-    each_harmless all = λ s h. or_false (harmless s) ∙ all_at harmless (leaves (e.move.old ++ e.move.new)) s all (tables.told e.move.old e.move.new s ∙ h)
+    each_harmless all = λ s h. or_false (harmless s) ∙ all_at harmless (leaves (e.move.old ++ e.move.new)) s all (tables.reported e.move.old e.move.new s ∙ h)

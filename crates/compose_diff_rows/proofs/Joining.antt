@@ -14,7 +14,7 @@ use Rattle.compose_fresh.specs.Fresh.{fresh_conditions}
 use Rattle.compose_fresh.specs.declared.fault.CheckFault.{CheckFault}
 use Rattle.compose_walk.specs.declared.fault.MakeFault.TheVariants.{BadFresh}
 use Rattle.compose_migration.specs.Migration.{GivenMigration, Parts, migration_of}
-use Rattle.compose_migration.specs.MigrationGives.{MigrationRefused}
+use Rattle.compose_migration.specs.MigrationReturns.{MigrationRefused}
 use Rattle.compose_migration.specs.declared.fault.MigrationFault.{MigrationFault}
 use Rattle.compose_answer.specs.Parts.{NoAnswer, Explainable, no_fresh, migration_parts}
 use Rattle.compose_answer.specs.Refused.{IsRefused, migration_raised}
@@ -22,11 +22,11 @@ use Rattle.compose_answer.specs.declared.answer.Answer.{Answer}
 use Rattle.compose_answer.specs.declared.refusal.Refusal.{Refusal}
 use Rattle.compose_answer.specs.declared.refusal.Refusal.TheVariants as refusals
 use Rattle.compose_answer.proofs.Refusals.{migration_refused, unmoved}
-use Rattle.compose_diff.specs.Accepted.{Line, said_from, accepted_of, is_in_form, Gives}
+use Rattle.compose_diff.specs.Accepted.{Line, list_lines_from, accepted_of, is_in_form, Returns}
 use Rattle.compose_diff.specs.declared.accepted.AcceptFault.{AcceptFault}
 use Rattle.compose_diff.specs.declared.accepted.AcceptFault.TheVariants.{Stale, BadLine, NoMemory}
 use Rattle.compose_diff_rows.specs.Answers.{Asked, compared, compared_parts, AnswersDiff}
-use Rattle.compose_diff_rows.specs.Steps.{accept_raised, TellsDiff}
+use Rattle.compose_diff_rows.specs.Steps.{accept_raised, AnswersCompared}
 use Rattle.compose_diff_rows.specs.declared.asking.DiffFault.{DiffFault}
 use Rattle.compose_diff_rows.specs.declared.asking.DiffFault.TheVariants.{Input, Accept}
 
@@ -49,7 +49,7 @@ module _ (given : GivenMigration) where
   pub unread_refused : (fault : MigrationFault) → MigrationRefused fault (migration_of given) → IsRefused (migration_raised fault) (compared_parts given)
   unread_refused fault h = step_refused (migration_raised fault) (migration_parts given) compared (migration_refused fault (migration_of given) h)
 
-  module _ (said move : Parts) (was : migration_of given ≡ Ok said) (is : said ≡ move) where
+  module _ (expected move : Parts) (was : migration_of given ≡ Ok expected) (is : expected ≡ move) where
     -- once the migration is read, what is compared depends on it
     pub after_read : compared_parts given ≡ compared move
     after_read = ap (λ r. unmoved r >>= compared) was ∙ ap compared is
@@ -83,7 +83,7 @@ module _ (move : Parts) (fresh seen : List ℕ) (is : fresh ≡ rising nat_cmp m
 
 -- if the list is read, no line is stale
 not_stale : (bytes : List ℕ) (n : ℕ) → accepted_of bytes ≡ Err (Stale n) → ⊥
-not_stale bytes n h = go (said_from 1 (lines_of bytes)) (find (λ line. not (is_in_form line)) (said_from 1 (lines_of bytes))) h
+not_stale bytes n h = go (list_lines_from 1 (lines_of bytes)) (find (λ line. not (is_in_form line)) (list_lines_from 1 (lines_of bytes))) h
   where
     go : (lines : List Line) (found : Option Line) → (let r : Result (List Line) AcceptFault = option_map_or (λ (line : Line). Err (BadLine line.number)) found (Ok lines) in r) ≡ Err (Stale n) → ⊥
     go lines None h = cc
@@ -93,18 +93,18 @@ not_stale bytes n h = go (said_from 1 (lines_of bytes)) (find (λ line. not (is_
 
 module _ (asked : Asked) (e : Explainable) (is : compared_parts asked.migration ≡ Ok e) where
   -- for what is compared, the first line that is not in the required form is refused; or memory ran out
-  pub accept_refused : (fault : AcceptFault) → Gives {A = List Line} (Err fault) (accepted_of asked.accepted) → AnswersDiff asked (Err (accept_raised fault))
+  pub accept_refused : (fault : AcceptFault) → Returns {A = List Line} (Err fault) (accepted_of asked.accepted) → AnswersDiff asked (Err (accept_raised fault))
   accept_refused (Stale n) h = absurd (not_stale asked.accepted n h)
   accept_refused (BadLine n) h = (e, is, h)
   accept_refused NoMemory h = tt
 
   -- the answer on both tables, if the lines of the list are read
-  pub told_of : (lines : List Line) → accepted_of asked.accepted ≡ Ok lines → (r : Result Answer DiffFault) → TellsDiff asked e lines r → AnswersDiff asked r
-  told_of lines read (Ok answer) h = let tells = h.3 in (e, is, record { lines = lines; rows = h.0; left = tells.0; tables = h.1; read = read; are = h.2; leaves = tells.1; told = tells.2 })
-  told_of lines read (Err (Input refusal)) h = subst (λ (x : Refusal). IsRefused x (compared_parts asked.migration)) (sym h) tt
-  told_of lines read (Err (Accept (Stale n))) h = (e, is, record { lines = lines; rows = h.0; read = read; are = h.1; stale = h.2 })
-  told_of lines read (Err (Accept (BadLine n))) h = absurd h.2
-  told_of lines read (Err (Accept NoMemory)) h = absurd h.2
+  pub reported_of : (lines : List Line) → accepted_of asked.accepted ≡ Ok lines → (r : Result Answer DiffFault) → AnswersCompared asked e lines r → AnswersDiff asked r
+  reported_of lines read (Ok answer) h = let matches_text = h.3 in (e, is, record { lines = lines; rows = h.0; left = matches_text.0; tables = h.1; read = read; are = h.2; leaves = matches_text.1; reported = matches_text.2 })
+  reported_of lines read (Err (Input refusal)) h = subst (λ (x : Refusal). IsRefused x (compared_parts asked.migration)) (sym h) tt
+  reported_of lines read (Err (Accept (Stale n))) h = (e, is, record { lines = lines; rows = h.0; read = read; are = h.1; stale = h.2 })
+  reported_of lines read (Err (Accept (BadLine n))) h = absurd h.2
+  reported_of lines read (Err (Accept NoMemory)) h = absurd h.2
 
 -- a fault that is passed on is that of the whole
 pub handed_on : (asked : Asked) (r : Result Answer DiffFault) (fault : DiffFault) → IsErrAnd r (λ e. e ≡ fault) → AnswersDiff asked (Err fault) → AnswersDiff asked r

@@ -26,13 +26,13 @@ extended_before table q r h = list_any-weaker (λ (d : Definition). is_proper_pr
 
 module _ (names : KeysymNames) (table : List Definition) where
   -- the node to which the keys lead from q; or no sequences go on from where they lead
-  abbrev pub Led : List ℕ → List (List ℕ) → Option NodeId → Type 0
-  Led q keys found = MatchOption found ((s : List ℕ) → sequence_named names keys ≡ Some s → is_extended table (q ++ s) ≡ false)
+  abbrev pub KeysLead : List ℕ → List (List ℕ) → Option NodeId → Type 0
+  KeysLead q keys found = MatchOption found ((s : List ℕ) → sequence_named names keys ≡ Some s → is_extended table (q ++ s) ≡ false)
       (λ node. (s : List ℕ) × (sequence_named names keys ≡ Some s) × (node.0 < length (nodes table)) × (nodes_words.node table node.0 ≡ q ++ s))
 
   module _ (p key : List ℕ) (rest : List (List ℕ)) where
     -- a name without a keysym leads nowhere
-    pub unknown : None ≡ value names key → Led p (key ∷ rest) None
+    pub unknown : None ≡ value names key → KeysLead p (key ∷ rest) None
     unknown h s e = absurd (let clash = sym (ap (option_and_then (λ k. option_map (λ t. k ∷ t) (sequence_named names rest))) (sym h)) ∙ e in cc)
 
     module _ (k : ℕ) (is : Some k ≡ value names key) where
@@ -52,14 +52,14 @@ module _ (names : KeysymNames) (table : List Definition) where
       joined s b = ap (λ x. p ++ x) b.whole ∙ sym (append_assoc p (k ∷ []) b.tail)
 
       -- a key after which no sequence goes on
-      pub nowhere : is_extended table (p ++ k ∷ []) ≡ false → Led p (key ∷ rest) None
+      pub nowhere : is_extended table (p ++ k ∷ []) ≡ false → KeysLead p (key ∷ rest) None
       nowhere h s e = let b = behind s e in ap (is_extended table) (joined s b) ∙ elim (cases_Bool (is_extended table ((p ++ k ∷ []) ++ b.tail))) [
         | inl f ↦ absurd (let clash = sym (extended_before table (p ++ k ∷ []) b.tail f) ∙ h in cc)
         | inr f ↦ f
       ]
 
       -- a key that leads to a node
-      pub onward : (q : List ℕ) → p ++ k ∷ [] ≡ q → (found : Option NodeId) → Led q rest found → Led p (key ∷ rest) found
+      pub onward : (q : List ℕ) → p ++ k ∷ [] ≡ q → (found : Option NodeId) → KeysLead q rest found → KeysLead p (key ∷ rest) found
       onward q here None h = λ s e. (let b = behind s e in ap (is_extended table) (joined s b ∙ ap (λ x. x ++ b.tail) here) ∙ h b.tail b.named)
       onward q here (Some node) h = (
         k ∷ h.0,
@@ -69,7 +69,7 @@ module _ (names : KeysymNames) (table : List Definition) where
       )
 
   -- without keys, the node stays the same
-  pub no_keys : (q : List ℕ) (node : NodeId) → node.0 < length (nodes table) → nodes_words.node table node.0 ≡ q → Led q [] (Some node)
+  pub no_keys : (q : List ℕ) (node : NodeId) → node.0 < length (nodes table) → nodes_words.node table node.0 ≡ q → KeysLead q [] (Some node)
   no_keys q node below is = ([], refl, below, is ∙ sym (append-nil q))
 
 -- ---- the longer sequence

@@ -15,7 +15,7 @@ use Rattle.compose_compare.specs.declared.Change.{Change}
 use Rattle.compose_compare.specs.declared.Change.TheVariants.{Kept, Changed, Waiting, Removed, Added, NewStart}
 use Rattle.compose_compare.specs.Change.{agree_along, is_new_start, change, old_changes, new_changes}
 use Rattle.compose_diff.specs.Counts.{is_same}
-use Rattle.compose_diff_rows.specs.Rows.{ToldEntry, ToldRow, Written, WrittenSequence, sequence_at, sequence_in, line_of, keys_of, entry_at, entry_of, now_of, longer_in, row_of, told_of, new_told, old_row, new_row}
+use Rattle.compose_diff_rows.specs.Rows.{ReportedEntry, ReportedRow, Written, WrittenSequence, sequence_at, sequence_in, line_of, keys_of, entry_at, entry_of, now_of, longer_in, row_of, reported_of, new_reported, old_row, new_row}
 use Rattle.compose_diff_rows.proofs.Leaves.{number_of_leaf, leaf_there, leaf_at_number, keys_there}
 
 -- ---- what a table has for a leaf
@@ -57,7 +57,7 @@ not_waiting {X = X} c found h = sym (ap (λ b. cond {A = Option X} b found None)
 module _ (names : KeysymNames) (fresh : List ℕ) (old new : Written) where
   -- for a sequence of the old table whose line writes its keys
   old_row_is : (s : List ℕ) → is_sequence old.table s ≡ true → sequence_named names (keys_of old s) ≡ Some s
-      → old_row names new (told_of names fresh old new old s) ≡ row_of names fresh old new s
+      → old_row names new (reported_of names fresh old new old s) ≡ row_of names fresh old new s
   old_row_is s h named = λ i. record {
     change = change names fresh old.table new.table s;
     keys = (ap (λ b. keys_of (cond b old new) s) (sym h)) i;
@@ -68,7 +68,7 @@ module _ (names : KeysymNames) (fresh : List ℕ) (old new : Written) where
   }
 
   -- for a sequence that only the new table has
-  new_row_is : (s : List ℕ) → is_sequence old.table s ≡ false → new_row (told_of names fresh old new new s) ≡ row_of names fresh old new s
+  new_row_is : (s : List ℕ) → is_sequence old.table s ≡ false → new_row (reported_of names fresh old new new s) ≡ row_of names fresh old new s
   new_row_is s h = λ i. record {
     change = change names fresh old.table new.table s;
     keys = (ap (λ b. keys_of (cond b old new) s) (sym h)) i;
@@ -80,8 +80,8 @@ module _ (names : KeysymNames) (fresh : List ℕ) (old new : Written) where
 
   -- for all reported sequences of the old table
   module _ (test : List ℕ → Bool) where
-    abbrev made : List ℕ → ToldRow
-    made s = old_row names new (told_of names fresh old new old s)
+    abbrev made : List ℕ → ReportedRow
+    made s = old_row names new (reported_of names fresh old new old s)
 
     along : (xs : List (List ℕ)) → ((i : ℕ) → i < length xs → (is_sequence old.table (get_or xs i []) ≡ true) × (sequence_named names (keys_of old (get_or xs i [])) ≡ Some (get_or xs i [])))
         → map made (filter test xs) ≡ map (row_of names fresh old new) (filter test xs)
@@ -95,25 +95,25 @@ module _ (names : KeysymNames) (fresh : List ℕ) (old new : Written) where
 
     -- if each line writes the keys of its sequence
     pub old_rows_are : AreLines names old.table old.lines
-        → map (old_row names new) (map (told_of names fresh old new old) (filter test (leaves old.table))) ≡ map (row_of names fresh old new) (filter test (leaves old.table))
+        → map (old_row names new) (map (reported_of names fresh old new old) (filter test (leaves old.table))) ≡ map (row_of names fresh old new) (filter test (leaves old.table))
     old_rows_are are =
-        map-map (old_row names new) (told_of names fresh old new old) (filter test (leaves old.table))
+        map-map (old_row names new) (reported_of names fresh old new old) (filter test (leaves old.table))
         ∙ along (leaves old.table) (λ i h. (leaf_there old.table i h, ap (sequence_named names) (keys_of_leaf old i h) ∙ keys_there old.table names old.lines are i h))
 
   -- and for all sequences that only the new table has
-  pub new_rows_are : map new_row (map (told_of names fresh old new new) (new_told old.table new.table)) ≡ map (row_of names fresh old new) (new_told old.table new.table)
-  new_rows_are = map-map new_row (told_of names fresh old new new) (new_told old.table new.table) ∙ go (leaves new.table)
+  pub new_rows_are : map new_row (map (reported_of names fresh old new new) (new_reported old.table new.table)) ≡ map (row_of names fresh old new) (new_reported old.table new.table)
+  new_rows_are = map-map new_row (reported_of names fresh old new new) (new_reported old.table new.table) ∙ go (leaves new.table)
     where
       go : (xs : List (List ℕ))
-          → map (λ s. new_row (told_of names fresh old new new s)) (filter (λ s. not (is_sequence old.table s)) xs)
+          → map (λ s. new_row (reported_of names fresh old new new s)) (filter (λ s. not (is_sequence old.table s)) xs)
           ≡ map (row_of names fresh old new) (filter (λ s. not (is_sequence old.table s)) xs)
       go [] = refl
       go (x ∷ xs) = by_test (is_sequence old.table x) refl (go xs)
         where
           by_test : (b : Bool) → is_sequence old.table x ≡ b
-              → map (λ s. new_row (told_of names fresh old new new s)) (filter (λ s. not (is_sequence old.table s)) xs)
+              → map (λ s. new_row (reported_of names fresh old new new s)) (filter (λ s. not (is_sequence old.table s)) xs)
               ≡ map (row_of names fresh old new) (filter (λ s. not (is_sequence old.table s)) xs)
-              → map (λ s. new_row (told_of names fresh old new new s)) (cond (not b) (x ∷ filter (λ s. not (is_sequence old.table s)) xs) (filter (λ s. not (is_sequence old.table s)) xs))
+              → map (λ s. new_row (reported_of names fresh old new new s)) (cond (not b) (x ∷ filter (λ s. not (is_sequence old.table s)) xs) (filter (λ s. not (is_sequence old.table s)) xs))
               ≡ map (row_of names fresh old new) (cond (not b) (x ∷ filter (λ s. not (is_sequence old.table s)) xs) (filter (λ s. not (is_sequence old.table s)) xs))
           by_test true h others = others
           by_test false h others = ap₂ (λ y ys. y ∷ ys) (new_row_is x h) others
@@ -125,9 +125,9 @@ module _ (w : Written) (i : ℕ) (below : i < length (leaves w.table)) where
   entry_without h = ap (option_map (entry_at w (get_or (leaves w.table) i []))) h ∙ sym (entry_of_leaf w i below)
 
   -- with one, the entry at its place
-  pub entry_with : (line : WrittenLine) (told : ToldEntry) → Some line ≡ get_or w.lines i None → told ≡ entry_at w (get_or (leaves w.table) i []) line
-      → Some told ≡ entry_of w (get_or (leaves w.table) i [])
-  entry_with line told h e = ap Some e ∙ ap (option_map (entry_at w (get_or (leaves w.table) i []))) h ∙ sym (entry_of_leaf w i below)
+  pub entry_with : (line : WrittenLine) (reported : ReportedEntry) → Some line ≡ get_or w.lines i None → reported ≡ entry_at w (get_or (leaves w.table) i []) line
+      → Some reported ≡ entry_of w (get_or (leaves w.table) i [])
+  entry_with line reported h e = ap Some e ∙ ap (option_map (entry_at w (get_or (leaves w.table) i []))) h ∙ sym (entry_of_leaf w i below)
 
   -- and the sequence as the line writes it
   sequence_of_leaf : sequence_in w (get_or (leaves w.table) i []) ≡ option_map (sequence_at w) (get_or w.lines i None)
@@ -140,9 +140,9 @@ module _ (w : Written) (i : ℕ) (below : i < length (leaves w.table)) where
   sequence_with line named h e = ap Some e ∙ ap (option_map (sequence_at w)) h ∙ sym sequence_of_leaf
 
 -- what a table has for a sequence whose number is known
-pub entry_numbered : (w : Written) (s : List ℕ) (n : ℕ) (o : Option ToldEntry) → is_sequence w.table s ≡ true → leaf_number w.table s ≡ n
+pub entry_numbered : (w : Written) (s : List ℕ) (n : ℕ) (o : Option ReportedEntry) → is_sequence w.table s ≡ true → leaf_number w.table s ≡ n
     → o ≡ entry_of w (get_or (leaves w.table) n []) → o ≡ entry_of w s
-entry_numbered w s n o h e told = told ∙ ap (λ m. entry_of w (get_or (leaves w.table) m [])) (sym e) ∙ ap (entry_of w) (leaf_at_number w.table s h)
+entry_numbered w s n o h e reported = reported ∙ ap (λ m. entry_of w (get_or (leaves w.table) m [])) (sym e) ∙ ap (entry_of w) (leaf_at_number w.table s h)
 
 -- ---- the rows so far
 
@@ -150,19 +150,19 @@ module _ {Y : Type 0} (test : List ℕ → Bool) (row_for : List ℕ → Y) (xs 
   with_next : filter test (take (i + 1) xs) ≡ filter test (take i xs) ++ cond (test (get_or xs i [])) (get_or xs i [] ∷ []) []
   with_next = ap (filter test) (take_more xs i [] h) ∙ filter-append test (take i xs) (get_or xs i [] ∷ [])
 
-  module _ {R : Type 0} (told : R → Y) (before : List Y) (rows : List R) (so_far : map told rows ≡ before ++ map row_for (filter test (take i xs))) where
+  module _ {R : Type 0} (reported : R → Y) (before : List Y) (rows : List R) (so_far : map reported rows ≡ before ++ map row_for (filter test (take i xs))) where
     -- a leaf that is reported
-    pub told_added : (row : R) → test (get_or xs i []) ≡ true → told row ≡ row_for (get_or xs i [])
-        → map told (rows ++ row ∷ []) ≡ before ++ map row_for (filter test (take (i + 1) xs))
-    told_added row told_here is =
-        map-append told rows (row ∷ []) ∙ ap₂ (λ ts t. ts ++ t ∷ []) so_far is ∙ append_assoc before (map row_for (filter test (take i xs))) (row_for (get_or xs i []) ∷ [])
+    pub reported_added : (row : R) → test (get_or xs i []) ≡ true → reported row ≡ row_for (get_or xs i [])
+        → map reported (rows ++ row ∷ []) ≡ before ++ map row_for (filter test (take (i + 1) xs))
+    reported_added row reported_here is =
+        map-append reported rows (row ∷ []) ∙ ap₂ (λ ts t. ts ++ t ∷ []) so_far is ∙ append_assoc before (map row_for (filter test (take i xs))) (row_for (get_or xs i []) ∷ [])
         ∙ ap (λ ts. before ++ ts) (sym (map-append row_for (filter test (take i xs)) (get_or xs i [] ∷ [])))
-        ∙ ap (λ b. before ++ map row_for (filter test (take i xs) ++ cond b (get_or xs i [] ∷ []) [])) (sym told_here)
+        ∙ ap (λ b. before ++ map row_for (filter test (take i xs) ++ cond b (get_or xs i [] ∷ []) [])) (sym reported_here)
         ∙ ap (λ ys. before ++ map row_for ys) (sym with_next)
 
     -- a leaf that is not
-    pub not_told : test (get_or xs i []) ≡ false → map told rows ≡ before ++ map row_for (filter test (take (i + 1) xs))
-    not_told absent =
+    pub not_reported : test (get_or xs i []) ≡ false → map reported rows ≡ before ++ map row_for (filter test (take (i + 1) xs))
+    not_reported absent =
         so_far ∙ ap (λ ys. before ++ map row_for ys) (sym (append-nil (filter test (take i xs))))
         ∙ ap (λ b. before ++ map row_for (filter test (take i xs) ++ cond b (get_or xs i [] ∷ []) [])) (sym absent)
         ∙ ap (λ ys. before ++ map row_for ys) (sym with_next)
@@ -174,8 +174,8 @@ module _ (names : KeysymNames) (fresh : List ℕ) (old new : List Definition) (c
     slot_is = ap (λ cs. get_or cs i d) all ∙ get_or-map (λ s. cond (is_sequence old s) None (Some (change names fresh old new s))) (leaves new) i [] d h
 
     -- if it has a change, only the new table has it
-    pub told_change : (c : Change) → get_or changes i d ≡ Some c → (is_sequence old (get_or (leaves new) i []) ≡ false) × (c ≡ change names fresh old new (get_or (leaves new) i []))
-    told_change c e = go (is_sequence old (get_or (leaves new) i [])) (sym e ∙ slot_is)
+    pub reported_change : (c : Change) → get_or changes i d ≡ Some c → (is_sequence old (get_or (leaves new) i []) ≡ false) × (c ≡ change names fresh old new (get_or (leaves new) i []))
+    reported_change c e = go (is_sequence old (get_or (leaves new) i [])) (sym e ∙ slot_is)
       where
         go : (b : Bool) → Some c ≡ cond b None (Some (change names fresh old new (get_or (leaves new) i []))) → (b ≡ false) × (c ≡ change names fresh old new (get_or (leaves new) i []))
         go true f = cc
@@ -196,7 +196,7 @@ pub old_change_at : (names : KeysymNames) (fresh : List ℕ) (old new : List Def
 old_change_at names fresh old new changes all i d h = ap (λ cs. get_or cs i d) all ∙ get_or-map (λ s. change names fresh old new s) (leaves old) i [] d h
 
 -- what a table has for the sequence of names, or nothing if these have none
-pub entry_by_name : (w : Written) (o : Option (List ℕ)) (found : Option ToldEntry) → (o ≡ None → found ≡ None) → ((s : List ℕ) → o ≡ Some s → found ≡ entry_of w s)
+pub entry_by_name : (w : Written) (o : Option (List ℕ)) (found : Option ReportedEntry) → (o ≡ None → found ≡ None) → ((s : List ℕ) → o ≡ Some s → found ≡ entry_of w s)
     → found ≡ option_and_then (entry_of w) o
 entry_by_name w None found none some = none refl
 entry_by_name w (Some s) found none some = some s refl

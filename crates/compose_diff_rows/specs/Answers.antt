@@ -9,7 +9,7 @@ use Rattle.compose_model.specs.Table.{Definition, is_table}
 use Rattle.compose_model.specs.Nodes.{leaves, rising}
 use Rattle.compose_read.specs.Lines.{Source}
 use Rattle.compose_migration.specs.Migration.{GivenMigration, Parts}
-use Rattle.compose_migration.specs.MigrationGives.{given_of}
+use Rattle.compose_migration.specs.MigrationReturns.{given_of}
 use Rattle.compose_fresh.specs.Fresh.{fresh_conditions}
 use Rattle.compose_fresh.specs.Conditions.{first_unmet}
 use Rattle.compose_walk.specs.declared.fault.MakeFault.TheVariants.{BadFresh}
@@ -24,12 +24,12 @@ use Rattle.compose_diff.specs.Counts.{loses_nothing}
 use Rattle.compose_diff.specs.JsonAnswer.{json_answer}
 use Rattle.compose_diff.specs.Lost.{shown_rows}
 use Rattle.compose_diff.specs.Order.{AreInOrder}
-use Rattle.compose_diff.specs.Told.{answer_text}
+use Rattle.compose_diff.specs.Reported.{answer_text}
 use Rattle.compose_diff.specs.declared.accepted.AcceptFault.TheVariants.{Stale, BadLine, NoMemory}
 use Rattle.compose_diff.specs.declared.overlaps.Overlaps.{Overlaps}
 use Rattle.compose_diff.specs.declared.row.DiffRow.{DiffRow}
 use Rattle.compose_page.specs.Page.{page_text}
-use Rattle.compose_diff_rows.specs.Rows.{Written, told_row, told_rows, kept_rows}
+use Rattle.compose_diff_rows.specs.Rows.{Written, reported_row, reported_rows, kept_rows}
 use Rattle.compose_diff_rows.specs.declared.asking.Form.{Form}
 use Rattle.compose_diff_rows.specs.declared.asking.Form.TheVariants.{Folded, Lines, Json, AcceptList, Page}
 use Rattle.compose_diff_rows.specs.declared.asking.DiffInput.{DiffInput}
@@ -103,21 +103,21 @@ new_written asked e = written_in e.move.names asked.migration.new.sources asked.
 -- the rows: those that are reported, each once, in the order in which they are printed; and then the kept ones, if
 -- these are not reported
 pub record AreSorted (whole : Bool) (names : KeysymNames) (fresh : List ℕ) (old new : Written) (rows : List DiffRow) : Type 0 where
-  pub told : List DiffRow
+  pub reported : List DiffRow
   pub kept : List DiffRow
-  pub both : rows ≡ told ++ kept
-  pub each : IsPermutation (told_rows whole names fresh old new) (map told_row told)
-  pub sorted : AreInOrder told
-  pub others : map told_row kept ≡ kept_rows whole names fresh old new
+  pub both : rows ≡ reported ++ kept
+  pub each : IsPermutation (reported_rows whole names fresh old new) (map reported_row reported)
+  pub sorted : AreInOrder reported
+  pub others : map reported_row kept ≡ kept_rows whole names fresh old new
 
 -- whether kept sequences are reported too
-abbrev pub tells_kept : Form → Bool
-tells_kept Json = true
-tells_kept _ = false
+abbrev pub reports_kept : Form → Bool
+reports_kept Json = true
+reports_kept _ = false
 
 -- the rows of both tables
 abbrev pub AreRows : Asked → Explainable → List DiffRow → Type 0
-AreRows asked e rows = AreSorted (tells_kept asked.form) e.move.names e.fresh (old_written asked e) (new_written asked e) rows
+AreRows asked e rows = AreSorted (reports_kept asked.form) e.move.names e.fresh (old_written asked e) (new_written asked e) rows
 
 -- ---- the answer
 
@@ -137,11 +137,11 @@ form_text AcceptList lost_alone overlaps rows left = accept_lines (shown_rows lo
 form_text (Page markup folds) lost_alone overlaps rows left = page_text markup (record { folds = folds; lost_alone = lost_alone }) overlaps rows left
 
 -- yes if each of the rows that are left is harmless
-abbrev pub IsTold : Form → Bool → Overlaps → List DiffRow → List DiffRow → Answer → Type 0
-IsTold form lost_alone overlaps rows left (Yes text) = IsTrue (loses_nothing left) × (string_bytes text ≡ form_text form lost_alone overlaps rows left)
-IsTold form lost_alone overlaps rows left (No text) = IsTrue (not (loses_nothing left)) × (string_bytes text ≡ form_text form lost_alone overlaps rows left)
-IsTold form lost_alone overlaps rows left (Invalid fault) = ⊥
-IsTold form lost_alone overlaps rows left (FreshNotAllowed keysym) = ⊥
+abbrev pub IsFormAnswer : Form → Bool → Overlaps → List DiffRow → List DiffRow → Answer → Type 0
+IsFormAnswer form lost_alone overlaps rows left (Yes text) = IsTrue (loses_nothing left) × (string_bytes text ≡ form_text form lost_alone overlaps rows left)
+IsFormAnswer form lost_alone overlaps rows left (No text) = IsTrue (not (loses_nothing left)) × (string_bytes text ≡ form_text form lost_alone overlaps rows left)
+IsFormAnswer form lost_alone overlaps rows left (Invalid fault) = ⊥
+IsFormAnswer form lost_alone overlaps rows left (FreshNotAllowed keysym) = ⊥
 
 -- the answer on what is compared: the rows that are left are those that no line accepts
 pub record IsDiff (asked : Asked) (e : Explainable) (answer : Answer) : Type 0 where
@@ -152,7 +152,7 @@ pub record IsDiff (asked : Asked) (e : Explainable) (answer : Answer) : Type 0 w
   pub read : accepted_of asked.accepted ≡ Ok lines
   pub are : AreRows asked e rows
   pub leaves : left_of lines rows ≡ Ok left
-  pub told : IsTold asked.form asked.lost_alone (overlaps_in asked e) rows left answer
+  pub reported : IsFormAnswer asked.form asked.lost_alone (overlaps_in asked e) rows left answer
 
 -- a line of the list of intended changes matches none of the rows
 pub record IsStale (asked : Asked) (e : Explainable) (line : ℕ) : Type 0 where

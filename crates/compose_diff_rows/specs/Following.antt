@@ -9,9 +9,9 @@ use Rattle.compose_answer.specs.declared.answer.Answer.{Answer}
 use Rattle.compose_answer.specs.declared.answer.Answer.TheVariants.{Yes, No, Invalid, FreshNotAllowed}
 use Rattle.compose_compare.specs.Change.{change, is_harmless}
 use Rattle.compose_diff.specs.Line.{keys_text}
-use Rattle.compose_diff.specs.Accepted.{Line, tells}
+use Rattle.compose_diff.specs.Accepted.{Line, matches_text}
 use Rattle.compose_diff_rows.specs.Answers.{Asked, old_written, new_written}
-use Rattle.compose_diff_rows.specs.Rows.{ToldEntry, ToldRow, row_of}
+use Rattle.compose_diff_rows.specs.Rows.{ReportedEntry, ReportedRow, row_of}
 
 -- the answer is yes
 abbrev pub IsYes : Answer → Type 0
@@ -21,17 +21,17 @@ IsYes (Invalid fault) = ⊥
 IsYes (FreshNotAllowed keysym) = ⊥
 
 -- the text that a table has for a sequence, in quotes, after a blank
-abbrev pub entry_text : Option ToldEntry → List ℕ
+abbrev pub entry_text : Option ReportedEntry → List ℕ
 entry_text None = []
 entry_text (Some entry) = codes " " ++ shown_text (quote entry.text)
 
 -- the word, the keys and the texts of a row, as they are printed
-abbrev pub told_text : ToldRow → List ℕ
-told_text row = keys_text row.change row.keys ++ (entry_text row.old ++ entry_text row.new)
+abbrev pub reported_text : ReportedRow → List ℕ
+reported_text row = keys_text row.change row.keys ++ (entry_text row.old ++ entry_text row.new)
 
 -- one of the lines is what is printed of this row
-abbrev pub is_named : List Line → ToldRow → Bool
-is_named lines row = list_any (tells (told_text row)) lines
+abbrev pub is_named : List Line → ReportedRow → Bool
+is_named lines row = list_any (matches_text (reported_text row)) lines
 
 -- what happens to the sequence s is harmless, or one of the lines is what is printed of it
 abbrev pub is_meant : Asked → Explainable → List Line → List ℕ → Bool

@@ -9,7 +9,7 @@ use Rattle.compose_places.specs.Counting.{WrittenLine, sequence_named}
 use Rattle.compose_compare.specs.declared.Change.{Change}
 use Rattle.compose_compare.specs.declared.Change.TheVariants.{Kept, Waiting}
 use Rattle.compose_compare.specs.Change.{change}
-use Rattle.compose_diff.specs.declared.row.Entry.{Entry}
+use Rattle.compose_diff.specs.declared.row.TextPlace.{TextPlace}
 use Rattle.compose_diff.specs.declared.row.DiffRow.{DiffRow}
 use Rattle.compose_diff.specs.declared.row.NewSequence.{NewSequence}
 use Rattle.compose_diff.specs.Line.{is_loss}
@@ -17,13 +17,13 @@ use Rattle.compose_diff.specs.Counts.{is_same}
 use Rattle.compose_lookup.specs.Longer.{first_longer}
 use Rattle.compose_lookup.specs.Lookup.{giving, shortest_first}
 use Rattle.compose_diff_rows.specs.declared.typing.NamedSequence.{NamedSequence}
-use Rattle.compose_diff_rows.specs.declared.told.ToldSequence.{ToldSequence}
+use Rattle.compose_diff_rows.specs.declared.reported.ReportedSequence.{ReportedSequence}
 use Rattle.compose_diff_rows.specs.declared.written.WrittenTable.{WrittenTable}
 
 -- ---- rows as values
 
 -- what a table has for a sequence: its text, and the place of the definition that counts
-pub record ToldEntry : Type 0 where
+pub record ReportedEntry : Type 0 where
   pub text : List ℕ
   pub source : ℕ
   pub path : List ℕ
@@ -37,22 +37,22 @@ pub record WrittenSequence : Type 0 where
 
 -- what happens to a sequence, the names of its keys, what each table has for it, the longer one for which it waits, and
 -- how its text is typed now
-pub record ToldRow : Type 0 where
+pub record ReportedRow : Type 0 where
   pub change : Change
   pub keys : List (List ℕ)
-  pub old : Option ToldEntry
-  pub new : Option ToldEntry
+  pub old : Option ReportedEntry
+  pub new : Option ReportedEntry
   pub longer : Option WrittenSequence
   pub typing : Option WrittenSequence
 
-abbrev pub told_entry : Entry → ToldEntry
-told_entry entry = record { text = entry.text.now; source = entry.source; path = entry.path.now; line = entry.line }
+abbrev pub reported_entry : TextPlace → ReportedEntry
+reported_entry entry = record { text = entry.text.now; source = entry.source; path = entry.path.now; line = entry.line }
 
 abbrev pub new_sequence : NewSequence → WrittenSequence
 new_sequence s = record { keys = map (λ key. key.now) s.keys.now; path = s.path.now; line = s.line }
 
-abbrev pub told_row : DiffRow → ToldRow
-told_row row = record { change = row.change; keys = map (λ key. key.now) row.keys.now; old = option_map told_entry row.old; new = option_map told_entry row.new; longer = option_map new_sequence row.longer; typing = option_map new_sequence row.typing }
+abbrev pub reported_row : DiffRow → ReportedRow
+reported_row row = record { change = row.change; keys = map (λ key. key.now) row.keys.now; old = option_map reported_entry row.old; new = option_map reported_entry row.new; longer = option_map new_sequence row.longer; typing = option_map new_sequence row.typing }
 
 -- ---- a table as it is written
 
@@ -73,11 +73,11 @@ line_of w s = get_or w.lines (leaf_number w.table s) None
 abbrev pub keys_of : Written → List ℕ → List (List ℕ)
 keys_of w s = option_map_or (λ line. line.keys) (line_of w s) []
 
-abbrev pub entry_at : Written → List ℕ → WrittenLine → ToldEntry
+abbrev pub entry_at : Written → List ℕ → WrittenLine → ReportedEntry
 entry_at w s line = record { text = unwrap_or (text_at w.table s) []; source = line.place.source; path = get_or w.paths line.place.source []; line = line.place.line }
 
 -- what the table has for a sequence, if it has it
-abbrev pub entry_of : Written → List ℕ → Option ToldEntry
+abbrev pub entry_of : Written → List ℕ → Option ReportedEntry
 entry_of w s = if is_sequence w.table s then option_map (entry_at w s) (line_of w s) else None
 
 -- a sequence of the table as it is written in the line that counts, if there is one
@@ -94,7 +94,7 @@ abbrev pub first_typing : List Definition → List ℕ → Option (List ℕ)
 first_typing table text = slice_get (shortest_first (giving table text)) 0
 
 -- if people lose a sequence for which the old table has this entry, how its text is typed with the new one
-abbrev pub now_of : Written → Change → Option ToldEntry → Option WrittenSequence
+abbrev pub now_of : Written → Change → Option ReportedEntry → Option WrittenSequence
 now_of new c None = None
 now_of new c (Some entry) = if is_loss c then option_and_then (sequence_in new) (first_typing new.table entry.text) else None
 
@@ -111,7 +111,7 @@ longer_of new c s = if is_same c Waiting then longer_in new s else None
 -- ---- the rows
 
 -- the keys are written as in the old table, or as in the new one if only that has the sequence
-abbrev pub row_of : KeysymNames → List ℕ → Written → Written → List ℕ → ToldRow
+abbrev pub row_of : KeysymNames → List ℕ → Written → Written → List ℕ → ReportedRow
 row_of names fresh old new s = record {
   change = change names fresh old.table new.table s;
   keys = keys_of (if is_sequence old.table s then old else new) s;
@@ -124,42 +124,42 @@ row_of names fresh old new s = record {
 -- ---- the sequences that get a row
 
 -- whether a sequence of the old table to which this happens gets a row; a kept one only if all rows are wanted
-abbrev pub is_told : Bool → Change → Bool
-is_told whole Kept = whole
-is_told whole _ = true
+abbrev pub is_reported : Bool → Change → Bool
+is_reported whole Kept = whole
+is_reported whole _ = true
 
 -- the same for a sequence, by what happens to it
-abbrev pub is_told_of : Bool → KeysymNames → List ℕ → List Definition → List Definition → List ℕ → Bool
-is_told_of whole names fresh old new s = is_told whole (change names fresh old new s)
+abbrev pub is_reported_of : Bool → KeysymNames → List ℕ → List Definition → List Definition → List ℕ → Bool
+is_reported_of whole names fresh old new s = is_reported whole (change names fresh old new s)
 
 -- the sequences of the old table that get a row, in its order
-abbrev pub old_told : Bool → KeysymNames → List ℕ → List Definition → List Definition → List (List ℕ)
-old_told whole names fresh old new = filter (is_told_of whole names fresh old new) (leaves old)
+abbrev pub old_reported : Bool → KeysymNames → List ℕ → List Definition → List Definition → List (List ℕ)
+old_reported whole names fresh old new = filter (is_reported_of whole names fresh old new) (leaves old)
 
 -- the sequences that only the new table has, in its order
-abbrev pub new_told : List Definition → List Definition → List (List ℕ)
-new_told old new = filter (λ s. not (is_sequence old s)) (leaves new)
+abbrev pub new_reported : List Definition → List Definition → List (List ℕ)
+new_reported old new = filter (λ s. not (is_sequence old s)) (leaves new)
 
 -- a row for each of the former, and then for each of the latter
-abbrev pub told_rows : Bool → KeysymNames → List ℕ → Written → Written → List ToldRow
-told_rows whole names fresh old new = map (row_of names fresh old new) (old_told whole names fresh old.table new.table) ++ map (row_of names fresh old new) (new_told old.table new.table)
+abbrev pub reported_rows : Bool → KeysymNames → List ℕ → Written → Written → List ReportedRow
+reported_rows whole names fresh old new = map (row_of names fresh old new) (old_reported whole names fresh old.table new.table) ++ map (row_of names fresh old new) (new_reported old.table new.table)
 
 -- for a kept sequence that is not reported, only what the old table has for it
-abbrev pub kept_row : Written → List ℕ → ToldRow
+abbrev pub kept_row : Written → List ℕ → ReportedRow
 kept_row old s = record { change = Kept; keys = []; old = entry_of old s; new = None; longer = None; typing = None }
 
 -- a row for each of these, in the order of the old table
-abbrev pub kept_rows : Bool → KeysymNames → List ℕ → Written → Written → List ToldRow
-kept_rows whole names fresh old new = map (kept_row old) (filter (λ s. not (is_told_of whole names fresh old.table new.table s)) (leaves old.table))
+abbrev pub kept_rows : Bool → KeysymNames → List ℕ → Written → Written → List ReportedRow
+kept_rows whole names fresh old new = map (kept_row old) (filter (λ s. not (is_reported_of whole names fresh old.table new.table s)) (leaves old.table))
 
 -- ---- definitions for private functions
 
 -- a sequence of one of the tables: what happens to it, the names of its keys, what the table has for it, the longer
 -- one, and how its text is typed now
-pub record Told : Type 0 where
+pub record Reported : Type 0 where
   pub change : Change
   pub keys : List (List ℕ)
-  pub entry : Option ToldEntry
+  pub entry : Option ReportedEntry
   pub longer : Option WrittenSequence
   pub typing : Option WrittenSequence
 
@@ -167,16 +167,16 @@ abbrev pub named_sequence : NamedSequence → WrittenSequence
 named_sequence s = record { keys = map (λ key. key.now) s.keys.items; path = s.path.now; line = s.line }
 
 -- such a sequence as the code represents it
-abbrev pub told_sequence : ToldSequence → Told
-told_sequence told = record { change = told.change; keys = map (λ key. key.now) told.keys.items; entry = option_map told_entry told.entry; longer = option_map named_sequence told.longer; typing = option_map named_sequence told.typing }
+abbrev pub reported_sequence : ReportedSequence → Reported
+reported_sequence reported = record { change = reported.change; keys = map (λ key. key.now) reported.keys.items; entry = option_map reported_entry reported.entry; longer = option_map named_sequence reported.longer; typing = option_map named_sequence reported.typing }
 
 -- the longer sequence, by the names of the keys
 abbrev pub longer_named : KeysymNames → Written → Change → List (List ℕ) → Option WrittenSequence
 longer_named names new c keys = if is_same c Waiting then option_and_then (longer_in new) (sequence_named names keys) else None
 
 -- the sequence s of w, which is one of the two tables
-abbrev pub told_of : KeysymNames → List ℕ → Written → Written → Written → List ℕ → Told
-told_of names fresh old new w s = record {
+abbrev pub reported_of : KeysymNames → List ℕ → Written → Written → Written → List ℕ → Reported
+reported_of names fresh old new w s = record {
   change = change names fresh old.table new.table s;
   keys = keys_of w s;
   entry = entry_of w s;
@@ -185,9 +185,9 @@ told_of names fresh old new w s = record {
 }
 
 -- the row of a sequence of the old table; what the new table has for it is found by the names of its keys
-abbrev pub old_row : KeysymNames → Written → Told → ToldRow
-old_row names new told = record { change = told.change; keys = told.keys; old = told.entry; new = option_and_then (entry_of new) (sequence_named names told.keys); longer = told.longer; typing = told.typing }
+abbrev pub old_row : KeysymNames → Written → Reported → ReportedRow
+old_row names new reported = record { change = reported.change; keys = reported.keys; old = reported.entry; new = option_and_then (entry_of new) (sequence_named names reported.keys); longer = reported.longer; typing = reported.typing }
 
 -- the row of a sequence that only the new table has
-abbrev pub new_row : Told → ToldRow
-new_row told = record { change = told.change; keys = told.keys; old = None; new = told.entry; longer = None; typing = None }
+abbrev pub new_row : Reported → ReportedRow
+new_row reported = record { change = reported.change; keys = reported.keys; old = None; new = reported.entry; longer = None; typing = None }

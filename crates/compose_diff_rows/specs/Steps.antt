@@ -6,7 +6,7 @@ use Rattle.compose_model.specs.Certificate.{keys_rise}
 use Rattle.compose_model.specs.Table.{Definition}
 use Rattle.compose_migration.specs.Migration.{Parts, migration_of}
 use Rattle.compose_places.specs.Overlaps.{overlap_count}
-use Rattle.compose_migration.specs.MigrationGives.{given_of}
+use Rattle.compose_migration.specs.MigrationReturns.{given_of}
 use Rattle.compose_answer.specs.Parts.{Explainable}
 use Rattle.compose_answer.specs.Refused.{IsRefused}
 use Rattle.compose_answer.specs.declared.answer.Answer.{Answer}
@@ -16,7 +16,7 @@ use Rattle.compose_diff.specs.declared.accepted.AcceptFault.{AcceptFault}
 use Rattle.compose_diff.specs.declared.accepted.AcceptFault.TheVariants.{Stale, BadLine, NoMemory}
 use Rattle.compose_diff.specs.declared.overlaps.Overlaps.{Overlaps}
 use Rattle.compose_diff.specs.declared.row.DiffRow.{DiffRow}
-use Rattle.compose_diff_rows.specs.Answers.{Asked, AreTables, compared, lines_in, root_of, overlaps_in, AreRows, IsTold}
+use Rattle.compose_diff_rows.specs.Answers.{Asked, AreTables, compared, lines_in, root_of, overlaps_in, AreRows, IsFormAnswer}
 use Rattle.compose_diff_rows.specs.declared.asking.Form.{Form}
 use Rattle.compose_diff_rows.specs.declared.placed.PlacedMigration.{PlacedMigration}
 use Rattle.compose_diff_rows.specs.declared.asking.DiffInput.{DiffInput}
@@ -35,30 +35,30 @@ placed_parts view m = record { names = m.names; keys = m.keys.items; old = view 
 
 -- the migration is that of the input, with the lines that count in both tables, and the number of overlaps of each
 pub record IsPlaced {T : Type 0} (view : T → List Definition) (input : DiffInput) (m : PlacedMigration T) : Type 0 where
-  pub said : Parts
-  pub read : migration_of (given_of input.tables) ≡ Ok said
-  pub is : said ≡ placed_parts view m
+  pub expected : Parts
+  pub read : migration_of (given_of input.tables) ≡ Ok expected
+  pub is : expected ≡ placed_parts view m
   pub old_lines : m.old.lines.items ≡ lines_in m.names input.tables.old.sources.now (view m.old.table)
   pub new_lines : m.new.lines.items ≡ lines_in m.names input.tables.new.sources.now (view m.new.table)
   pub old_overlaps : m.old.overlaps ≡ overlap_count m.names input.tables.old.sources.now (root_of input.tables.old.sources.now)
   pub new_overlaps : m.new.overlaps ≡ overlap_count m.names input.tables.new.sources.now (root_of input.tables.new.sources.now)
 
 -- the fresh keysyms of what is compared, in rising order; or the condition that they do not meet
-abbrev pub GivesFresh : Parts → Result (Vec ℕ Global) DiffFault → Type 0
-GivesFresh move (Ok fresh) = (compared move ≡ Ok (record { move = move; fresh = fresh.items })) × IsTrue (keys_rise fresh.items)
-GivesFresh move (Err (Input refusal)) = IsRefused refusal (compared move)
-GivesFresh move (Err (Accept fault)) = ⊥
+abbrev pub ReturnsFresh : Parts → Result (Vec ℕ Global) DiffFault → Type 0
+ReturnsFresh move (Ok fresh) = (compared move ≡ Ok (record { move = move; fresh = fresh.items })) × IsTrue (keys_rise fresh.items)
+ReturnsFresh move (Err (Input refusal)) = IsRefused refusal (compared move)
+ReturnsFresh move (Err (Accept fault)) = ⊥
 
 -- the answer on the rows that no line accepts, or the first line that matches none of the rows
-abbrev pub TellsRows : Form → Bool → Overlaps → List Line → List DiffRow → Result Answer DiffFault → Type 0
-TellsRows form lost_alone overlaps lines rows (Ok answer) = (left : List DiffRow) × (left_of lines rows ≡ Ok left) × IsTold form lost_alone overlaps rows left answer
-TellsRows form lost_alone overlaps lines rows (Err (Input refusal)) = refusal ≡ refusals.NoMemory
-TellsRows form lost_alone overlaps lines rows (Err (Accept (Stale n))) = left_of lines rows ≡ Err (Stale n)
-TellsRows form lost_alone overlaps lines rows (Err (Accept (BadLine n))) = ⊥
-TellsRows form lost_alone overlaps lines rows (Err (Accept NoMemory)) = ⊥
+abbrev pub AnswersForm : Form → Bool → Overlaps → List Line → List DiffRow → Result Answer DiffFault → Type 0
+AnswersForm form lost_alone overlaps lines rows (Ok answer) = (left : List DiffRow) × (left_of lines rows ≡ Ok left) × IsFormAnswer form lost_alone overlaps rows left answer
+AnswersForm form lost_alone overlaps lines rows (Err (Input refusal)) = refusal ≡ refusals.NoMemory
+AnswersForm form lost_alone overlaps lines rows (Err (Accept (Stale n))) = left_of lines rows ≡ Err (Stale n)
+AnswersForm form lost_alone overlaps lines rows (Err (Accept (BadLine n))) = ⊥
+AnswersForm form lost_alone overlaps lines rows (Err (Accept NoMemory)) = ⊥
 
 -- the same for the rows of what is compared
-abbrev pub TellsDiff : Asked → Explainable → List Line → Result Answer DiffFault → Type 0
-TellsDiff asked e lines (Ok answer) = (rows : List DiffRow) × AreTables e × AreRows asked e rows × TellsRows asked.form asked.lost_alone (overlaps_in asked e) lines rows (Ok answer)
-TellsDiff asked e lines (Err (Input refusal)) = refusal ≡ refusals.NoMemory
-TellsDiff asked e lines (Err (Accept fault)) = (rows : List DiffRow) × AreRows asked e rows × TellsRows asked.form asked.lost_alone (overlaps_in asked e) lines rows (Err (Accept fault))
+abbrev pub AnswersCompared : Asked → Explainable → List Line → Result Answer DiffFault → Type 0
+AnswersCompared asked e lines (Ok answer) = (rows : List DiffRow) × AreTables e × AreRows asked e rows × AnswersForm asked.form asked.lost_alone (overlaps_in asked e) lines rows (Ok answer)
+AnswersCompared asked e lines (Err (Input refusal)) = refusal ≡ refusals.NoMemory
+AnswersCompared asked e lines (Err (Accept fault)) = (rows : List DiffRow) × AreRows asked e rows × AnswersForm asked.form asked.lost_alone (overlaps_in asked e) lines rows (Err (Accept fault))

@@ -23,17 +23,17 @@ ghost use Rattle.compose_diff.specs.Accepted.{Line, accepted_of};
 ghost use Rattle.compose_diff_rows.specs.Answers.{Asked, IsDiff, compared_parts};
 ghost use Rattle.compose_diff_rows.specs.Following.{AreMeant, IsYes};
 
+mod answering;
 mod asking;
 mod longer;
 mod placed;
+mod reported;
 mod rows;
-mod telling;
-mod told;
 mod typing;
 mod written;
 
+pub use answering::diff_migration;
 pub use asking::{DiffFault, DiffInput, Form};
-pub use telling::diff_migration;
 
 /// A row names the shortest sequence with which the new table types the old text, and of several
 /// the first in order: no shorter sequence has that text, and none of the same length comes before

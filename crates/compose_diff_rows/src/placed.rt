@@ -2,10 +2,10 @@
 ghost use Rattle.std.specs.Prelude.{◌≡◌, map, IfOk};
 ghost use Rattle.compose_model.specs.Nodes.{leaves};
 ghost use Rattle.compose_migration.specs.Migration.{no_table, or_because, migration_of};
-ghost use Rattle.compose_migration.specs.MigrationGives.{MigrationGives, given_of};
+ghost use Rattle.compose_migration.specs.MigrationReturns.{MigrationReturns, given_of};
 ghost use Rattle.compose_places.specs.Counting.{counting_line, read_lines};
 ghost use Rattle.compose_places.specs.Overlaps.{overlap_count};
-ghost use Rattle.compose_tree.specs.TableGives.{TableGives, first_table};
+ghost use Rattle.compose_tree.specs.TableReturns.{TableReturns, first_table};
 ghost use Rattle.compose_diff_rows.specs.Answers.{root_of};
 ghost use Rattle.compose_diff_rows.specs.Steps.{placed_parts};
 
@@ -34,7 +34,7 @@ impl<'a, T: ComposeTable> PlacedMigration<'a, T> {
         alloc: Global,
         input: &MigrationInput<'a, '_>,
     ) -> Result<PlacedMigration<'a, T>, MigrationFault>
-        ensures parts { MigrationGives (λ said read. said ≡ placed_parts T.definitions read) result
+        ensures parts { MigrationReturns (λ expected read. expected ≡ placed_parts T.definitions read) result
             (migration_of (given_of input.now)) }
         ensures old_lines { IfOk result
             (λ read. read.old.lines.items
@@ -77,7 +77,7 @@ fn read_side<'a, T: ComposeTable>(
     side: Side,
     input: &TableInput<'a>,
 ) -> Result<PlacedTable<'a, T>, MigrationFault>
-    ensures table { MigrationGives (λ said placed. said ≡ T.definitions placed.table) result
+    ensures table { MigrationReturns (λ expected placed. expected ≡ T.definitions placed.table) result
         (or_because (no_table side) (first_table names.now input.now.sources.now input.now.rule)) }
     ensures lines { IfOk result
         (λ placed. placed.lines.items
@@ -104,7 +104,7 @@ fn read_first<'a, T: ComposeTable>(
     sources: &'a Sources,
     rule: Rule,
 ) -> Result<PlacedTable<'a, T>, TableFault>
-    ensures table { TableGives (λ placed. T.definitions placed.table) result
+    ensures table { TableReturns (λ placed. T.definitions placed.table) result
         (first_table names.now sources.now rule) }
     ensures lines { IfOk result
         (λ placed. placed.lines.items

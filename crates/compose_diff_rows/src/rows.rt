@@ -7,13 +7,13 @@ ghost use Rattle.compose_compare.specs.Change.{old_changes};
 ghost use Rattle.compose_diff.specs.declared.row.DiffRow.{DiffRow};
 ghost use Rattle.compose_places.specs.Counting.{sequence_named};
 ghost use Rattle.compose_diff_rows.specs.Rows as words;
-ghost use Rattle.compose_diff_rows.specs.Rows.{Written, named_sequence, new_sequence, told_entry, told_row, told_sequence, kept_rows};
+ghost use Rattle.compose_diff_rows.specs.Rows.{Written, named_sequence, new_sequence, reported_entry, reported_row, reported_sequence, kept_rows};
 
-use crate::told::{ToldSequence, entry_at, is_told};
+use crate::reported::{ReportedSequence, entry_at, is_reported};
 use crate::typing::NamedSequence;
 use crate::written::WrittenTable;
 use compose_compare::Change;
-use compose_diff::{DiffRow, Entry, NewSequence};
+use compose_diff::{DiffRow, NewSequence, TextPlace};
 use compose_places::leaf_named;
 use compose_tree::{ComposeTable, LeafId};
 use keysym_core::Names;
@@ -22,22 +22,22 @@ use std::alloc::{AllocError, Global};
 /// Returns the rows of these sequences of the old table, and then of these sequences that only the
 /// new table has, each with the text and the place that either table has for it. O(keys of all
 /// sequences × log edges of a node).
-pub(crate) fn told_rows<'a, T: ComposeTable>(
+pub(crate) fn reported_rows<'a, T: ComposeTable>(
     alloc: Global,
     names: &Names,
-    of_old: &'a [ToldSequence<'a>],
-    of_new: &'a [ToldSequence<'a>],
+    of_old: &'a [ReportedSequence<'a>],
+    of_new: &'a [ReportedSequence<'a>],
     new: &WrittenTable<'a, T>,
 ) -> Result<Vec<DiffRow<'a>>, AllocError>
     ensures { IfOk result
-        (λ rows. map told_row rows.items
+        (λ rows. map reported_row rows.items
         ≡ map (words.old_row names.now (words.written T.definitions new.now))
-        (map told_sequence of_old.now)
-        ++ map words.new_row (map told_sequence of_new.now)) }
+        (map reported_sequence of_old.now)
+        ++ map words.new_row (map reported_sequence of_new.now)) }
 {
     let mut rows = Vec::with_capacity(alloc, of_old.len())?;
-    for told in of_old {
-        rows.push(old_row(names, told, new))?;
+    for reported in of_old {
+        rows.push(old_row(names, reported, new))?;
     }
     add_new_rows(&mut rows, of_new)?;
     Ok(rows)
@@ -46,20 +46,20 @@ pub(crate) fn told_rows<'a, T: ComposeTable>(
 /// Returns the row of a sequence of the old table.
 fn old_row<'a, T: ComposeTable>(
     names: &Names,
-    told: &'a ToldSequence<'a>,
+    reported: &'a ReportedSequence<'a>,
     new: &WrittenTable<'a, T>,
 ) -> DiffRow<'a>
-    ensures { told_row result
-        ≡ words.old_row names.now (words.written T.definitions new.now) (told_sequence told.now) }
+    ensures { reported_row result
+        ≡ words.old_row names.now (words.written T.definitions new.now) (reported_sequence reported.now) }
 {
-    let keys = told.keys.as_slice();
+    let keys = reported.keys.as_slice();
     DiffRow {
-        change: told.change,
+        change: reported.change,
         keys,
-        old: told.entry,
+        old: reported.entry,
         new: entry_named(names, keys, new),
-        longer: as_new(&told.longer),
-        typing: as_new(&told.typing),
+        longer: as_new(&reported.longer),
+        typing: as_new(&reported.typing),
     }
 }
 
@@ -78,9 +78,9 @@ fn entry_named<'a, T: ComposeTable>(
     names: &Names,
     keys: &[&str],
     written: &WrittenTable<'a, T>,
-) -> Option<Entry<'a>>
+) -> Option<TextPlace<'a>>
     requires few { length keys.now ≤ 32 }
-    ensures { option_map told_entry result
+    ensures { option_map reported_entry result
         ≡ option_and_then (words.entry_of (words.written T.definitions written.now))
         (sequence_named names.now (map (λ key. key.now) keys.now)) }
 {
@@ -91,13 +91,13 @@ fn entry_named<'a, T: ComposeTable>(
 /// Adds the rows of sequences that only the new table has.
 fn add_new_rows<'a>(
     rows: &mut Vec<DiffRow<'a>>,
-    told: &'a [ToldSequence<'a>],
+    reported: &'a [ReportedSequence<'a>],
 ) -> Result<(), AllocError>
     ensures { OnOk result
-        (map told_row rows.new.items
-        ≡ map told_row rows.old.items ++ map words.new_row (map told_sequence told.now)) }
+        (map reported_row rows.new.items
+        ≡ map reported_row rows.old.items ++ map words.new_row (map reported_sequence reported.now)) }
 {
-    for sequence in told {
+    for sequence in reported {
         rows.push(DiffRow {
             change: sequence.change,
             keys: sequence.keys.as_slice(),
@@ -124,12 +124,12 @@ pub(crate) fn add_kept_rows<'a, T: ComposeTable>(
         → changes.now ≡ old_changes names fresh (T.definitions old.now.table.now) new.table
         → OnOk result
         ((kept : List DiffRow) × (rows.new.items ≡ rows.old.items ++ kept)
-        × (map told_row kept
+        × (map reported_row kept
         ≡ kept_rows whole names fresh (words.written T.definitions old.now) new)) }
 {
     rows.reserve(old.table.leaf_count() as usize)?;
     for leaf in 0..old.table.leaf_count() {
-        if !is_told(whole, changes[leaf as usize]) {
+        if !is_reported(whole, changes[leaf as usize]) {
             rows.push(kept_row(LeafId(leaf), old))?;
         }
     }
@@ -139,7 +139,7 @@ pub(crate) fn add_kept_rows<'a, T: ComposeTable>(
 /// Returns the row of a kept sequence that is not reported.
 fn kept_row<'a, T: ComposeTable>(leaf: LeafId, old: &WrittenTable<'a, T>) -> DiffRow<'a>
     requires { leaf.0 < length (leaves (T.definitions old.now.table.now)) }
-    ensures { told_row result
+    ensures { reported_row result
         ≡ words.kept_row (words.written T.definitions old.now)
         (get_or (leaves (T.definitions old.now.table.now)) leaf.0 []) }
 {

@@ -4,12 +4,12 @@ ghost use Rattle.std.specs.Option.{option_map, option_and_then};
 ghost use Rattle.compose_model.specs.Nodes.{leaves};
 ghost use Rattle.compose_lookup.specs.TextIndex.{IsTextIndex};
 ghost use Rattle.compose_diff_rows.specs.Rows as words;
-ghost use Rattle.compose_diff_rows.specs.Rows.{named_sequence, new_sequence, told_entry};
+ghost use Rattle.compose_diff_rows.specs.Rows.{named_sequence, new_sequence, reported_entry};
 
-use crate::told::{line_at, path_at};
+use crate::reported::{line_at, path_at};
 use crate::written::WrittenTable;
 use compose_compare::Change;
-use compose_diff::{Entry, NewSequence, is_loss};
+use compose_diff::{NewSequence, TextPlace, is_loss};
 use compose_lookup::TextIndex;
 use compose_places::Events;
 use compose_tree::{ComposeTable, LeafId};
@@ -44,14 +44,14 @@ impl<'a> NamedSequence<'a> {
 /// table.
 pub(crate) fn typed_now<'a, T: ComposeTable>(
     change: Change,
-    entry: &Option<Entry<'a>>,
+    entry: &Option<TextPlace<'a>>,
     new: &WrittenTable<'a, T>,
     index: &TextIndex,
 ) -> Option<NamedSequence<'a>>
     requires { IsTextIndex (T.definitions new.now.table.now) index.now }
     ensures { option_map named_sequence result
         ≡ words.now_of (words.written T.definitions new.now) change
-        (option_map told_entry entry.now) }
+        (option_map reported_entry entry.now) }
 {
     let Some(entry) = entry else {
         return None;

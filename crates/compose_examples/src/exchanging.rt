@@ -7,7 +7,7 @@ use arrayvec::{ArrayString, ArrayVec};
 use compose_input::Fault;
 use compose_model::Status;
 use compose_service_runs::{ClientRequests, Peer, run_exchange};
-use compose_wire::{Answer, Body, Reply, Request};
+use compose_wire::{Body, Reply, ReplyBody, Request};
 use std::alloc::{AllocError, Global};
 use std::fmt::Write;
 use std::process::Abort;
@@ -108,25 +108,25 @@ fn expect(
 }
 
 /// Returns a reply in session 7.
-fn reply(answer: Answer) -> Reply {
+fn reply(answer: ReplyBody) -> Reply {
     Reply { session: 7, answer }
 }
 
 #[test]
 fn all_is_answered(rt: HostRuntime) -> Result<(), Fail> {
     let mut replies = Vec::new(rt.alloc());
-    replies.push(reply(Answer::State(Status::Nothing, ArrayVec::new())))?;
-    replies.push(reply(Answer::Fed(Status::Composing, true, ArrayString::new())))?;
-    replies.push(reply(Answer::Opened))?;
+    replies.push(reply(ReplyBody::State(Status::Nothing, ArrayVec::new())))?;
+    replies.push(reply(ReplyBody::Fed(Status::Composing, true, ArrayString::new())))?;
+    replies.push(reply(ReplyBody::Opened))?;
     expect(&rt, "all", replies, ALL, "composing \"\"\nstate nothing\n")
 }
 
 #[test]
 fn nothing_is_sent_after_a_refusal(rt: HostRuntime) -> Result<(), Fail> {
     let mut replies = Vec::new(rt.alloc());
-    replies.push(reply(Answer::State(Status::Nothing, ArrayVec::new())))?;
-    replies.push(reply(Answer::Fed(Status::Composing, true, ArrayString::new())))?;
-    replies.push(reply(Answer::Refused(1)))?;
+    replies.push(reply(ReplyBody::State(Status::Nothing, ArrayVec::new())))?;
+    replies.push(reply(ReplyBody::Fed(Status::Composing, true, ArrayString::new())))?;
+    replies.push(reply(ReplyBody::Refused(1)))?;
     let printed = "refused: a session with this number is open\n";
     expect(&rt, "refused", replies, OPEN, printed)
 }
@@ -134,7 +134,7 @@ fn nothing_is_sent_after_a_refusal(rt: HostRuntime) -> Result<(), Fail> {
 #[test]
 fn nothing_is_sent_after_the_end(rt: HostRuntime) -> Result<(), Fail> {
     let mut replies = Vec::new(rt.alloc());
-    replies.push(reply(Answer::Opened))?;
+    replies.push(reply(ReplyBody::Opened))?;
     let printed = "refused: connection: closed before the reply\n";
     expect(&rt, "closed", replies, OPEN_AND_KEY, printed)
 }

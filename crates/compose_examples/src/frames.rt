@@ -4,7 +4,7 @@ ghost use Rattle.std.specs.Prelude.{◌≤◌};
 use crate::helpers::expect_text;
 use arrayvec::{ArrayString, ArrayVec};
 use compose_model::Status;
-use compose_wire::{Answer, Body, Feeder, Reply, Request, WireFault, put_reply};
+use compose_wire::{Body, Feeder, Reply, ReplyBody, Request, WireFault, put_reply};
 use keysym_core::Keysym;
 use std::alloc::{AllocError, Global};
 use std::fmt::Write;
@@ -247,7 +247,7 @@ fn fault_texts(rt: HostRuntime) -> Result<(), AllocError> {
 }
 
 /// Returns the next pseudorandom number.
-fn by_chance_behind(seed: u32) -> u32 {
+fn next_by_chance(seed: u32) -> u32 {
     let mut next = seed;
     next ^= next << 13;
     next ^= next >> 17;
@@ -309,7 +309,7 @@ fn by_chance(rt: HostRuntime) -> Result<(), WireFault> {
     for _ in 0..200u32 {
         let mut stream = Vec::new(rt.alloc());
         for _ in 0..8 {
-            seed = by_chance_behind(seed);
+            seed = next_by_chance(seed);
             push_by_chance(&mut stream, seed)?;
         }
         expect_same_in_pieces(&rt, rt.alloc(), &stream)?;
@@ -317,38 +317,38 @@ fn by_chance(rt: HostRuntime) -> Result<(), WireFault> {
     Ok(())
 }
 
-fn expect_reply(rt: &impl Abort, session: u32, answer: Answer, bytes: &[u8]) {
+fn expect_reply(rt: &impl Abort, session: u32, answer: ReplyBody, bytes: &[u8]) {
     let reply = Reply { session, answer };
     assert_eq!(rt; put_reply(&reply).as_slice(), bytes, "{reply:?}");
 }
 
 #[test]
 fn replies(rt: HostRuntime) {
-    expect_reply(&rt, 7, Answer::Opened, &[0x81, 0, 0, 0, 7, 0, 0, 0, 0]);
+    expect_reply(&rt, 7, ReplyBody::Opened, &[0x81, 0, 0, 0, 7, 0, 0, 0, 0]);
     expect_reply(
         &rt,
         7,
-        Answer::Fed(Status::Composing, true, ArrayString::new()),
+        ReplyBody::Fed(Status::Composing, true, ArrayString::new()),
         &[0x82, 0, 0, 0, 7, 0, 0, 0, 2, 1, 1],
     );
-    expect_reply(&rt, 7, Answer::WasReset, &[0x83, 0, 0, 0, 7, 0, 0, 0, 0]);
-    expect_reply(&rt, 7, Answer::Closed, &[0x84, 0, 0, 0, 7, 0, 0, 0, 0]);
+    expect_reply(&rt, 7, ReplyBody::WasReset, &[0x83, 0, 0, 0, 7, 0, 0, 0, 0]);
+    expect_reply(&rt, 7, ReplyBody::Closed, &[0x84, 0, 0, 0, 7, 0, 0, 0, 0]);
     expect_reply(
         &rt,
         0,
-        Answer::Loaded(258),
+        ReplyBody::Loaded(258),
         &[0x85, 0, 0, 0, 0, 0, 0, 0, 8, 0, 0, 0, 0, 0, 0, 1, 2],
     );
     expect_reply(
         &rt,
         7,
-        Answer::State(Status::Nothing, ArrayVec::new()),
+        ReplyBody::State(Status::Nothing, ArrayVec::new()),
         &[0x86, 0, 0, 0, 7, 0, 0, 0, 2, 0, 0],
     );
     expect_reply(
         &rt,
         0,
-        Answer::Refused(10),
+        ReplyBody::Refused(10),
         &[0xff, 0, 0, 0, 0, 0, 0, 0, 2, 0, 10],
     );
 }
@@ -359,12 +359,12 @@ fn replies_with_texts(rt: HostRuntime) -> Result<(), Fail> {
     expect_reply(
         &rt,
         0x0102_0304,
-        Answer::Fed(Status::Cancelled, false, text),
+        ReplyBody::Fed(Status::Cancelled, false, text),
         &[0x82, 1, 2, 3, 4, 0, 0, 0, 4, 3, 0, 0xc3, 0xa9],
     );
     let longest = Reply {
         session: 1,
-        answer: Answer::Fed(Status::Composed, true, ArrayString::zero_filled()),
+        answer: ReplyBody::Fed(Status::Composed, true, ArrayString::zero_filled()),
     };
     assert_eq!(rt; put_reply(&longest).len(), 266);
     Ok(())
@@ -378,7 +378,7 @@ fn replies_with_keysyms(rt: HostRuntime) -> Result<(), Fail> {
     expect_reply(
         &rt,
         7,
-        Answer::State(Status::Composed, pending),
+        ReplyBody::State(Status::Composed, pending),
         &[
             0x86, 0, 0, 0, 7, 0, 0, 0, 10, 2, 2, 0, 0, 0xfe, 0x50, 0x1f, 0xff, 0xff, 0xff,
         ],

@@ -72,8 +72,8 @@ static REFUSED: [LineRow; 4] = [
 /// Expects what is printed about the line of a refused key, and nothing for another refusal.
 fn expect_line(rt: &impl Abort, alloc: Global, row: &LineRow) -> Result<(), AllocError> {
     let index = row.index;
-    let said = refused_line(alloc, &[3, 0, 2], &Err(Refusal::Key { index }))?;
-    expect_text(rt, row.says, &said, row.says);
+    let content = refused_line(alloc, &[3, 0, 2], &Err(Refusal::Key { index }))?;
+    expect_text(rt, row.says, &content, row.says);
     let other = refused_line(alloc, &[3, 0, 2], &Err(Refusal::NoMemory))?;
     expect_text(rt, row.says, &other, "");
     Ok(())

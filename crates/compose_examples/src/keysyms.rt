@@ -271,7 +271,7 @@ fn push_lines(header: &mut String, numbers: Range<u32>) -> Result<(), AllocError
 }
 
 #[test]
-fn so_many_names_are_taken_and_no_more(rt: HostRuntime) -> Result<(), AllocError> {
+fn names_are_limited(rt: HostRuntime) -> Result<(), AllocError> {
     let alloc = rt.alloc();
     let mut header = String::new(alloc);
     push_lines(&mut header, 0..16_384 - 243)?;

@@ -52,6 +52,8 @@ mod paging;
 #[cfg(test)]
 mod places;
 #[cfg(test)]
+mod reporting;
+#[cfg(test)]
 mod result_keysyms;
 #[cfg(test)]
 mod rows;
@@ -59,8 +61,6 @@ mod rows;
 mod sources;
 #[cfg(test)]
 mod tables;
-#[cfg(test)]
-mod telling;
 #[cfg(test)]
 mod typings;
 #[cfg(test)]

@@ -1,7 +1,9 @@
 //! Worked lines and texts: how they are read, or the printed fault.
 use crate::helpers::{expect_text, push_all, repeated};
 use arrayvec::ArrayVec;
-use compose_lex::{LexFault, Line, Said, lex_line, lex_line_into, push_text, quote, unescape};
+use compose_lex::{
+    LexFault, Line, LineContent, lex_line, lex_line_into, push_text, quote, unescape,
+};
 use std::alloc::{AllocError, Global};
 use std::fmt::Write;
 use std::process::Abort;
@@ -124,7 +126,10 @@ fn read(line: &str) -> Result<Line<'_>, LexFault> {
     lex_line(line)
 }
 
-fn read_into<'a>(line: &'a str, events: &mut ArrayVec<&'a str, 32>) -> Result<Said<'a>, LexFault> {
+fn read_into<'a>(
+    line: &'a str,
+    events: &mut ArrayVec<&'a str, 32>,
+) -> Result<LineContent<'a>, LexFault> {
     lex_line_into(line, events)
 }
 
@@ -159,8 +164,8 @@ fn push_result(
 }
 
 /// Appends the shortest line with the same meaning, or the printed fault.
-fn push_line(text: &mut String, said: &Result<Line, LexFault>) -> Result<(), AllocError> {
-    match said {
+fn push_line(text: &mut String, content: &Result<Line, LexFault>) -> Result<(), AllocError> {
+    match content {
         Ok(Line::Blank) => Ok(()),
         Ok(Line::Include(raw)) => push_all(text, &["include\"", raw, "\""]),
         Ok(
@@ -178,12 +183,15 @@ fn push_line(text: &mut String, said: &Result<Line, LexFault>) -> Result<(), All
 }
 
 /// Appends the parts of a line except the names of its events, or the printed fault.
-fn push_said(text: &mut String, said: &Result<Said, LexFault>) -> Result<(), AllocError> {
-    match said {
-        Ok(Said::Blank) => Ok(()),
-        Ok(Said::Include(raw)) => push_all(text, &["include\"", raw, "\""]),
+fn push_line_parts(
+    text: &mut String,
+    content: &Result<LineContent, LexFault>,
+) -> Result<(), AllocError> {
+    match content {
+        Ok(LineContent::Blank) => Ok(()),
+        Ok(LineContent::Include(raw)) => push_all(text, &["include\"", raw, "\""]),
         Ok(
-            Said::Production {
+            LineContent::Production {
                 raw_text,
                 result_name,
             },
@@ -236,10 +244,10 @@ fn expect_line_into(
     row: &LineRow,
     events: &mut ArrayVec<&'static str, 32>,
 ) -> Result<(), AllocError> {
-    let said = read_into(row.line, events);
+    let content = read_into(row.line, events);
     let mut text = String::new(alloc);
     push_events(&mut text, events)?;
-    push_said(&mut text, &said)?;
+    push_line_parts(&mut text, &content)?;
     expect_text(rt, row.line, &text, row.reads);
     Ok(())
 }

@@ -103,7 +103,7 @@ fn expect_after_load(
 }
 
 #[test]
-fn a_load_puts_what_is_unknown_to_rest(rt: HostRuntime) -> Result<(), Fail> {
+fn a_load_forgets_unknown_keys(rt: HostRuntime) -> Result<(), Fail> {
     let rest = (Status::Nothing, 0, None);
     expect_after_load(&rt, rt.alloc(), "dead_grave", rest)
 }

@@ -2,7 +2,7 @@
 use compose_answer::Answer;
 use compose_compare::Change;
 use compose_diff::{
-    AcceptFault, Accepted, Counts, DiffRow, Entry, NewSequence, Overlaps, Printed, accept_text,
+    AcceptFault, Accepted, Counts, DiffRow, NewSequence, Overlaps, Printed, TextPlace, accept_text,
     answer_diff, colored_text, diff_text, folded_text, is_loss, is_lost, json_answer, json_text,
     loses_nothing, lost_rows, sort_rows,
 };
@@ -10,8 +10,8 @@ use std::alloc::Global;
 use std::test::Fail;
 
 /// Returns the definition of a sequence in a table.
-fn entry(text: &'static str, path: &'static str, line: usize) -> Option<Entry<'static>> {
-    Some(Entry {
+fn entry(text: &'static str, path: &'static str, line: usize) -> Option<TextPlace<'static>> {
+    Some(TextPlace {
         text,
         source: 0,
         path,
@@ -117,7 +117,7 @@ const TO_ACCEPT: &str =
     "changed: <dead_hook> <o> \"ở\" \"ờ\"\nwaiting: <a> <b> \"\\\"\"\nremoved: <Multi_key> <parenleft> <1> \"①\"\nnew start: <F13> \"x\"\n";
 
 #[test]
-fn rows_are_told_in_groups(rt: HostRuntime) -> Result<(), Fail> {
+fn rows_are_printed_in_groups(rt: HostRuntime) -> Result<(), Fail> {
     let mut rows = Vec::from_array(rt.alloc(), each())?;
     sort_rows(&mut rows)?;
     assert_eq!(rt; diff_text(rt.alloc(), &rows)?.as_str(), EACH);
@@ -148,7 +148,7 @@ fn five_rows_are_folded(rt: HostRuntime) -> Result<(), Fail> {
 }
 
 #[test]
-fn rows_that_stand_apart_are_folded(rt: HostRuntime) -> Result<(), Fail> {
+fn rows_apart_are_folded(rt: HostRuntime) -> Result<(), Fail> {
     let rows = [run()[1], run()[6], run()[2]];
     assert_eq!(rt;
         folded_text(rt.alloc(), &run(), &rows)?.as_str(),
@@ -169,7 +169,7 @@ fn one_row_is_not_folded(rt: HostRuntime) -> Result<(), Fail> {
 
 /// Returns a removed row of an include of the old table.
 fn included_row(keys: &'static [&'static str], line: usize) -> DiffRow<'static> {
-    let entry = Entry {
+    let entry = TextPlace {
         text: "α",
         source: 1,
         path: "el\u{1b}GR",
@@ -198,7 +198,7 @@ fn missing() -> [DiffRow<'static>; 5] {
 }
 
 #[test]
-fn missing_include_is_told_once(rt: HostRuntime) -> Result<(), Fail> {
+fn missing_include_is_printed_once(rt: HostRuntime) -> Result<(), Fail> {
     assert_eq!(rt;
         folded_text(rt.alloc(), &missing(), &missing())?.as_str(),
         "removed: <Greek_a> \"α\" OLD:2 now: none\nremoved: all 2 sequences of el\\u{1b}GR, from which the new table has none\n"
@@ -352,7 +352,7 @@ fn overlaps_have_a_line_before_the_last_one(rt: HostRuntime) -> Result<(), Fail>
 }
 
 #[test]
-fn counts_are_an_object_behind_the_rows(rt: HostRuntime) -> Result<(), Fail> {
+fn counts_are_an_object_after_the_rows(rt: HostRuntime) -> Result<(), Fail> {
     let rows = [old_row(Change::Removed, &["a"], "x", 1)];
     let overlaps = Overlaps { old: 1, new: 2 };
     assert_eq!(rt;
@@ -379,7 +379,7 @@ fn left(alloc: Global, lines: &str) -> Result<usize, AcceptFault> {
 }
 
 #[test]
-fn told_rows_are_accepted(rt: HostRuntime) -> Result<(), Fail> {
+fn printed_rows_are_accepted(rt: HostRuntime) -> Result<(), Fail> {
     assert_eq!(rt; left(rt.alloc(), ""), Ok(6));
     assert_eq!(rt; left(rt.alloc(), TO_ACCEPT), Ok(2));
     assert_eq!(rt;

@@ -93,12 +93,12 @@ fn printed_fault(
     fault: &ReadFault,
 ) -> Result<String, AllocError> {
     let (path, position) = stands(sources, fault);
-    let told = FileMessage {
+    let reported = FileMessage {
         path,
         position,
         message: read_message(sources, fault),
     };
-    let text = format!(in alloc; "{told}")?;
+    let text = format!(in alloc; "{reported}")?;
     String::from_str(alloc, text.strip_prefix("composecheck: ").unwrap_or("?"))
 }
 
@@ -163,7 +163,7 @@ fn faults_of_long_strings(rt: HostRuntime) -> Result<(), Fail> {
 }
 
 /// Expects the printed text of a fault.
-fn expect_told(
+fn expect_printed_fault(
     rt: &impl Abort,
     alloc: Global,
     sources: &Sources,
@@ -181,7 +181,7 @@ fn faults_of_sizes(rt: HostRuntime) -> Result<(), Fail> {
     let sources = two_sources(alloc, b"", "\n<a> : \"x\"\n")?;
     let (source, line) = (1, 2);
     let lines = ReadFault::TooManyLines { source, line };
-    expect_told(
+    expect_printed_fault(
         &rt,
         alloc,
         &sources,
@@ -189,7 +189,7 @@ fn faults_of_sizes(rt: HostRuntime) -> Result<(), Fail> {
         "%L:2:1: more than 1,000,000 lines are read",
     )?;
     let definitions = ReadFault::TooManyDefinitions { source, line };
-    expect_told(
+    expect_printed_fault(
         &rt,
         alloc,
         &sources,
@@ -197,14 +197,14 @@ fn faults_of_sizes(rt: HostRuntime) -> Result<(), Fail> {
         "%L:2:1: more than 100,000 sequences are defined",
     )?;
     let missing = ReadFault::MissingRoot;
-    expect_told(
+    expect_printed_fault(
         &rt,
         alloc,
         &sources,
         &missing,
         "-: the manifest lists no file",
     )?;
-    expect_told(
+    expect_printed_fault(
         &rt,
         alloc,
         &sources,
@@ -217,10 +217,10 @@ fn faults_of_sizes(rt: HostRuntime) -> Result<(), Fail> {
 fn expect_printed(
     rt: &impl Abort,
     alloc: Global,
-    told: FileMessage<'_>,
+    reported: FileMessage<'_>,
     expected: &str,
 ) -> Result<(), Fail> {
-    assert_eq!(rt; format!(in alloc; "{told}")?.as_str(), expected);
+    assert_eq!(rt; format!(in alloc; "{reported}")?.as_str(), expected);
     Ok(())
 }
 
@@ -640,14 +640,14 @@ fn names_of_80_characters(rt: HostRuntime) -> Result<(), Fail> {
     let (tens, rest) = ("é234567890", "12");
     let long = format!(in rt.alloc(); "{tens}{tens}{tens}{tens}{tens}{tens}{tens}{tens}{rest}")?;
     let whole = format!(in rt.alloc(); "{tens}{tens}{tens}{tens}{tens}{tens}{tens}{tens}")?;
-    let said = Message::Naming("no ", &long);
+    let content = Message::Naming("no ", &long);
     assert_eq!(rt;
-        format!(in rt.alloc(); "{said}")?.as_str(),
+        format!(in rt.alloc(); "{content}")?.as_str(),
         format!(in rt.alloc(); "no \"{whole}\"...")?.as_str()
     );
-    let said = Message::Naming("no ", &whole);
+    let content = Message::Naming("no ", &whole);
     assert_eq!(rt;
-        format!(in rt.alloc(); "{said}")?.as_str(),
+        format!(in rt.alloc(); "{content}")?.as_str(),
         format!(in rt.alloc(); "no \"{whole}\"")?.as_str()
     );
     Ok(())

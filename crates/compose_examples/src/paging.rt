@@ -1,6 +1,6 @@
 //! Rows of `diff` as pages.
 use compose_compare::Change;
-use compose_diff::{DiffRow, Entry, NewSequence, Overlaps, Printed};
+use compose_diff::{DiffRow, NewSequence, Overlaps, Printed, TextPlace};
 use compose_page::{Markup, page_text};
 use std::alloc::{AllocError, Global};
 use std::test::Fail;
@@ -10,7 +10,7 @@ fn row() -> DiffRow<'static> {
     DiffRow {
         change: Change::Removed,
         keys: &["a", "b_", "c"],
-        old: Some(Entry {
+        old: Some(TextPlace {
             text: "<|>",
             source: 0,
             path: "OLD",

@@ -285,8 +285,8 @@ fn push_keys(text: &mut String, keys: &[Keysym]) -> Result<(), AllocError> {
 fn push_rows(text: &mut String, sequences: &Sequences) -> Result<(), AllocError> {
     for index in 0..sequences.len() {
         push_keys(text, sequences.sequence(index))?;
-        let said = sequences.text(index);
-        write!(text, "={said};")?;
+        let content = sequences.text(index);
+        write!(text, "={content};")?;
     }
     Ok(())
 }

@@ -55,9 +55,9 @@ fn visits<'a>(sources: &'a Sources, root: &str) -> Option<Visits<'a>> {
 
 /// Prints a visited line; a question mark stands for a text that is not UTF-8.
 fn push_line(text: &mut String, line: VisitedLine<'_>) -> Result<(), AllocError> {
-    let said = str::from_utf8(line.bytes).unwrap_or("?");
+    let content = str::from_utf8(line.bytes).unwrap_or("?");
     let (source, number, depth) = (line.source, line.line, line.depth);
-    write!(text, "{source}:{number}:{depth} {said}\n")?;
+    write!(text, "{source}:{number}:{depth} {content}\n")?;
     Ok(())
 }
 

@@ -10,7 +10,7 @@ use Rattle.std.proofs.lemmas.Option.{slice_get_within, get_or_from_slice_get, sl
 use Rattle.compose_text.specs.Results.{◌>>=◌}
 use Rattle.compose_find.specs.Expand.{Words, include_path}
 use Rattle.compose_find.specs.Includes.{Include, includes_of}
-use Rattle.compose_find.specs.Found.{TriedFile, FoundSource, Stop, looked_or, looked_at, held_at, includes_at, there_or_missing, at_include, refusal, places, first_place, located, leads_to, with_source, with_include, with_includes, with_includes_of, found_on, missing_file}
+use Rattle.compose_find.specs.Found.{TriedFile, FoundSource, Stop, includes_or_wanted, found_includes, held_at, includes_at, there_or_missing, at_include, refusal, places, first_place, located, leads_to, with_source, with_include, with_includes, with_includes_of, search_from, missing_file}
 use Rattle.compose_find.specs.declared.fault.IncludeFault.{IncludeFault}
 use Rattle.compose_find.specs.declared.fault.IncludeFault.TheVariants.{TwoFiles, TooManySources, IncludeDepth}
 use Rattle.compose_find.specs.Sources.{IsFirstPlace, LeadsTo, IncludesSource, IsFollowed, AreSources, FindsSources}
@@ -116,31 +116,31 @@ of_known from include path known sources more e = go (bytes_eq known.path path) 
 
 module _ (files : List TriedFile) (words : Words) where
   -- if the includes of a path were found, its file was read, and they are the includes of its bytes
-  bytes_there : (path : List ℕ) (includes : List Include) → looked_at files path ≡ Ok (Some includes) → (bytes : List ℕ) × (held_at files path ≡ Some bytes) × (includes_of bytes ≡ includes)
+  bytes_there : (path : List ℕ) (includes : List Include) → found_includes files path ≡ Ok (Some includes) → (bytes : List ℕ) × (held_at files path ≡ Some bytes) × (includes_of bytes ≡ includes)
   bytes_there path includes e = go (find (λ f. bytes_eq path f.path) files) e
     where
       held : (bytes : Option (List ℕ)) → option_map includes_of bytes ≡ Some includes → (b : List ℕ) × (bytes ≡ Some b) × (includes_of b ≡ includes)
       held (Some b) e = (b, refl, (cc))
       held None e = cc
 
-      go : (file : Option TriedFile) → looked_or path file ≡ Ok (Some includes) → (bytes : List ℕ) × (option_and_then (λ f. f.bytes) file ≡ Some bytes) × (includes_of bytes ≡ includes)
+      go : (file : Option TriedFile) → includes_or_wanted path file ≡ Ok (Some includes) → (bytes : List ℕ) × (option_and_then (λ f. f.bytes) file ≡ Some bytes) × (includes_of bytes ≡ includes)
       go None e = cc
-      go (Some file) e = held file.bytes (one_ok (looked_or path (Some file)) (option_map includes_of file.bytes) (Some includes) refl e)
+      go (Some file) e = held file.bytes (one_ok (includes_or_wanted path (Some file)) (option_map includes_of file.bytes) (Some includes) refl e)
 
   -- the place that is taken is the first at which there is a file
   first_lies : (missing : Stop) (places : List (List ℕ)) (to : List ℕ) → first_place files missing places ≡ Ok to → IsFirstPlace files places to
   unfolding first_place
   first_lies missing [] to e = cc
   first_lies missing (place ∷ places) to e =
-      let here = both (looked_at files place) (λ there. cond (is_some there) (Ok place) (first_place files missing places)) to e in
+      let here = both (found_includes files place) (λ there. cond (is_some there) (Ok place) (first_place files missing places)) to e in
       go (first_lies missing places to) here.0 here.1 here.2
     where
-      earlier : (rest : IsFirstPlace files places to) → looked_at files place ≡ Ok None → (i : ℕ) (other : List ℕ) → i < suc rest.index → slice_get (place ∷ places) i ≡ Some other
-          → looked_at files other ≡ Ok None
-      earlier rest is zero other less at = let same : place ≡ other = cc in subst (λ p. looked_at files p ≡ Ok None) same is
+      earlier : (rest : IsFirstPlace files places to) → found_includes files place ≡ Ok None → (i : ℕ) (other : List ℕ) → i < suc rest.index → slice_get (place ∷ places) i ≡ Some other
+          → found_includes files other ≡ Ok None
+      earlier rest is zero other less at = let same : place ≡ other = cc in subst (λ p. found_includes files p ≡ Ok None) same is
       earlier rest is (suc i) other less at = rest.none_before i other (omega arith) at
 
-      go : (first_place files missing places ≡ Ok to → IsFirstPlace files places to) → (there : Option (List Include)) → looked_at files place ≡ Ok there
+      go : (first_place files missing places ≡ Ok to → IsFirstPlace files places to) → (there : Option (List Include)) → found_includes files place ≡ Ok there
           → cond (is_some there) (Ok place) (first_place files missing places) ≡ Ok to → IsFirstPlace files (place ∷ places) to
       go rest (Some includes) is e =
           let here = bytes_there place includes is in
@@ -209,7 +209,7 @@ module _ (files : List TriedFile) (words : Words) where
     grows : (i : ℕ) (m : FoundSource) → slice_get sources i ≡ Some m → slice_get more i ≡ Some m
     leads : (to : FoundSource) × Contains more to × LeadsTo files words from include to
 
-  module _ (root : List ℕ) (index : ℕ) (from : FoundSource) (all : List Include) (there : looked_at files from.path ≡ Ok (Some all)) where
+  module _ (root : List ℕ) (index : ℕ) (from : FoundSource) (all : List Include) (there : found_includes files from.path ≡ Ok (Some all)) where
     added : (sources : List FoundSource) (include : Include) (new : FoundSource) → IsSoFar root index sources → slice_get sources index ≡ Some from → Contains all include → length sources < 64
         → new.name ≡ include.raw
         → find (λ m. bytes_eq include.raw m.name) sources ≡ None → LeadsTo files words from include new → Brings root index sources from include (sources ++ new ∷ [])
@@ -317,10 +317,10 @@ module _ (files : List TriedFile) (words : Words) where
 
   -- ---- one source after another
 
-  was_there : (path : List ℕ) (includes : List Include) → includes_at files path ≡ Ok includes → looked_at files path ≡ Ok (Some includes)
-  was_there path includes e = let file = both (looked_at files path) (there_or_missing path) includes e in go file.0 file.1 file.2
+  was_there : (path : List ℕ) (includes : List Include) → includes_at files path ≡ Ok includes → found_includes files path ≡ Ok (Some includes)
+  was_there path includes e = let file = both (found_includes files path) (there_or_missing path) includes e in go file.0 file.1 file.2
     where
-      go : (file : Option (List Include)) → looked_at files path ≡ Ok file → there_or_missing path file ≡ Ok includes → looked_at files path ≡ Ok (Some includes)
+      go : (file : Option (List Include)) → found_includes files path ≡ Ok file → there_or_missing path file ≡ Ok includes → found_includes files path ≡ Ok (Some includes)
       go None is e = cc
       go (Some others) is e = is ∙ ap (λ x. Ok (Some x)) (one_ok (Ok includes) others includes (sym e) refl)
 
@@ -338,7 +338,7 @@ module _ (files : List TriedFile) (words : Words) where
         distinct = all.so_far.distinct;
       }
     where
-      go : (includes : List Include) (there : looked_at files from.path ≡ Ok (Some includes)) → BringAll root index from includes there sources includes more → (i : ℕ) (m : FoundSource)
+      go : (includes : List Include) (there : found_includes files from.path ≡ Ok (Some includes)) → BringAll root index from includes there sources includes more → (i : ℕ) (m : FoundSource)
           → i < 1 + index → slice_get more i ≡ Some m → IsFollowed files words more m
       go includes there all i m less h = elim (cases_lt i index) [
         | inl l ↦ all.so_far.followed i m l h
@@ -364,22 +364,22 @@ module _ (files : List TriedFile) (words : Words) where
     few = s.few;
   }
 
-  all_found : (root : List ℕ) (left index : ℕ) (sources more : List FoundSource) → left + index ≡ 64 → IsSoFar root index sources → found_on files words left index sources ≡ Ok more
+  all_found : (root : List ℕ) (left index : ℕ) (sources more : List FoundSource) → left + index ≡ 64 → IsSoFar root index sources → search_from files words left index sources ≡ Ok more
       → AreSources files words root more
-  unfolding found_on
+  unfolding search_from
   all_found root zero index sources more n s e =
       let same : sources ≡ more = one_ok (Ok more) sources more (sym e) refl in
       subst (AreSources files words root) same (whole root index sources s (omega (arith, s.few)))
   all_found root (suc left) index sources more n s e = go (λ mid so_far goes. all_found root left (1 + index) mid more (omega arith) so_far goes) (slice_get sources index) refl e
     where
-      go : ((mid : List FoundSource) → IsSoFar root (1 + index) mid → found_on files words left (1 + index) mid ≡ Ok more → AreSources files words root more) → (at : Option FoundSource)
-          → slice_get sources index ≡ at → option_map_or (λ from. with_includes_of files words from sources >>= found_on files words left (1 + index)) at (Ok sources) ≡ Ok more
+      go : ((mid : List FoundSource) → IsSoFar root (1 + index) mid → search_from files words left (1 + index) mid ≡ Ok more → AreSources files words root more) → (at : Option FoundSource)
+          → slice_get sources index ≡ at → option_map_or (λ from. with_includes_of files words from sources >>= search_from files words left (1 + index)) at (Ok sources) ≡ Ok more
           → AreSources files words root more
       go rest None at e =
           let same : sources ≡ more = one_ok (Ok more) sources more (sym e) refl in
           subst (AreSources files words root) same (whole root index sources s (none_past sources index at))
       go rest (Some from) at e =
-          let mid = both (with_includes_of files words from sources) (found_on files words left (1 + index)) more e in
+          let mid = both (with_includes_of files words from sources) (search_from files words left (1 + index)) more e in
           rest mid.0 (next root index sources mid.0 from s at mid.1) mid.2
 
 -- ---- from the root on

@@ -8,7 +8,7 @@ use Rattle.compose_text.specs.Results.{◌>>=◌}
 use Rattle.compose_find.specs.Expand.{Words, is_plain, path_from, path_of, meaning_at, meaning}
 use Rattle.compose_find.specs.declared.fault.IncludeFault.{IncludeFault}
 use Rattle.compose_find.specs.declared.fault.IncludeFault.TheVariants.{Text, UnknownPercent, NoLocale, NoHome, TwoFiles, TooManySources, IncludeDepth, NoMemory}
-use Rattle.compose_find.specs.FindGives.{onto, Gives, IsPiece}
+use Rattle.compose_find.specs.FindReturns.{onto, Returns, IsPiece}
 
 -- either the text ends there, or a percent sign is there
 stops : (text : List ℕ) → prefix_len is_plain text < length text → get_or text (prefix_len is_plain text) 0 ≡ 37
@@ -98,7 +98,7 @@ meaning_shortens words (b ∷ rest) x e = go (meaning words b) e
     go (Ok word) e = let same : (word, rest) ≡ x = cc in let long : length rest ≡ length x.1 = ap (λ y. length y.1) same in omega (arith, long)
     go (Err fault) e = cc
 
-percent_first : (words : Words) (rest : List ℕ) (r : Result (Bor (List ℕ) × Bor (List ℕ)) IncludeFault) → Gives (λ x. (x.0.now, x.1.now)) r (meaning_at words rest) → IsPiece words (37 ∷ rest) r
+percent_first : (words : Words) (rest : List ℕ) (r : Result (Bor (List ℕ) × Bor (List ℕ)) IncludeFault) → Returns (λ x. (x.0.now, x.1.now)) r (meaning_at words rest) → IsPiece words (37 ∷ rest) r
 percent_first words rest (Ok x) e = (meaning_first words rest (x.0.now, x.1.now) e, meaning_shortens words rest (x.0.now, x.1.now) e)
 percent_first words rest (Err NoMemory) e = tt
 percent_first words rest (Err (Text fault)) e = meaning_faults words rest (Text fault) e
@@ -115,7 +115,7 @@ divided (a ∷ text) b rest first left = cc
 
 -- a percent sign and what follows it are a piece, or have the fault of its meaning
 pub percent_piece : (words : Words) (text : List ℕ) (b : ℕ) (rest : List ℕ) (r : Result (Bor (List ℕ) × Bor (List ℕ)) IncludeFault) → Some b ≡ slice_get text 0 → b ≡ 37 → rest ≡ drop 1 text
-    → Gives (λ x. (x.0.now, x.1.now)) r (meaning_at words rest) → IsPiece words text r
+    → Returns (λ x. (x.0.now, x.1.now)) r (meaning_at words rest) → IsPiece words text r
 percent_piece words text b rest r first is left gives =
     subst (λ t. IsPiece words t r) (ap (λ k. k ∷ rest) (sym is) ∙ divided text b rest first left) (percent_first words rest r gives)
 

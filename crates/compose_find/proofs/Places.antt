@@ -4,22 +4,22 @@ use Rattle.std.specs.Prelude.{Ok, Err, is_some, option_copied}
 use Rattle.std.specs.List.{cons_option}
 use Rattle.compose_find.specs.Expand.{beside, below_root}
 use Rattle.compose_find.specs.Includes.{Include}
-use Rattle.compose_find.specs.Found.{TriedFile, Stop, looked_at, places, first_place}
+use Rattle.compose_find.specs.Found.{TriedFile, Stop, found_includes, places, first_place}
 
 module _ (files : List TriedFile) (missing : Stop) (place : List ℕ) (places : List (List ℕ)) where
   -- a place that has to be looked for first
-  pub place_stops : (stop : Stop) → looked_at files place ≡ Err stop → first_place files missing (place ∷ places) ≡ Err stop
+  pub place_stops : (stop : Stop) → found_includes files place ≡ Err stop → first_place files missing (place ∷ places) ≡ Err stop
   unfolding first_place
   place_stops stop e = rw e refl
 
   -- a place at which there is a file is taken
-  pub place_taken : (found : Option (Bor (List Include))) → looked_at files place ≡ Ok (option_copied found) → is_some found ≡ true → first_place files missing (place ∷ places) ≡ Ok place
+  pub place_taken : (found : Option (Bor (List Include))) → found_includes files place ≡ Ok (option_copied found) → is_some found ≡ true → first_place files missing (place ∷ places) ≡ Ok place
   unfolding first_place
   place_taken (Some includes) e some = rw e refl
   place_taken None e some = cc
 
   -- a place at which there is no file is passed over
-  pub place_passed : (found : Option (Bor (List Include))) → looked_at files place ≡ Ok (option_copied found) → is_some found ≡ false
+  pub place_passed : (found : Option (Bor (List Include))) → found_includes files place ≡ Ok (option_copied found) → is_some found ≡ false
       → first_place files missing (place ∷ places) ≡ first_place files missing places
   unfolding first_place
   place_passed None e none = rw e refl

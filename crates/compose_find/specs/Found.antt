@@ -31,13 +31,13 @@ pub data Stop : Type 0 where
 
 -- ---- files
 
-abbrev pub looked_or : List ℕ → Option TriedFile → Result (Option (List Include)) Stop
-looked_or path None = Err (wanted path)
-looked_or path (Some file) = Ok (option_map includes_of file.bytes)
+abbrev pub includes_or_wanted : List ℕ → Option TriedFile → Result (Option (List Include)) Stop
+includes_or_wanted path None = Err (wanted path)
+includes_or_wanted path (Some file) = Ok (option_map includes_of file.bytes)
 
 -- the includes of the file at a path, none if there is no file; the path is wanted if it was not looked for
-abbrev pub looked_at : List TriedFile → List ℕ → Result (Option (List Include)) Stop
-looked_at files path = looked_or path (find (λ f. bytes_eq path f.path) files)
+abbrev pub found_includes : List TriedFile → List ℕ → Result (Option (List Include)) Stop
+found_includes files path = includes_or_wanted path (find (λ f. bytes_eq path f.path) files)
 
 abbrev pub there_or_missing : List ℕ → Option (List Include) → Result (List Include) Stop
 there_or_missing path None = Err (missing_root path)
@@ -46,7 +46,7 @@ there_or_missing path (Some includes) = Ok includes
 -- the includes of the file at a path
 abbrev pub includes_at : List TriedFile → List ℕ → Result (List Include) Stop
 includes_at files path = do
-  found ← looked_at files path
+  found ← found_includes files path
   there_or_missing path found
 
 -- the bytes of the file at a path, if one was found there
@@ -71,7 +71,7 @@ places root from path = cons_option (below_root root path) (path ∷ beside from
 unfoldable pub first_place : List TriedFile → Stop → List (List ℕ) → Result (List ℕ) Stop
 first_place files missing [] = Err missing
 first_place files missing (place ∷ places) = do
-  there ← looked_at files place
+  there ← found_includes files place
   if is_some there then Ok place else first_place files missing places
 
 -- the path at which the file of an include with this path is found
@@ -114,15 +114,15 @@ with_includes_of files words from sources = do
 
 -- the sources with those that the sources from this index on include, one source after another; the number bounds how
 -- many sources are read
-unfoldable pub found_on : List TriedFile → Words → ℕ → ℕ → List FoundSource → Result (List FoundSource) Stop
-found_on files words zero index sources = Ok sources
-found_on files words (suc left) index sources = option_map_or (λ from. do
+unfoldable pub search_from : List TriedFile → Words → ℕ → ℕ → List FoundSource → Result (List FoundSource) Stop
+search_from files words zero index sources = Ok sources
+search_from files words (suc left) index sources = option_map_or (λ from. do
   more ← with_includes_of files words from sources
-  found_on files words left (1 + index) more) (slice_get sources index) (Ok sources)
+  search_from files words left (1 + index) more) (slice_get sources index) (Ok sources)
 
 -- every source, the root first, whose name is its path; the others in the order in which they are first included
 abbrev pub found : List TriedFile → Words → List ℕ → Result (List FoundSource) Stop
-found files words root = found_on files words max_sources 0 (record { name = root; path = root; depth = 0 } ∷ [])
+found files words root = search_from files words max_sources 0 (record { name = root; path = root; depth = 0 } ∷ [])
 
 -- a source with the bytes of its file
 abbrev pub held : List TriedFile → FoundSource → Source

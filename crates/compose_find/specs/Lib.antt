@@ -2,6 +2,6 @@ pub mod Expand
 pub mod Includes
 pub mod Locales
 pub mod Found
-pub mod FindGives
+pub mod FindReturns
 pub mod Sources
 pub mod Trees

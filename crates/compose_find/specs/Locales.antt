@@ -47,8 +47,8 @@ abbrev pub locale_alias : List ℕ → List ℕ → Option (List ℕ)
 locale_alias bytes alias = option_map (λ pair. pair.1) (find (λ pair. bytes_eq pair.0 alias) (pairs bytes))
 
 -- the locale of which this one is an alias, or else the locale itself
-abbrev pub aliased : List ℕ → List ℕ → List ℕ
-aliased aliases locale = unwrap_or (locale_alias aliases locale) locale
+abbrev pub alias_target : List ℕ → List ℕ → List ℕ
+alias_target aliases locale = unwrap_or (locale_alias aliases locale) locale
 
 -- the path of an entry, in the folder of these files, if the entry is UTF-8
 abbrev pub entry_path : List ℕ → List ℕ → Option (List ℕ)
@@ -57,4 +57,4 @@ entry_path folder entry = if is_utf8 entry then Some (in_folder folder entry) el
 -- the path of the table of a locale
 abbrev pub locale_file : List ℕ → List ℕ → List ℕ → List ℕ → Option (List ℕ)
 locale_file folder compose_dir aliases locale =
-    option_map_or (entry_path folder) (compose_dir_entry compose_dir (aliased aliases locale)) None
+    option_map_or (entry_path folder) (compose_dir_entry compose_dir (alias_target aliases locale)) None

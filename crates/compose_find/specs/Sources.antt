@@ -4,7 +4,7 @@ use Rattle.std.specs.List.{IsDistinct}
 use Rattle.compose_read.specs.Sources.{max_sources}
 use Rattle.compose_find.specs.Expand.{Words, include_path}
 use Rattle.compose_find.specs.Includes.{Include, includes_of}
-use Rattle.compose_find.specs.Found.{TriedFile, FoundSource, looked_at, held_at, held, places, found}
+use Rattle.compose_find.specs.Found.{TriedFile, FoundSource, found_includes, held_at, held, places, found}
 
 -- one of these places has a file, and none of those before it has one
 pub record IsFirstPlace (files : List TriedFile) (places : List (List ℕ)) (place : List ℕ) : Type 0 where
@@ -12,7 +12,7 @@ pub record IsFirstPlace (files : List TriedFile) (places : List (List ℕ)) (pla
   pub taken : slice_get places index ≡ Some place
   pub bytes : List ℕ
   pub there : held_at files place ≡ Some bytes
-  pub none_before : (i : ℕ) (other : List ℕ) → i < index → slice_get places i ≡ Some other → looked_at files other ≡ Ok None
+  pub none_before : (i : ℕ) (other : List ℕ) → i < index → slice_get places i ≡ Some other → found_includes files other ≡ Ok None
 
 -- the include names the source by its raw text, which expands to a path: the source is at the first of the path's
 -- places that has a file

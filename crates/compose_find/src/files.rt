@@ -4,7 +4,7 @@ ghost use Rattle.std.specs.List.{find};
 ghost use Rattle.std.specs.Option.{option_map};
 ghost use Rattle.compose_find.specs.Includes.{includes_of};
 ghost use Rattle.compose_find.specs.Found as found;
-ghost use Rattle.compose_find.specs.FindGives.{FindGives};
+ghost use Rattle.compose_find.specs.FindReturns.{FindReturns};
 
 use crate::found_source::{FindFault, missing_root, wanted};
 use crate::includes::{Include, includes_of};
@@ -108,12 +108,12 @@ impl Files {
 
     /// Returns the includes of the file at this path, or `None` if there is no file. Errors:
     /// `Wanted` if the path was not looked for yet, or `NoMemory`.
-    pub(crate) fn looked_at(
+    pub(crate) fn found_includes(
         &self,
         alloc: Global,
         path: &str,
     ) -> Result<Option<&[Include]>, FindFault>
-        ensures { FindGives option_copied result (found.looked_at self.now path.now) }
+        ensures { FindReturns option_copied result (found.found_includes self.now path.now) }
     {
         match self.looked(path) {
             Some(file) => Ok(file.includes()),
@@ -124,9 +124,9 @@ impl Files {
     /// Returns the includes of the file at this path. Errors: `Wanted` if the path was not looked
     /// for yet, `MissingRoot` if there is no file, or `NoMemory`.
     pub(crate) fn includes_at(&self, alloc: Global, path: &str) -> Result<&[Include], FindFault>
-        ensures { FindGives (λ i. i.now) result (found.includes_at self.now path.now) }
+        ensures { FindReturns (λ i. i.now) result (found.includes_at self.now path.now) }
     {
-        match self.looked_at(alloc, path)? {
+        match self.found_includes(alloc, path)? {
             Some(includes) => Ok(includes),
             None => Err(missing_root(alloc, path)),
         }

@@ -2,7 +2,7 @@
 ghost use Rattle.std.specs.Prelude.{◌≡◌, IfOk, option_copied, bytes_eq, string_bytes};
 ghost use Rattle.std.specs.List.{find};
 ghost use Rattle.compose_find.specs.Found as found;
-ghost use Rattle.compose_find.specs.FindGives.{IsStop};
+ghost use Rattle.compose_find.specs.FindReturns.{IsStop};
 ghost use Rattle.compose_find.specs.declared.found_source.FindFault.TheVariants.{NoMemory};
 
 use crate::IncludeFault;

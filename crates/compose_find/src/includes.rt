@@ -7,7 +7,7 @@ ghost use Rattle.compose_read.specs.Visits.{raw_include};
 ghost use Rattle.compose_find.specs.Includes as includes;
 
 use arrayvec::ArrayVec;
-use compose_lex::{Said, lex_line_into};
+use compose_lex::{LineContent, lex_line_into};
 use compose_text::{blank_len, first_line};
 use std::alloc::{AllocError, Global};
 use std::marker::Model;
@@ -74,7 +74,7 @@ fn raw_include(line: &[u8]) -> Option<&str>
     };
     let mut events = ArrayVec::new();
     match lex_line_into(text, &mut events) {
-        Ok(Said::Include(raw)) => Some(raw),
+        Ok(LineContent::Include(raw)) => Some(raw),
         _ => None,
     }
 }

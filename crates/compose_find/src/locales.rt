@@ -66,7 +66,7 @@ pub fn locale_file(
         (λ file. option_map string_bytes file
         ≡ locales.locale_file folder.now compose_dir.now aliases.now locale.now) }
 {
-    let name = aliased(aliases, locale.as_bytes());
+    let name = alias_target(aliases, locale.as_bytes());
     let Some(entry) = compose_dir_entry(compose_dir, name) else {
         return Ok(None);
     };
@@ -74,8 +74,8 @@ pub fn locale_file(
 }
 
 /// Returns the locale of which this one is an alias, or else the locale itself.
-fn aliased<'a>(aliases: &'a [u8], locale: &'a [u8]) -> &'a [u8]
-    ensures { result.now ≡ locales.aliased aliases.now locale.now }
+fn alias_target<'a>(aliases: &'a [u8], locale: &'a [u8]) -> &'a [u8]
+    ensures { result.now ≡ locales.alias_target aliases.now locale.now }
 {
     locale_alias(aliases, locale).unwrap_or(locale)
 }

@@ -2,7 +2,7 @@
 ghost use Rattle.std.specs.Prelude.{◌≡◌, IfOk, option_copied, string_bytes};
 ghost use Rattle.std.specs.Option.{option_map};
 ghost use Rattle.compose_find.specs.Expand as paths;
-ghost use Rattle.compose_find.specs.FindGives.{words, Gives};
+ghost use Rattle.compose_find.specs.FindReturns.{words, Returns};
 
 use crate::IncludeFault;
 use crate::percent::{Meanings, expand};
@@ -15,7 +15,7 @@ pub(crate) fn include_path(
     meanings: Meanings<'_>,
     raw: &str,
 ) -> Result<String, IncludeFault>
-    ensures { Gives string_bytes result (paths.include_path (words meanings.entry) raw.now) }
+    ensures { Returns string_bytes result (paths.include_path (words meanings.entry) raw.now) }
 {
     match unescape(alloc, raw) {
         Ok(text) => expand(alloc, meanings, &text),

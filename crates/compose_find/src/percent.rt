@@ -3,7 +3,7 @@ ghost use Rattle.std.specs.Prelude.{◌≡◌, ◌<◌, length, string_bytes, op
 ghost use Rattle.std.specs.List.{prefix_len};
 ghost use Rattle.compose_text.specs.Bytes.{leading, behind};
 ghost use Rattle.compose_find.specs.Expand.{is_plain, meaning_at, path_of};
-ghost use Rattle.compose_find.specs.FindGives.{words, Gives, IsPiece};
+ghost use Rattle.compose_find.specs.FindReturns.{words, Returns, IsPiece};
 
 use crate::IncludeFault;
 use compose_text::{ByteClass, leading_len};
@@ -46,7 +46,7 @@ impl ByteClass for Plain {
 /// Errors: that of the leftmost bad percent sign (`UnknownPercent`, `NoLocale` or `NoHome`), or
 /// `NoMemory`.
 pub fn expand(alloc: Global, meanings: Meanings<'_>, text: &str) -> Result<String, IncludeFault>
-    ensures { Gives string_bytes result (path_of (words meanings.entry) text.now) }
+    ensures { Returns string_bytes result (path_of (words meanings.entry) text.now) }
 {
     let mut path = String::new(alloc);
     let mut rest = text;
@@ -84,7 +84,7 @@ fn meaning_at<'a>(
     meanings: Meanings<'a>,
     behind: &'a str,
 ) -> Result<(&'a str, &'a str), IncludeFault>
-    ensures { Gives (λ x. (x.0.now, x.1.now)) result
+    ensures { Returns (λ x. (x.0.now, x.1.now)) result
         (meaning_at (words meanings.entry) behind.now) }
 {
     match behind.as_bytes().first() {

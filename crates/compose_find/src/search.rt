@@ -3,7 +3,7 @@ ghost use Rattle.std.specs.Prelude.{◌≡◌, ◌≤◌, ◌<◌, length, strin
 ghost use Rattle.std.specs.List.{find};
 ghost use Rattle.compose_find.specs.Found as found;
 ghost use Rattle.compose_find.specs.Expand as paths;
-ghost use Rattle.compose_find.specs.FindGives.{words, FindGives};
+ghost use Rattle.compose_find.specs.FindReturns.{words, FindReturns};
 
 use crate::files::Files;
 use crate::found_source::{FindFault, FoundSource, known, missing_file, refused};
@@ -34,7 +34,7 @@ pub fn find_sources(
     meanings: Meanings<'_>,
     root: &str,
 ) -> Result<Vec<FoundSource>, FindFault>
-    ensures { FindGives (λ sources. sources.items) result
+    ensures { FindReturns (λ sources. sources.items) result
         (found.found files.now (words meanings.entry) root.now) }
 {
     let mut sources = Vec::new(alloc);
@@ -49,7 +49,7 @@ pub fn find_sources(
 
 /// Returns the root; its name is its path.
 fn root_source(alloc: Global, root: &str) -> Result<FoundSource, FindFault>
-    ensures { FindGives (λ m. m) result
+    ensures { FindReturns (λ m. m) result
         (Ok (record { name = root.now; path = root.now; depth = 0 })) }
 {
     Ok(FoundSource {
@@ -70,7 +70,7 @@ fn add_includes_of(
     requires within { index < length sources.old.items }
     requires few { length sources.old.items ≤ 64 }
     ensures adds { (from : found.FoundSource) → slice_get sources.old.items index ≡ Some from
-        → FindGives (λ _. sources.new.items) result
+        → FindReturns (λ _. sources.new.items) result
         (found.with_includes_of files.now (words meanings.entry) from sources.old.items) }
     ensures few { OnOk result (length sources.new.items ≤ 64) }
 {
@@ -89,7 +89,7 @@ fn add_includes(
     sources: &mut Vec<FoundSource>,
 ) -> Result<(), FindFault>
     requires { length sources.old.items ≤ 64 }
-    ensures adds { FindGives (λ _. sources.new.items) result
+    ensures adds { FindReturns (λ _. sources.new.items) result
         (found.with_includes files.now
         (words meanings.entry) from.now includes.now sources.old.items) }
     ensures few { OnOk result (length sources.new.items ≤ 64) }
@@ -110,7 +110,7 @@ fn add_include(
     sources: &mut Vec<FoundSource>,
 ) -> Result<(), FindFault>
     requires { length sources.old.items ≤ 64 }
-    ensures adds { FindGives (λ _. sources.new.items) result
+    ensures adds { FindReturns (λ _. sources.new.items) result
         (found.with_include files.now
         (words meanings.entry) from.now include.now sources.old.items) }
     ensures few { OnOk result (length sources.new.items ≤ 64) }
@@ -129,7 +129,7 @@ fn add_source(
 ) -> Result<(), FindFault>
     requires few { length sources.old.items ≤ 64 }
     requires level { from.now.depth < 8 }
-    ensures adds { FindGives (λ _. sources.new.items) result
+    ensures adds { FindReturns (λ _. sources.new.items) result
         (found.with_source from.now include.now (string_bytes path)
         (find (λ m. bytes_eq include.now.raw m.name) sources.old.items) sources.old.items) }
     ensures few { OnOk result (length sources.new.items ≤ 64) }
@@ -159,7 +159,7 @@ fn lead(
     from: &FoundSource,
     include: &Include,
 ) -> Result<String, FindFault>
-    ensures leads { FindGives string_bytes result
+    ensures leads { FindReturns string_bytes result
         (found.leads_to files.now (words meanings.entry) from.now include.now) }
     ensures level { OnOk result (from.now.depth < 8) }
 {
@@ -183,12 +183,12 @@ fn located(
     include: &Include,
     path: String,
 ) -> Result<String, FindFault>
-    ensures { FindGives string_bytes result
+    ensures { FindReturns string_bytes result
         (found.located files.now
         (words meanings.entry) from.now include.now (string_bytes path)) }
 {
     if let Some(below) = below_root(alloc, meanings.root, &path)? {
-        if files.looked_at(alloc, &below)?.is_some() {
+        if files.found_includes(alloc, &below)?.is_some() {
             return Ok(below);
         }
     }
@@ -203,16 +203,16 @@ fn located_here(
     include: &Include,
     path: String,
 ) -> Result<String, FindFault>
-    ensures { FindGives string_bytes result
+    ensures { FindReturns string_bytes result
         (found.first_place files.now
         (found.missing_file from.now.path include.now.line (string_bytes path))
         (string_bytes path ∷ paths.beside from.now.path (string_bytes path) ∷ [])) }
 {
-    if files.looked_at(alloc, &path)?.is_some() {
+    if files.found_includes(alloc, &path)?.is_some() {
         return Ok(path);
     }
     let beside = beside(alloc, &from.path, &path)?;
-    if files.looked_at(alloc, &beside)?.is_some() {
+    if files.found_includes(alloc, &beside)?.is_some() {
         return Ok(beside);
     }
     Err(missing_file(alloc, from, include, path))

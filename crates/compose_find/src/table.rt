@@ -2,7 +2,7 @@
 ghost use Rattle.std.specs.Prelude.{◌≡◌, ◌++◌, ◌∷◌, [], OnOk, IfOk, map, Some, None};
 ghost use Rattle.compose_read.specs.Sources.{add_fault};
 ghost use Rattle.compose_find.specs.Found as found;
-ghost use Rattle.compose_find.specs.FindGives.{words, FindGives};
+ghost use Rattle.compose_find.specs.FindReturns.{words, FindReturns};
 
 use crate::files::Files;
 use crate::found_source::{FindFault, FoundSource};
@@ -32,7 +32,7 @@ pub fn find_table(
     meanings: Meanings<'_>,
     root: &str,
 ) -> Result<FoundTable, FindFault>
-    ensures found { FindGives (λ table. table.files.items) result
+    ensures found { FindReturns (λ table. table.files.items) result
         (found.found files.now (words meanings.entry) root.now) }
     ensures held { IfOk result
         (λ table. table.sources ≡ map (found.held files.now) table.files.items) }

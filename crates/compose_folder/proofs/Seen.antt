@@ -7,7 +7,7 @@ use Rattle.compose_folder.specs.declared.reading.Unread.{Unread}
 use Rattle.compose_folder.specs.declared.reading.Unread.TheVariants.{Refused, NoMemory}
 use Rattle.compose_folder.specs.Content.{Content, Entry, paths_of, contents_of, held, unless_seen, AreHeld, then_asked}
 use Rattle.compose_folder.specs.Reading.{Reads, Asks}
-use Rattle.compose_folder.specs.Once.{Gives, Sees, Keeps}
+use Rattle.compose_folder.specs.Once.{Returns, Sees, Keeps}
 
 abbrev entry_or : Entry → Option Entry → Entry
 entry_or e None = e
@@ -36,7 +36,7 @@ held_at holds path (x ∷ xs) e h f = by (bytes_eq path x.path) refl f (λ k. he
     by true m k rest = ap holds ((bytes_eq-Decides path x.path).0 m) ∙ sym (same_head _ _ _ _ h) ∙ ap (λ o. (entry_or x o).content) (sym k)
     by false m k rest = rest k
 
-pub found_reads : (o : Option (List Entry)) (path : List ℕ) (entries : List Entry) (e : Entry) (r : Result (Vec ℕ Global) Unread) → AreHeld o entries → Some e ≡ find (λ e. bytes_eq path e.path) entries → Gives e.content r → Reads o path r
+pub found_reads : (o : Option (List Entry)) (path : List ℕ) (entries : List Entry) (e : Entry) (r : Result (Vec ℕ Global) Unread) → AreHeld o entries → Some e ≡ find (λ e. bytes_eq path e.path) entries → Returns e.content r → Reads o path r
 found_reads None path entries e r h f g = tt
 found_reads (Some folder) path entries e (Ok bytes) h f g = held_at (held folder) path entries e h f ∙ g
 found_reads (Some folder) path entries e (Err (Refused kind)) h f g = held_at (held folder) path entries e h f ∙ g

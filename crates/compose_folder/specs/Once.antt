@@ -14,10 +14,10 @@ pub record OnceState : Type 0 where
   pub entries : List Entry
 
 -- the result of reading this content, unless memory runs out
-abbrev pub Gives : Content → Result (Vec ℕ Global) Unread → Type 0
-Gives content (Err NoMemory) = Unit {0}
-Gives content (Ok bytes) = content ≡ File bytes.items
-Gives content (Err (Refused kind)) = content ≡ Unreadable kind
+abbrev pub Returns : Content → Result (Vec ℕ Global) Unread → Type 0
+Returns content (Err NoMemory) = Unit {0}
+Returns content (Ok bytes) = content ≡ File bytes.items
+Returns content (Err (Refused kind)) = content ≡ Unreadable kind
 
 -- the path is among those that were read, after the others if it is new; if memory ran out, nothing is kept
 abbrev pub Sees : List Entry → List ℕ → List Entry → Result (Vec ℕ Global) Unread → Type 0

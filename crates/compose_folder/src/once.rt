@@ -3,7 +3,7 @@ ghost use Rattle.std.specs.Prelude.{◌≡◌, [], ◌∷◌, ◌++◌, option_c
 ghost use Rattle.std.specs.List.{find};
 ghost use Rattle.compose_folder.specs.Content.{content_of, paths_of, unless_seen, AreHeld, IsHeld};
 ghost use Rattle.compose_folder.specs.Reading.{Reads, Asks};
-ghost use Rattle.compose_folder.specs.Once.{Sees, Keeps, Gives};
+ghost use Rattle.compose_folder.specs.Once.{Sees, Keeps, Returns};
 
 use crate::reading::{Folder, Unread};
 use std::alloc::{AllocError, Global};
@@ -148,7 +148,7 @@ fn has_path(found: &SeenPath, path: &str) -> bool
 
 /// Returns a copy of what was found.
 fn copied(alloc: Global, found: &SeenPath) -> Result<Vec<u8>, Unread>
-    ensures { Gives found.now.content result }
+    ensures { Returns found.now.content result }
 {
     match &found.content {
         Ok(bytes) => Ok(Vec::from_slice(alloc, bytes)?),

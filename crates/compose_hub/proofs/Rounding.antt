@@ -11,11 +11,11 @@ use Rattle.compose_many.specs.Turns.{IsTurn}
 use Rattle.compose_many.specs.declared.turn.Turn.{Turn}
 use Rattle.compose_many.specs.declared.turn.Turn.TheVariants.{GoesOn, Loaded, Waits, NeedsRoom, Ends}
 use Rattle.compose_hub.specs.Sockets.{AllStay}
-use Rattle.compose_hub.specs.Turns.{OwnedService, max_turns, AreTurns, TurnsSo}
+use Rattle.compose_hub.specs.Turns.{OwnedService, max_turns, AreTurns, TurnsAs}
 use Rattle.compose_many.specs.Connection.{exchanges}
 use Rattle.compose_many.specs.Owners.{owners_by}
 use Rattle.compose_hub.specs.Slots.{slot_has_turn, clients_in}
-use Rattle.compose_hub.specs.Serving.{SlotTurnsSo, SlotFollows, ClosesSo, ClosesAfter, end_of, with_turn, AreRound}
+use Rattle.compose_hub.specs.Serving.{SlotTurnsAs, SlotFollows, ClosesAs, ClosesAfter, end_of, with_turn, AreRound}
 use Rattle.compose_hub.specs.declared.client.Client.{Client}
 use Rattle.compose_hub.specs.declared.ends.ConnectionEnd.{ConnectionEnd}
 
@@ -23,7 +23,7 @@ use Rattle.compose_hub.specs.declared.ends.ConnectionEnd.{ConnectionEnd}
 
 -- turns on streams that are as before
 turns_from : (most unsent : ℕ) (reading : Reading) (turn : Turn) (old mid new : OwnedService) (number : ℕ) (streams between streams' : ℕ → StreamState) (before state : ConnectionState) → mid ≡ old → AllStay streams between
-    → TurnsSo most unsent reading turn mid new number between streams' before state → TurnsSo most unsent reading turn old new number streams streams' before state
+    → TurnsAs most unsent reading turn mid new number between streams' before state → TurnsAs most unsent reading turn old new number streams streams' before state
 turns_from most unsent reading turn old mid new number streams between streams' before state same stay t = (
   t.0,
   t.1,
@@ -51,7 +51,7 @@ module _ (own : Bool) (unsent : ℕ) (reading : Reading) where
 
   -- a round, and then the turns of one more client
   pub round_more : (clients : List Client) (old mid turned new : OwnedService) (streams between after streams' : ℕ → StreamState) (c : Client) (turn : Turn) (state : ConnectionState)
-      → AreRound own unsent reading old mid streams between clients → TurnsSo max_turns unsent reading turn mid turned c.number between after c.connection state → ClosesSo turn c.number after streams'
+      → AreRound own unsent reading old mid streams between clients → TurnsAs max_turns unsent reading turn mid turned c.number between after c.connection state → ClosesAs turn c.number after streams'
       → ClosesAfter (end_of c.number turn) own reading turned new → AreRound own unsent reading old new streams streams' (clients ++ c ∷ [])
   round_more [] old mid turned new streams between after streams' c turn state r t closes last = (
     turn,
@@ -86,7 +86,7 @@ module _ (own : Bool) (unsent : ℕ) (reading : Reading) where
 
   module _ (clients : List Client) (old mid turned new : OwnedService) (streams between streams' : ℕ → StreamState) (time : ℕ) (before now : Option Client) (ended : Option (ℕ × ConnectionEnd))
       (r : AreRound own unsent reading old mid streams between clients) (last : ClosesAfter ended own reading turned new) where
-    one_more : SlotTurnsSo unsent time reading mid turned between streams' before now ended → AreRound own unsent reading old new streams streams' (clients ++ turn_of before)
+    one_more : SlotTurnsAs unsent time reading mid turned between streams' before now ended → AreRound own unsent reading old new streams streams' (clients ++ turn_of before)
     one_more (inl p) =
         subst (λ (l : List Client). AreRound own unsent reading old new streams streams' l)
         (sym (ap (λ (b : Bool). clients ++ (if b then clients_in before else [])) p.4 ∙ append-nil clients))
@@ -99,7 +99,7 @@ module _ (own : Bool) (unsent : ℕ) (reading : Reading) where
 
   -- the turns of the next slot
   pub round_step : (slots : List (Option Client)) (i : ℕ) (old mid turned new : OwnedService) (streams between streams' : ℕ → StreamState) (time : ℕ) (before now : Option Client) (ended : Option (ℕ × ConnectionEnd)) → i < length slots
-      → get_or slots i None ≡ before → AreRound own unsent reading old mid streams between (with_turn (take i slots)) → SlotTurnsSo unsent time reading mid turned between streams' before now ended
+      → get_or slots i None ≡ before → AreRound own unsent reading old mid streams between (with_turn (take i slots)) → SlotTurnsAs unsent time reading mid turned between streams' before now ended
       → ClosesAfter ended own reading turned new → AreRound own unsent reading old new streams streams' (with_turn (take (i + 1) slots))
   round_step slots i old mid turned new streams between streams' time before now ended lt is r t last =
       subst (λ (l : List Client). AreRound own unsent reading old new streams streams' l) (sym (with_more slots i lt ∙ ap (λ (s : Option Client). with_turn (take i slots) ++ turn_of s) is))

@@ -19,17 +19,17 @@ use Rattle.compose_many.specs.Numbered.{StreamState}
 use Rattle.compose_many.proofs.Happening.{filter-both}
 use Rattle.compose_many.proofs.OneOfMany.{turns_are_streamed, streamed_one_after_another}
 use Rattle.compose_hub.specs.Sockets.{AllStay, BytesStay, KeepsBytes}
-use Rattle.compose_hub.specs.Ends.{ToldEnd, told_more, HasEnded, times_told, max_held, TellsEnd}
+use Rattle.compose_hub.specs.Ends.{ReportedEnd, reported_more, HasEnded, times_reported, max_held, ReportsEnd}
 use Rattle.compose_many.specs.Streams.{is_failed}
 use Rattle.compose_many.specs.declared.turn.Turn.{Turn}
 use Rattle.compose_many.specs.declared.turn.Turn.TheVariants.{GoesOn, Loaded, Waits, NeedsRoom, Ends}
-use Rattle.compose_hub.specs.Turns.{OwnedService, AreTurns, LeavesSo}
-use Rattle.compose_hub.specs.Serving.{World, world, Now, at_now, world_now, ClosesLast, ClosesAfter, AreNumberedTo, ServesMany, EachIsTold, StandsAs, GoesOnOrEnds, SlotFollows, ClosesSo, SlotGoesOn, SlotTurnsSo, AcceptsSo, AllAreStill, IsIn, HasNone, IsServed, ServedSoFar}
+use Rattle.compose_hub.specs.Turns.{OwnedService, AreTurns, LeavesAs}
+use Rattle.compose_hub.specs.Serving.{World, world, Now, at_now, world_now, ClosesLast, ClosesAfter, AreNumberedTo, ServesMany, EachIsReported, StandsAs, GoesOnOrEnds, SlotFollows, ClosesAs, SlotGoesOn, SlotTurnsAs, AcceptsAs, AllAreStill, IsIn, HasNone, IsServed, ServedSoFar}
 use Rattle.compose_hub.specs.Rounds.{is_done, why_ended, SlotGivesUp}
 use Rattle.compose_hub.specs.Slots.{uses_room, patience, is_stalled, is_idle}
 use Rattle.compose_hub.specs.declared.client.Client.{Client}
 use Rattle.compose_hub.specs.declared.client.Limits.{Limits}
-use Rattle.compose_many.specs.Ends.{EndsSo}
+use Rattle.compose_many.specs.Ends.{EndsAs}
 use Rattle.compose_hub.specs.declared.ends.ConnectionEnd.{ConnectionEnd}
 use Rattle.compose_hub.specs.declared.ends.ConnectionEnd.TheVariants.{Served, Stalled, Idle}
 use Rattle.compose_hub.proofs.Turns.{closed, are_both, are_closed}
@@ -49,36 +49,36 @@ pub numbered_to : (last n : ℕ) (events : List Event) → 0 < n → n ≤ last 
 numbered_to last n [] some le = tt
 numbered_to last n (e ∷ events) some le = ((some, le), numbered_to last n events some le)
 
-pub told_both : (told : Option (List ToldEnd)) (a b : List ToldEnd) → told_more (told_more told a) b ≡ told_more told (a ++ b)
-told_both None a b = refl
-told_both (Some ends) a b = ap (λ (es : List ToldEnd). Some es) (append_assoc ends a b)
+pub reported_both : (reported : Option (List ReportedEnd)) (a b : List ReportedEnd) → reported_more (reported_more reported a) b ≡ reported_more reported (a ++ b)
+reported_both None a b = refl
+reported_both (Some ends) a b = ap (λ (es : List ReportedEnd). Some es) (append_assoc ends a b)
 
-pub told_none : (told : Option (List ToldEnd)) → told ≡ told_more told []
-told_none None = refl
-told_none (Some ends) = ap (λ (es : List ToldEnd). Some es) (sym (append-nil ends))
+pub reported_none : (reported : Option (List ReportedEnd)) → reported ≡ reported_more reported []
+reported_none None = refl
+reported_none (Some ends) = ap (λ (es : List ReportedEnd). Some es) (sym (append-nil ends))
 
-one_told : (n : ℕ) (e : ToldEnd) (b : Bool) → e.number == n ≡ b → times_told n (e ∷ []) ≡ cond b 1 0
-one_told n e b h = by (e.number == n) ∙ ap (λ (c : Bool). cond c 1 0) h
+one_reported : (n : ℕ) (e : ReportedEnd) (b : Bool) → e.number == n ≡ b → times_reported n (e ∷ []) ≡ cond b 1 0
+one_reported n e b h = by (e.number == n) ∙ ap (λ (c : Bool). cond c 1 0) h
   where
     by : (c : Bool) → length (cond c (e ∷ []) []) ≡ cond c 1 0
     by true = refl
     by false = refl
 
-times_more : (n : ℕ) (ends : List ToldEnd) (e : ToldEnd) (b : Bool) → e.number == n ≡ b → times_told n (ends ++ e ∷ []) ≡ times_told n ends + cond b 1 0
+times_more : (n : ℕ) (ends : List ReportedEnd) (e : ReportedEnd) (b : Bool) → e.number == n ≡ b → times_reported n (ends ++ e ∷ []) ≡ times_reported n ends + cond b 1 0
 times_more n ends e b h =
-    ap (λ (es : List ToldEnd). length es) (filter-both (λ (t : ToldEnd). t.number == n) ends (e ∷ []))
-    ∙ length-append (filter (λ (t : ToldEnd). t.number == n) ends) (filter (λ (t : ToldEnd). t.number == n) (e ∷ []))
-    ∙ ap (λ (m : ℕ). times_told n ends + m) (one_told n e b h)
+    ap (λ (es : List ReportedEnd). length es) (filter-both (λ (t : ReportedEnd). t.number == n) ends (e ∷ []))
+    ∙ length-append (filter (λ (t : ReportedEnd). t.number == n) ends) (filter (λ (t : ReportedEnd). t.number == n) (e ∷ []))
+    ∙ ap (λ (m : ℕ). times_reported n ends + m) (one_reported n e b h)
 
-not_told : (b : Bool) (e : ToldEnd) (rest : List ToldEnd) → length (cond b (e ∷ rest) rest) ≡ 0 → (b ≡ false) × (length rest ≡ 0)
-not_told true e rest h = absurd (omega arith)
-not_told false e rest h = (refl, h)
+not_reported : (b : Bool) (e : ReportedEnd) (rest : List ReportedEnd) → length (cond b (e ∷ rest) rest) ≡ 0 → (b ≡ false) × (length rest ≡ 0)
+not_reported true e rest h = absurd (omega arith)
+not_reported false e rest h = (refl, h)
 
 -- if the end of this connection isn't reported, what holds for the ends of all others holds for all
-pub others_ended : (P Q : ToldEnd → Type 0) (n : ℕ) → ((e : ToldEnd) → e.number == n ≡ false → P e → Q e) → (ends : List ToldEnd) → times_told n ends ≡ 0 → AllByRecursion P ends → AllByRecursion Q ends
+pub others_ended : (P Q : ReportedEnd → Type 0) (n : ℕ) → ((e : ReportedEnd) → e.number == n ≡ false → P e → Q e) → (ends : List ReportedEnd) → times_reported n ends ≡ 0 → AllByRecursion P ends → AllByRecursion Q ends
 others_ended P Q n f [] none a = tt
 others_ended P Q n f (e ∷ ends) none a =
-    let no = not_told (e.number == n) e (filter (λ (t : ToldEnd). t.number == n) ends) none in
+    let no = not_reported (e.number == n) e (filter (λ (t : ReportedEnd). t.number == n) ends) none in
     (f e no.0 a.0, others_ended P Q n f ends no.1 a.1)
 
 pub differ : (m n : ℕ) (b : Bool) → m == n ≡ b → (m ≡ n → ⊥) → m == n ≡ false
@@ -87,15 +87,15 @@ differ m n false e f = e
 
 -- whether a connection has ended this way depends only on the bytes that are left of its stream
 pub has_ended_on : (limits : Limits) (how : ConnectionEnd) (a b : StreamState) (state : ConnectionState) → b.left ≡ a.left → HasEnded limits how a state → HasEnded limits how b state
-has_ended_on limits (Served end) a b state e h = (h.0, h.1, subst (λ (l : Option (List ℕ)). EndsSo end l h.0 h.1 state) (sym e) h.2)
+has_ended_on limits (Served end) a b state e h = (h.0, h.1, subst (λ (l : Option (List ℕ)). EndsAs end l h.0 h.1 state) (sym e) h.2)
 has_ended_on limits Stalled a b state e h = h
 has_ended_on limits Idle a b state e h = h
 
 -- ---- when nothing happens
 
-module _ (limits : Limits) (reading : Reading) (first : World) (state : OwnedService) (streams streams' : ℕ → StreamState) (told : Option (List ToldEnd)) (stay : BytesStay streams streams') where
+module _ (limits : Limits) (reading : Reading) (first : World) (state : OwnedService) (streams streams' : ℕ → StreamState) (reported : Option (List ReportedEnd)) (stay : BytesStay streams streams') where
   -- if all streams stay, what happened so far is as before
-  abbrev pub serves_stay : ServesMany limits reading first (world state.service streams told) → ServesMany limits reading first (world state.service streams' told)
+  abbrev pub serves_stay : ServesMany limits reading first (world state.service streams reported) → ServesMany limits reading first (world state.service streams' reported)
   serves_stay s = record {
     all = s.all;
     after = s.after;
@@ -106,9 +106,9 @@ module _ (limits : Limits) (reading : Reading) (first : World) (state : OwnedSer
     };
     numbered = s.numbered;
     ends = s.ends;
-    told = s.told;
+    reported = s.reported;
     ended =
-        all_map (λ (e : ToldEnd). HasEnded limits e.how (streams e.number) (s.after e.number)) (λ (e : ToldEnd). HasEnded limits e.how (streams' e.number) (s.after e.number))
+        all_map (λ (e : ReportedEnd). HasEnded limits e.how (streams e.number) (s.after e.number)) (λ (e : ReportedEnd). HasEnded limits e.how (streams' e.number) (s.after e.number))
         (λ e h. has_ended_on limits e.how (streams e.number) (streams' e.number) (s.after e.number) (stay e.number).0 h) s.ends s.ended;
     closed = s.closed;
     others = s.others;
@@ -122,7 +122,7 @@ module _ (limits : Limits) (reading : Reading) (first : World) (state : OwnedSer
     served_forth n h = let p = still_forth (get_or slots h.0 None) (get_or now h.0 None) h.1 (still h.0) h.2 in (h.0, p.0, p.1, p.2.0 ∙ h.3)
 
     -- and if also no further connection is accepted and all clients are unchanged, what was true stays true
-    pub still_so_far : ServedSoFar limits reading first (at_now state streams told) accepted slots → ServedSoFar limits reading first (at_now state streams' told) accepted' now
+    pub still_so_far : ServedSoFar limits reading first (at_now state streams reported) accepted slots → ServedSoFar limits reading first (at_now state streams' reported) accepted' now
     still_so_far s = record {
       so_far = serves_stay s.so_far;
       within = (let within = s.within in omega arith);
@@ -134,7 +134,7 @@ module _ (limits : Limits) (reading : Reading) (first : World) (state : OwnedSer
           λ j k b c hb hc e. let p = still_back (get_or slots j None) (get_or now j None) b (still j) hb in let q = still_back (get_or slots k None) (get_or now k None) c (still k) hc in
           s.apart j k p.0 q.0 p.1 q.1 (sym p.2.0 ∙ e ∙ q.2.0);
       later = λ n past. s.later n (omega arith);
-      untold = λ n past. s.untold n (omega arith);
+      unreported = λ n past. s.unreported n (omega arith);
       served = λ n h. s.served n (served_back n h);
       ended = λ n some le. elim (s.ended n some (omega arith)) [ inl h ↦ inl (served_forth n h) | inr e ↦ inr e ];
       owners = s.owners;
@@ -143,8 +143,8 @@ module _ (limits : Limits) (reading : Reading) (first : World) (state : OwnedSer
 
 -- ---- the turns of a client
 
-module _ (limits : Limits) (reading : Reading) (first : World) (old new : OwnedService) (streams streams' : ℕ → StreamState) (told : Option (List ToldEnd)) (accepted : ℕ) (slots : List (Option Client))
-    (s : ServedSoFar limits reading first (at_now old streams told) accepted slots) (key : ℕ) (lt : key < length slots) (c : Client) (here : IsIn slots key c) (events : List Event) (state : ConnectionState)
+module _ (limits : Limits) (reading : Reading) (first : World) (old new : OwnedService) (streams streams' : ℕ → StreamState) (reported : Option (List ReportedEnd)) (accepted : ℕ) (slots : List (Option Client))
+    (s : ServedSoFar limits reading first (at_now old streams reported) accepted slots) (key : ℕ) (lt : key < length slots) (c : Client) (here : IsIn slots key c) (events : List Event) (state : ConnectionState)
     (are : AreTurns limits.unsent reading old.service new.service c.number streams streams' c.connection state events) (owners : new.owners ≡ owners_by c.number old.owners (exchanges events))
     (at_own : ClosedNone c.number (s.so_far.all ++ numbered c.number events) ⊎ ClosedAtEnd limits.own_sessions c.number (s.so_far.all ++ numbered c.number events)) where
   abbrev after : ℕ → ConnectionState
@@ -156,8 +156,8 @@ module _ (limits : Limits) (reading : Reading) (first : World) (old new : OwnedS
   pub after_other : (n : ℕ) → c.number == n ≡ false → after n ≡ s.so_far.after n
   after_other n e = ap (λ b. cond b state (s.so_far.after n)) e
 
-  pub own_untold : times_told c.number s.so_far.ends ≡ 0
-  own_untold = s.served c.number (key, c, here, refl)
+  pub own_unreported : times_reported c.number s.so_far.ends ≡ 0
+  own_unreported = s.served c.number (key, c, here, refl)
 
   abbrev pub all_turned : List NumberedEvent
   all_turned = s.so_far.all ++ numbered c.number events
@@ -174,7 +174,7 @@ module _ (limits : Limits) (reading : Reading) (first : World) (old new : OwnedS
   ]
 
   -- what happened so far, and these turns
-  abbrev pub serves_turned : ServesMany limits reading first (world new.service streams' told)
+  abbrev pub serves_turned : ServesMany limits reading first (world new.service streams' reported)
   serves_turned = record {
     all = s.so_far.all ++ numbered c.number events;
     after = after;
@@ -190,16 +190,16 @@ module _ (limits : Limits) (reading : Reading) (first : World) (old new : OwnedS
         all_both (λ (e : NumberedEvent). (0 < e.connection) × (e.connection ≤ limits.connections)) s.so_far.all (numbered c.number events) s.so_far.numbered
         (numbered_to limits.connections c.number events (s.few key c here).0 (let le = (s.few key c here).1 in let within = s.within in omega arith));
     ends = s.so_far.ends;
-    told = s.so_far.told;
+    reported = s.so_far.reported;
     ended =
-        others_ended (λ (e : ToldEnd). HasEnded limits e.how (streams e.number) (s.so_far.after e.number)) (λ (e : ToldEnd). HasEnded limits e.how (streams' e.number) (after e.number)) c.number
+        others_ended (λ (e : ReportedEnd). HasEnded limits e.how (streams e.number) (s.so_far.after e.number)) (λ (e : ReportedEnd). HasEnded limits e.how (streams' e.number) (after e.number)) c.number
         (λ e ne h. subst (λ (t : ConnectionState). HasEnded limits e.how (streams' e.number) t)
         (sym (after_other e.number (differ c.number e.number (c.number == e.number) refl (λ same. eqb-false e.number c.number ne (sym same)))))
-        (subst (λ (t : StreamState). HasEnded limits e.how t (s.so_far.after e.number)) (sym (are.others e.number (eqb-false e.number c.number ne))) h)) s.so_far.ends own_untold s.so_far.ended;
+        (subst (λ (t : StreamState). HasEnded limits e.how t (s.so_far.after e.number)) (sym (are.others e.number (eqb-false e.number c.number ne))) h)) s.so_far.ends own_unreported s.so_far.ended;
     closed =
-        others_ended (λ (e : ToldEnd). ClosedAtEnd limits.own_sessions e.number s.so_far.all) (λ (e : ToldEnd). ClosedAtEnd limits.own_sessions e.number all_turned) c.number
+        others_ended (λ (e : ReportedEnd). ClosedAtEnd limits.own_sessions e.number s.so_far.all) (λ (e : ReportedEnd). ClosedAtEnd limits.own_sessions e.number all_turned) c.number
         (λ e ne h. closed_other c.number s.so_far.all events limits.own_sessions e.number
-        (differ c.number e.number (c.number == e.number) refl (λ same. eqb-false e.number c.number ne (sym same))) h) s.so_far.ends own_untold s.so_far.closed;
+        (differ c.number e.number (c.number == e.number) refl (λ same. eqb-false e.number c.number ne (sym same))) h) s.so_far.ends own_unreported s.so_far.closed;
     others = λ n. others_turned n (c.number == n) refl;
   }
 
@@ -216,7 +216,7 @@ module _ (limits : Limits) (reading : Reading) (first : World) (old new : OwnedS
   module _ (x : Option Client) where
     -- if it goes on, this is true of what happened so far
     module _ (none : ClosedNone c.number all_turned) (stands : StandsAs c.number state x) where
-      none_turned : (n : ℕ) (b : Bool) → c.number == n ≡ b → times_told n s.so_far.ends ≡ 0 → ClosedNone n all_turned
+      none_turned : (n : ℕ) (b : Bool) → c.number == n ≡ b → times_reported n s.so_far.ends ≡ 0 → ClosedNone n all_turned
       none_turned n true e h = subst (λ (m : ℕ). ClosedNone m all_turned) (eqb-true c.number n e) none
       none_turned n false e h = none_closed_other c.number s.so_far.all events n e (s.none_closed n h)
 
@@ -240,8 +240,8 @@ module _ (limits : Limits) (reading : Reading) (first : World) (old new : OwnedS
       apart_at j k b d (inr p) (inl q) e = s.apart j key b c p.1 here (e ∙ (own_at d q.1).0) ∙ sym q.0
       apart_at j k b d (inr p) (inr q) e = s.apart j k b d p.1 q.1 e
 
-      served_at : (n j : ℕ) (d : Client) → d.number ≡ n → IsAt slots key x j d → times_told n s.so_far.ends ≡ 0
-      served_at n j d e (inl p) = subst (λ (m : ℕ). times_told m s.so_far.ends ≡ 0) (sym (own_at d p.1).0 ∙ e) own_untold
+      served_at : (n j : ℕ) (d : Client) → d.number ≡ n → IsAt slots key x j d → times_reported n s.so_far.ends ≡ 0
+      served_at n j d e (inl p) = subst (λ (m : ℕ). times_reported m s.so_far.ends ≡ 0) (sym (own_at d p.1).0 ∙ e) own_unreported
       served_at n j d e (inr p) = s.served n (j, d, p.1, e)
 
       still_served : (n j : ℕ) (d : Client) → d.number ≡ n → IsIn slots j d → (j ≡ key) ⊎ (j ≢ key) → IsServed (set slots key x) n
@@ -250,7 +250,7 @@ module _ (limits : Limits) (reading : Reading) (first : World) (old new : OwnedS
           (key, stands.0, in_slot slots key x lt key stands.0 (inl (refl, stands.1)), stands.2 ∙ ap (λ (t : Client). t.number) (sym is) ∙ e)
       still_served n j d e h (inr ne) = (j, d, in_slot slots key x lt j d (inr (ne, h)), e)
 
-      client_turned : ServedSoFar limits reading first (at_now new streams' told) accepted (set slots key x)
+      client_turned : ServedSoFar limits reading first (at_now new streams' reported) accepted (set slots key x)
       client_turned = record {
         so_far = serves_turned;
         within = s.within;
@@ -258,7 +258,7 @@ module _ (limits : Limits) (reading : Reading) (first : World) (old new : OwnedS
         each = λ j d h. each_at j d (at_slot slots key x lt j d h);
         apart = λ j k b d hb hd e. apart_at j k b d (at_slot slots key x lt j b hb) (at_slot slots key x lt k d hd) e;
         later = later_on;
-        untold = s.untold;
+        unreported = s.unreported;
         served = λ n h. served_at n h.0 h.1 h.3 (at_slot slots key x lt h.0 h.1 h.2);
         ended = λ n some le. elim (s.ended n some le) [ inl h ↦ inl (still_served n h.0 h.1 h.3 h.2 (same_or h.0 key (h.0 == key) refl)) | inr e ↦ inr e ];
         owners = owners_turned;
@@ -266,12 +266,12 @@ module _ (limits : Limits) (reading : Reading) (first : World) (old new : OwnedS
       }
 
     -- if it ended and that is reported, its slot is empty, and this is true
-    module _ (at_end : ClosedAtEnd limits.own_sessions c.number all_turned) (empty : x ≡ None) (how : ConnectionEnd) (has_ended : HasEnded limits how (streams' c.number) state) (told' : Option (List ToldEnd))
-        (tells : told' ≡ told_more told (record { number = c.number; how = how } ∷ [])) where
-      abbrev end : ToldEnd
+    module _ (at_end : ClosedAtEnd limits.own_sessions c.number all_turned) (empty : x ≡ None) (how : ConnectionEnd) (has_ended : HasEnded limits how (streams' c.number) state) (reported' : Option (List ReportedEnd))
+        (reports : reported' ≡ reported_more reported (record { number = c.number; how = how } ∷ [])) where
+      abbrev end : ReportedEnd
       end = record { number = c.number; how = how }
 
-      abbrev ends : List ToldEnd
+      abbrev ends : List ReportedEnd
       ends = s.so_far.ends ++ end ∷ []
 
       left_at : (j : ℕ) (d : Client) → IsAt slots key x j d → (j ≢ key) × IsIn slots j d
@@ -281,49 +281,49 @@ module _ (limits : Limits) (reading : Reading) (first : World) (old new : OwnedS
       left : (j : ℕ) (d : Client) → IsIn (set slots key x) j d → (j ≢ key) × IsIn slots j d
       left j d h = left_at j d (at_slot slots key x lt j d h)
 
-      once_more : (n : ℕ) → c.number == n ≡ false → times_told n ends ≡ times_told n s.so_far.ends
-      once_more n ne = times_more n s.so_far.ends end false ne ∙ plus (times_told n s.so_far.ends)
+      once_more : (n : ℕ) → c.number == n ≡ false → times_reported n ends ≡ times_reported n s.so_far.ends
+      once_more n ne = times_more n s.so_far.ends end false ne ∙ plus (times_reported n s.so_far.ends)
         where
           plus : (m : ℕ) → m + 0 ≡ m
           plus m = omega arith
 
-      own_told : times_told c.number ends ≡ 1
-      own_told = times_more c.number s.so_far.ends end true (eq-eqb c.number c.number refl) ∙ ap (λ (m : ℕ). m + 1) own_untold
+      own_reported : times_reported c.number ends ≡ 1
+      own_reported = times_more c.number s.so_far.ends end true (eq-eqb c.number c.number refl) ∙ ap (λ (m : ℕ). m + 1) own_unreported
 
-      abbrev serves_ended : ServesMany limits reading first (world new.service streams' told')
+      abbrev serves_ended : ServesMany limits reading first (world new.service streams' reported')
       serves_ended = record {
         all = serves_turned.all;
         after = after;
         streamed = serves_turned.streamed;
         numbered = serves_turned.numbered;
         ends = ends;
-        told = tells ∙ ap (λ (t : Option (List ToldEnd)). told_more t (end ∷ [])) s.so_far.told ∙ told_both first.told s.so_far.ends (end ∷ []);
+        reported = reports ∙ ap (λ (t : Option (List ReportedEnd)). reported_more t (end ∷ [])) s.so_far.reported ∙ reported_both first.reported s.so_far.ends (end ∷ []);
         ended =
-            all_both (λ (e : ToldEnd). HasEnded limits e.how (streams' e.number) (after e.number)) s.so_far.ends (end ∷ []) serves_turned.ended
+            all_both (λ (e : ReportedEnd). HasEnded limits e.how (streams' e.number) (after e.number)) s.so_far.ends (end ∷ []) serves_turned.ended
             (subst (λ (t : ConnectionState). HasEnded limits how (streams' c.number) t) (sym after_own) has_ended, tt);
-        closed = all_both (λ (e : ToldEnd). ClosedAtEnd limits.own_sessions e.number all_turned) s.so_far.ends (end ∷ []) serves_turned.closed (at_end, tt);
+        closed = all_both (λ (e : ReportedEnd). ClosedAtEnd limits.own_sessions e.number all_turned) s.so_far.ends (end ∷ []) serves_turned.closed (at_end, tt);
         others = serves_turned.others;
       }
 
-      gone : (n j : ℕ) (d : Client) → d.number ≡ n → IsIn slots j d → (j ≡ key) ⊎ (j ≢ key) → IsServed (set slots key x) n ⊎ (times_told n ends ≡ 1)
+      gone : (n j : ℕ) (d : Client) → d.number ≡ n → IsIn slots j d → (j ≡ key) ⊎ (j ≢ key) → IsServed (set slots key x) n ⊎ (times_reported n ends ≡ 1)
       gone n j d e h (inl same) =
           let is = is_own d (subst (λ (k : ℕ). IsIn slots k d) same h) in
-          inr (subst (λ (m : ℕ). times_told m ends ≡ 1) (ap (λ (t : Client). t.number) (sym is) ∙ e) own_told)
+          inr (subst (λ (m : ℕ). times_reported m ends ≡ 1) (ap (λ (t : Client). t.number) (sym is) ∙ e) own_reported)
       gone n j d e h (inr ne) = inl (j, d, in_slot slots key x lt j d (inr (ne, h)), e)
 
-      told_before : (n : ℕ) → times_told n s.so_far.ends ≡ 1 → times_told n ends ≡ 1
-      told_before n e =
+      reported_before : (n : ℕ) → times_reported n s.so_far.ends ≡ 1 → times_reported n ends ≡ 1
+      reported_before n e =
           once_more n
-          (differ c.number n (c.number == n) refl (λ same. let none : times_told n s.so_far.ends ≡ 0 = subst (λ (m : ℕ). times_told m s.so_far.ends ≡ 0) same own_untold in absurd (omega arith)))
+          (differ c.number n (c.number == n) refl (λ same. let none : times_reported n s.so_far.ends ≡ 0 = subst (λ (m : ℕ). times_reported m s.so_far.ends ≡ 0) same own_unreported in absurd (omega arith)))
           ∙ e
 
-      none_ended : (n : ℕ) (b : Bool) → c.number == n ≡ b → times_told n ends ≡ 0 → ClosedNone n all_turned
+      none_ended : (n : ℕ) (b : Bool) → c.number == n ≡ b → times_reported n ends ≡ 0 → ClosedNone n all_turned
       none_ended n true e h =
-          let once : times_told n ends ≡ 1 = subst (λ (m : ℕ). times_told m ends ≡ 1) (eqb-true c.number n e) own_told in
+          let once : times_reported n ends ≡ 1 = subst (λ (m : ℕ). times_reported m ends ≡ 1) (eqb-true c.number n e) own_reported in
           absurd (omega arith)
       none_ended n false e h = none_closed_other c.number s.so_far.all events n e (s.none_closed n (sym (once_more n e) ∙ h))
 
-      client_ended : ServedSoFar limits reading first (at_now new streams' told') accepted (set slots key x)
+      client_ended : ServedSoFar limits reading first (at_now new streams' reported') accepted (set slots key x)
       client_ended = record {
         so_far = serves_ended;
         within = s.within;
@@ -331,22 +331,22 @@ module _ (limits : Limits) (reading : Reading) (first : World) (old new : OwnedS
         each = λ j d h. let p = left j d h in s.each j d p.1 ∙ sym (after_other d.number (number_apart j d p.0 p.1));
         apart = λ j k b d hb hd e. s.apart j k b d (left j b hb).1 (left k d hd).1 e;
         later = later_on;
-        untold = λ n past. let le = (s.few key c here).1 in once_more n (differ c.number n (c.number == n) refl (λ same. absurd (omega arith))) ∙ s.untold n past;
+        unreported = λ n past. let le = (s.few key c here).1 in once_more n (differ c.number n (c.number == n) refl (λ same. absurd (omega arith))) ∙ s.unreported n past;
         served =
             λ n h. let p = left h.0 h.1 h.2 in
             once_more n (subst (λ (m : ℕ). c.number == m ≡ false) h.3 (number_apart h.0 h.1 p.0 p.1)) ∙ s.served n (h.0, h.1, p.1, h.3);
         ended =
-            λ n some le. elim (s.ended n some le) [ inl h ↦ gone n h.0 h.1 h.3 h.2 (same_or h.0 key (h.0 == key) refl) | inr e ↦ inr (told_before n e) ];
+            λ n some le. elim (s.ended n some le) [ inl h ↦ gone n h.0 h.1 h.3 h.2 (same_or h.0 key (h.0 == key) refl) | inr e ↦ inr (reported_before n e) ];
         owners = owners_turned;
         none_closed = λ n h. none_ended n (c.number == n) refl h;
       }
 
-  pub turned_on : (x : Option Client) → ClosedNone c.number all_turned → StandsAs c.number state x → ServedSoFar limits reading first (at_now new streams' told) accepted (set slots key x)
+  pub turned_on : (x : Option Client) → ClosedNone c.number all_turned → StandsAs c.number state x → ServedSoFar limits reading first (at_now new streams' reported) accepted (set slots key x)
   turned_on x none stands = client_turned x none stands
 
-  pub turned_out : (x : Option Client) → ClosedAtEnd limits.own_sessions c.number all_turned → x ≡ None → (how : ConnectionEnd) → HasEnded limits how (streams' c.number) state → (told' : Option (List ToldEnd))
-      → told' ≡ told_more told (record { number = c.number; how = how } ∷ []) → ServedSoFar limits reading first (at_now new streams' told') accepted (set slots key x)
-  turned_out x at_end empty how has_ended told' tells = client_ended x at_end empty how has_ended told' tells
+  pub turned_out : (x : Option Client) → ClosedAtEnd limits.own_sessions c.number all_turned → x ≡ None → (how : ConnectionEnd) → HasEnded limits how (streams' c.number) state → (reported' : Option (List ReportedEnd))
+      → reported' ≡ reported_more reported (record { number = c.number; how = how } ∷ []) → ServedSoFar limits reading first (at_now new streams' reported') accepted (set slots key x)
+  turned_out x at_end empty how has_ended reported' reports = client_ended x at_end empty how has_ended reported' reports
 
 -- if both tests together hold, each does
 pub both_hold : (a b : Bool) → (a && b) ≡ true → (a ≡ true) × (b ≡ true)
@@ -368,7 +368,7 @@ keeps number streams streams' h c = elim (same_or c number (c == number) refl) [
 stays_keep : (number : ℕ) (streams streams' : ℕ → StreamState) → AllStay streams streams' → KeepsBytes number streams streams'
 stays_keep number streams streams' h = record { left = ap (λ (t : StreamState). t.left) (h number); written = ap (λ (t : StreamState). t.written) (h number); others = λ c ne. h c }
 
-keeps_of : (turn : Turn) (number : ℕ) (streams streams' : ℕ → StreamState) → ClosesSo turn number streams streams' → KeepsBytes number streams streams'
+keeps_of : (turn : Turn) (number : ℕ) (streams streams' : ℕ → StreamState) → ClosesAs turn number streams streams' → KeepsBytes number streams streams'
 keeps_of GoesOn number streams streams' h = stays_keep number streams streams' h
 keeps_of Loaded number streams streams' h = stays_keep number streams streams' h
 keeps_of Waits number streams streams' h = stays_keep number streams streams' h
@@ -383,7 +383,7 @@ goes_on_as limits c after state stream now ended same none stands =
 
 -- after turns, a slot goes on with its connection as they left it, or its connection ended
 slot_follows : (limits : Limits) (turn : Turn) (time : ℕ) (c : Client) (after state : ConnectionState) (stream stream' : StreamState) (now : Option Client) (ended : Option (ℕ × ConnectionEnd)) → stream'.left ≡ stream.left
-    → LeavesSo turn after state stream → SlotFollows turn time c state now ended → GoesOnOrEnds limits c after stream' now ended
+    → LeavesAs turn after state stream → SlotFollows turn time c state now ended → GoesOnOrEnds limits c after stream' now ended
 slot_follows limits GoesOn time c after state stream stream' now ended same leaves h = goes_on_as limits c after state stream' now ended leaves h.0 h.1
 slot_follows limits Loaded time c after state stream stream' now ended same leaves h = goes_on_as limits c after state stream' now ended leaves h.0 h.1
 slot_follows limits Waits time c after state stream stream' now ended same leaves h = goes_on_as limits c after state stream' now ended leaves h.0 h.1
@@ -399,7 +399,7 @@ none_last (Some e) number owners events h = h
 
 -- turns of the connection in a slot, if its turn was next
 pub slot_turns : (limits : Limits) (time : ℕ) (reading : Reading) (old new : OwnedService) (streams streams' : ℕ → StreamState) (before now : Option Client) (ended : Option (ℕ × ConnectionEnd))
-    → SlotTurnsSo limits.unsent time reading old new streams streams' before now ended → SlotGoesOn false limits reading old new streams streams' before now ended
+    → SlotTurnsAs limits.unsent time reading old new streams streams' before now ended → SlotGoesOn false limits reading old new streams streams' before now ended
 slot_turns limits time reading old new streams streams' before now ended (inl p) = inl (p.0, p.1, p.2, p.3)
 slot_turns limits time reading old new streams streams' before now ended (inr p) =
     let c = p.0 in
@@ -505,21 +505,21 @@ module _ (limits : Limits) (reading : Reading) (old mid new : OwnedService) (str
   slot_closes own None q h = closes_none own None (λ n o es l. l) q h
 
 -- the end was reported, if there was one
-abbrev pub Tells : Option (List ToldEnd) → Option (List ToldEnd) → Option (ℕ × ConnectionEnd) → Type 0
-Tells told told' ended = TellsEnd {X = Unit {0}} {Y = Unit {0}} told told' ended (Ok tt)
+abbrev pub Reports : Option (List ReportedEnd) → Option (List ReportedEnd) → Option (ℕ × ConnectionEnd) → Type 0
+Reports reported reported' ended = ReportsEnd {X = Unit {0}} {Y = Unit {0}} reported reported' ended (Ok tt)
 
 -- there was an end, and it wasn't reported
-abbrev pub NotTold : Option (List ToldEnd) → Option (List ToldEnd) → Option (ℕ × ConnectionEnd) → Type 0
-NotTold told told' ended = TellsEnd {X = Unit {0}} {Y = Unit {0}} told told' ended (Err tt)
+abbrev pub NotReported : Option (List ReportedEnd) → Option (List ReportedEnd) → Option (ℕ × ConnectionEnd) → Type 0
+NotReported reported reported' ended = ReportsEnd {X = Unit {0}} {Y = Unit {0}} reported reported' ended (Err tt)
 
 -- whether an end was reported doesn't depend on the values of the result
-pub tells : (X Y : Type 0) (x : X) (told told' : Option (List ToldEnd)) (ended : Option (ℕ × ConnectionEnd)) → TellsEnd {X = X} {Y = Y} told told' ended (Ok x) → Tells told told' ended
-tells X Y x told told' None h = h
-tells X Y x told told' (Some e) h = h
+pub reports : (X Y : Type 0) (x : X) (reported reported' : Option (List ReportedEnd)) (ended : Option (ℕ × ConnectionEnd)) → ReportsEnd {X = X} {Y = Y} reported reported' ended (Ok x) → Reports reported reported' ended
+reports X Y x reported reported' None h = h
+reports X Y x reported reported' (Some e) h = h
 
-pub not_told_end : (X Y : Type 0) (y : Y) (told told' : Option (List ToldEnd)) (ended : Option (ℕ × ConnectionEnd)) → TellsEnd {X = X} {Y = Y} told told' ended (Err y) → NotTold told told' ended
-not_told_end X Y y told told' None h = absurd h
-not_told_end X Y y told told' (Some e) h = h
+pub not_reported_end : (X Y : Type 0) (y : Y) (reported reported' : Option (List ReportedEnd)) (ended : Option (ℕ × ConnectionEnd)) → ReportsEnd {X = X} {Y = Y} reported reported' ended (Err y) → NotReported reported reported' ended
+not_reported_end X Y y reported reported' None h = absurd h
+not_reported_end X Y y reported reported' (Some e) h = h
 
 -- the sessions that were closed once this connection had its turns, or ended
 closed_then : (own : Bool) (number : ℕ) (owners : List Owner) (all : List NumberedEvent) (events : List Event) (e : ℕ × ConnectionEnd) → owners ≡ owners_of all → ClosedNone number all
@@ -529,40 +529,40 @@ closed_then true number owners all events e same none h =
     (ended_own number all h.0 h.1 none h.3 (subst (λ (o : List Owner). ClosesOwn number (owners_by number o (exchanges h.0)) h.1) same h.4))
 closed_then false number owners all events e same none h = none_closed_own number all events none h
 
-module _ (limits : Limits) (reading : Reading) (first : World) (old new : OwnedService) (streams streams' : ℕ → StreamState) (told told' : Option (List ToldEnd)) (accepted : ℕ) (slots : List (Option Client))
-    (s : ServedSoFar limits reading first (at_now old streams told) accepted slots) (key : ℕ) (x : Option Client) (lt : key < length slots) where
-  same_slots : AllStay streams streams' → new ≡ old → x ≡ get_or slots key None → told' ≡ told → ServedSoFar limits reading first (at_now new streams' told') accepted (set slots key x)
+module _ (limits : Limits) (reading : Reading) (first : World) (old new : OwnedService) (streams streams' : ℕ → StreamState) (reported reported' : Option (List ReportedEnd)) (accepted : ℕ) (slots : List (Option Client))
+    (s : ServedSoFar limits reading first (at_now old streams reported) accepted slots) (key : ℕ) (x : Option Client) (lt : key < length slots) where
+  same_slots : AllStay streams streams' → new ≡ old → x ≡ get_or slots key None → reported' ≡ reported → ServedSoFar limits reading first (at_now new streams' reported') accepted (set slots key x)
   same_slots stay e same t =
-      subst (λ (now : List (Option Client)). ServedSoFar limits reading first (at_now new streams' told') accepted now) (sym (ap (λ (o : Option Client). set slots key o) same ∙ set-get_or slots key None))
-      (subst (λ (state : OwnedService). ServedSoFar limits reading first (at_now state streams' told') accepted slots) (sym e)
-      (subst (λ (r : Option (List ToldEnd)). ServedSoFar limits reading first (at_now old streams' r) accepted slots) (sym t)
-      (still_so_far limits reading first old streams streams' told (stays streams streams' stay) accepted accepted slots slots refl (still_at_first slots) s)))
+      subst (λ (now : List (Option Client)). ServedSoFar limits reading first (at_now new streams' reported') accepted now) (sym (ap (λ (o : Option Client). set slots key o) same ∙ set-get_or slots key None))
+      (subst (λ (state : OwnedService). ServedSoFar limits reading first (at_now state streams' reported') accepted slots) (sym e)
+      (subst (λ (r : Option (List ReportedEnd)). ServedSoFar limits reading first (at_now old streams' r) accepted slots) (sym t)
+      (still_so_far limits reading first old streams streams' reported (stays streams streams' stay) accepted accepted slots slots refl (still_at_first slots) s)))
 
   -- no session was closed for a connection that is served
   none_own : (c : Client) → IsIn slots key c → ClosedNone c.number s.so_far.all
   none_own c here = s.none_closed c.number (s.served c.number (key, c, here, refl))
 
-  goes_on : (ended : Option (ℕ × ConnectionEnd)) → Tells told told' ended → SlotGoesOn limits.own_sessions limits reading old new streams streams' (get_or slots key None) x ended
-      → ServedSoFar limits reading first (at_now new streams' told') accepted (set slots key x)
+  goes_on : (ended : Option (ℕ × ConnectionEnd)) → Reports reported reported' ended → SlotGoesOn limits.own_sessions limits reading old new streams streams' (get_or slots key None) x ended
+      → ServedSoFar limits reading first (at_now new streams' reported') accepted (set slots key x)
   goes_on None t (inl p) = same_slots p.1 p.0 p.2 t
   goes_on None t (inr p) =
       let none = none_closed_own p.0.number s.so_far.all p.2 (none_own p.0 p.1) p.7 in
-      subst (λ (r : Option (List ToldEnd)). ServedSoFar limits reading first (at_now new streams' r) accepted (set slots key x)) (sym t)
-      (turned_on limits reading first old new streams streams' told accepted slots s key lt p.0 p.1 p.2 p.3 p.4 p.6 (inl none) x none p.5)
+      subst (λ (r : Option (List ReportedEnd)). ServedSoFar limits reading first (at_now new streams' r) accepted (set slots key x)) (sym t)
+      (turned_on limits reading first old new streams streams' reported accepted slots s key lt p.0 p.1 p.2 p.3 p.4 p.6 (inl none) x none p.5)
   goes_on (Some e) t (inl p) = let no = p.3 in absurd (cc)
   goes_on (Some e) t (inr p) =
       let at_end = closed_then limits.own_sessions p.0.number old.owners s.so_far.all p.2 e s.owners (none_own p.0 p.1) p.7 in
-      turned_out limits reading first old new streams streams' told accepted slots s key lt p.0 p.1 p.2 p.3 p.4 p.6 (inr at_end) x at_end p.5.0 e.1 p.5.2 told'
-      (t ∙ ap (λ (n : ℕ). told_more told (record { number = n; how = e.1 } ∷ [])) p.5.1)
+      turned_out limits reading first old new streams streams' reported accepted slots s key lt p.0 p.1 p.2 p.3 p.4 p.6 (inr at_end) x at_end p.5.0 e.1 p.5.2 reported'
+      (t ∙ ap (λ (n : ℕ). reported_more reported (record { number = n; how = e.1 } ∷ [])) p.5.1)
 
-  fails : (ended : Option (ℕ × ConnectionEnd)) → NotTold told told' ended → SlotGoesOn limits.own_sessions limits reading old new streams streams' (get_or slots key None) x ended
-      → ServesMany limits reading first (world new.service streams' told')
+  fails : (ended : Option (ℕ × ConnectionEnd)) → NotReported reported reported' ended → SlotGoesOn limits.own_sessions limits reading old new streams streams' (get_or slots key None) x ended
+      → ServesMany limits reading first (world new.service streams' reported')
   fails None t h = absurd t
   fails (Some e) t (inl p) = let no = p.3 in absurd (cc)
   fails (Some e) t (inr p) =
       let at_end = closed_then limits.own_sessions p.0.number old.owners s.so_far.all p.2 e s.owners (none_own p.0 p.1) p.7 in
-      subst (λ (r : Option (List ToldEnd)). ServesMany limits reading first (world new.service streams' r)) (sym t)
-      (serves_turned limits reading first old new streams streams' told accepted slots s key lt p.0 p.1 p.2 p.3 p.4 p.6 (inr at_end))
+      subst (λ (r : Option (List ReportedEnd)). ServesMany limits reading first (world new.service streams' r)) (sym t)
+      (serves_turned limits reading first old new streams streams' reported accepted slots s key lt p.0 p.1 p.2 p.3 p.4 p.6 (inr at_end))
 
   module _ (d : Option Client) (ended : Option (ℕ × ConnectionEnd)) (h : SlotGoesOn limits.own_sessions limits reading old new streams streams' (get_or slots key d) x ended) where
     at_none : SlotGoesOn limits.own_sessions limits reading old new streams streams' (get_or slots key None) x ended
@@ -570,11 +570,11 @@ module _ (limits : Limits) (reading : Reading) (first : World) (old new : OwnedS
 
     -- once the connection in a slot had its turns and its end was reported, what happened so far is what happened
     -- before, followed by these turns
-    pub slot_goes_on : Tells told told' ended → ServedSoFar limits reading first (at_now new streams' told') accepted (set slots key x)
+    pub slot_goes_on : Reports reported reported' ended → ServedSoFar limits reading first (at_now new streams' reported') accepted (set slots key x)
     slot_goes_on t = goes_on ended t at_none
 
     -- if its end couldn't be reported, no further end was reported
-    pub slot_fails : NotTold told told' ended → ServesMany limits reading first (world new.service streams' told')
+    pub slot_fails : NotReported reported reported' ended → ServesMany limits reading first (world new.service streams' reported')
     slot_fails t = fails ended t at_none
 
 -- ---- a further connection
@@ -601,8 +601,8 @@ module _ (limits : Limits) (reading : Reading) (first : World) (now : Now) (acce
   more_apart j k b d (inr p) (inl q) e = let f = (new_at d q.1).0 in let g = (s.few j b p.1).1 in absurd (omega arith)
   more_apart j k b d (inr p) (inr q) e = s.apart j k b d p.1 q.1 e
 
-  more_served : (n j : ℕ) (d : Client) → d.number ≡ n → IsAt slots key x j d → times_told n s.so_far.ends ≡ 0
-  more_served n j d e (inl p) = subst (λ (m : ℕ). times_told m s.so_far.ends ≡ 0) (sym (new_at d p.1).0 ∙ e) (s.untold (accepted + 1) (omega arith))
+  more_served : (n j : ℕ) (d : Client) → d.number ≡ n → IsAt slots key x j d → times_reported n s.so_far.ends ≡ 0
+  more_served n j d e (inl p) = subst (λ (m : ℕ). times_reported m s.so_far.ends ≡ 0) (sym (new_at d p.1).0 ∙ e) (s.unreported (accepted + 1) (omega arith))
   more_served n j d e (inr p) = s.served n (j, d, p.1, e)
 
   kept : (n j : ℕ) (d : Client) → d.number ≡ n → IsIn slots j d → IsServed (set slots key x) n
@@ -612,7 +612,7 @@ module _ (limits : Limits) (reading : Reading) (first : World) (now : Now) (acce
   last_or : (n : ℕ) → n ≤ accepted + 1 → (n ≤ accepted) ⊎ (n ≡ accepted + 1)
   last_or n le = elim (same_or n (accepted + 1) (n == accepted + 1) refl) [ inl e ↦ inr e | inr ne ↦ inl (omega arith) ]
 
-  more_ended : (n : ℕ) → 0 < n → (n ≤ accepted) ⊎ (n ≡ accepted + 1) → IsServed (set slots key x) n ⊎ (times_told n s.so_far.ends ≡ 1)
+  more_ended : (n : ℕ) → 0 < n → (n ≤ accepted) ⊎ (n ≡ accepted + 1) → IsServed (set slots key x) n ⊎ (times_reported n s.so_far.ends ≡ 1)
   more_ended n some (inl le) = elim (s.ended n some le) [ inl h ↦ inl (kept n h.0 h.1 h.3 h.2) | inr e ↦ inr e ]
   more_ended n some (inr e) = inl (key, stands.0, in_slot slots key x lt key stands.0 (inl (refl, stands.1)), stands.2 ∙ sym e)
 
@@ -625,44 +625,44 @@ module _ (limits : Limits) (reading : Reading) (first : World) (now : Now) (acce
     each = λ j d h. more_each j d (at_slot slots key x lt j d h);
     apart = λ j k b d hb hd e. more_apart j k b d (at_slot slots key x lt j b hb) (at_slot slots key x lt k d hd) e;
     later = λ n past. s.later n (omega arith);
-    untold = λ n past. s.untold n (omega arith);
+    unreported = λ n past. s.unreported n (omega arith);
     served = λ n h. more_served n h.0 h.1 h.3 (at_slot slots key x lt h.0 h.1 h.2);
     ended = λ n some le. more_ended n some (last_or n le);
     owners = s.owners;
     none_closed = s.none_closed;
   }
 
-module _ (limits : Limits) (reading : Reading) (first : World) (state : OwnedService) (streams streams' : ℕ → StreamState) (told : Option (List ToldEnd)) (accepted accepted' : ℕ) (slots : List (Option Client))
-    (key : ℕ) (slot x : Option Client) (lt : key < length slots) (s : ServedSoFar limits reading first (at_now state streams told) accepted slots) (below : accepted < limits.connections) (free : slot ≡ None)
+module _ (limits : Limits) (reading : Reading) (first : World) (state : OwnedService) (streams streams' : ℕ → StreamState) (reported : Option (List ReportedEnd)) (accepted accepted' : ℕ) (slots : List (Option Client))
+    (key : ℕ) (slot x : Option Client) (lt : key < length slots) (s : ServedSoFar limits reading first (at_now state streams reported) accepted slots) (below : accepted < limits.connections) (free : slot ≡ None)
     (here : slot ≡ get_or slots key slot) (stay : BytesStay streams streams') where
   at_key : get_or slots key None ≡ slot
   at_key = sym (here ∙ get_or_default slots key slot None lt)
 
-  before : ServedSoFar limits reading first (at_now state streams' told) accepted slots
-  before = still_so_far limits reading first state streams streams' told stay accepted accepted slots slots refl (still_at_first slots) s
+  before : ServedSoFar limits reading first (at_now state streams' reported) accepted slots
+  before = still_so_far limits reading first state streams streams' reported stay accepted accepted slots slots refl (still_at_first slots) s
 
   -- after an attempt to accept a connection into a free slot
-  pub slot_accepted : AcceptsSo accepted accepted' slot x → ServedSoFar limits reading first (at_now state streams' told) accepted' (set slots key x)
+  pub slot_accepted : AcceptsAs accepted accepted' slot x → ServedSoFar limits reading first (at_now state streams' reported) accepted' (set slots key x)
   slot_accepted (inl p) =
-      subst (λ (n : ℕ). ServedSoFar limits reading first (at_now state streams' told) n (set slots key x)) (sym p.0)
-      (subst (λ (now : List (Option Client)). ServedSoFar limits reading first (at_now state streams' told) accepted now)
+      subst (λ (n : ℕ). ServedSoFar limits reading first (at_now state streams' reported) n (set slots key x)) (sym p.0)
+      (subst (λ (now : List (Option Client)). ServedSoFar limits reading first (at_now state streams' reported) accepted now)
       (sym (ap (λ (o : Option Client). set slots key o) (p.1 ∙ sym at_key) ∙ set-get_or slots key None)) before)
   slot_accepted (inr p) =
-      subst (λ (n : ℕ). ServedSoFar limits reading first (at_now state streams' told) n (set slots key x)) (sym p.0)
-      (one_accepted limits reading first (at_now state streams' told) accepted slots key x lt before below (at_key ∙ free) (subst (λ (n : ℕ). StandsAs n new_connection x) p.0 p.1))
+      subst (λ (n : ℕ). ServedSoFar limits reading first (at_now state streams' reported) n (set slots key x)) (sym p.0)
+      (one_accepted limits reading first (at_now state streams' reported) accepted slots key x lt before below (at_key ∙ free) (subst (λ (n : ℕ). StandsAs n new_connection x) p.0 p.1))
 
 -- ---- the start and the end
 
 -- a world in which nothing happened
-abbrev pub nothing_happened : (limits : Limits) (reading : Reading) (state : ServiceState) (streams : ℕ → StreamState) (told : Option (List ToldEnd))
-    → ServesMany limits reading (world state streams told) (world state streams told)
-nothing_happened limits reading state streams told = record {
+abbrev pub nothing_happened : (limits : Limits) (reading : Reading) (state : ServiceState) (streams : ℕ → StreamState) (reported : Option (List ReportedEnd))
+    → ServesMany limits reading (world state streams reported) (world state streams reported)
+nothing_happened limits reading state streams reported = record {
   all = [];
   after = λ n. new_connection;
   streamed = record { served = record { run = refl; each = λ c. refl }; read = λ c. Consumes-nil (streams c).left; wrote = λ c. Appends-nil (streams c).written };
   numbered = tt;
   ends = [];
-  told = told_none told;
+  reported = reported_none reported;
   ended = tt;
   closed = tt;
   others = λ n. inl refl;
@@ -672,16 +672,16 @@ no_client : (slots : List (Option Client)) → HasNone slots → {P : Type 0} �
 no_client slots none key c h = let no : None ≡ Some c = sym (none key) ∙ h in absurd (cc)
 
 -- if no slot has a client and none was accepted, nothing happened on any connection so far
-pub none_served : (limits : Limits) (reading : Reading) (state : ServiceState) (owners : List Owner) (streams : ℕ → StreamState) (told : Option (List ToldEnd)) (accepted : ℕ) (slots : List (Option Client))
-    → HasNone slots → accepted ≡ 0 → owners ≡ [] → ServedSoFar limits reading (world state streams told) (at_now (record { service = state; owners = owners }) streams told) accepted slots
-none_served limits reading state owners streams told accepted slots none zero no_owner = record {
-  so_far = nothing_happened limits reading state streams told;
+pub none_served : (limits : Limits) (reading : Reading) (state : ServiceState) (owners : List Owner) (streams : ℕ → StreamState) (reported : Option (List ReportedEnd)) (accepted : ℕ) (slots : List (Option Client))
+    → HasNone slots → accepted ≡ 0 → owners ≡ [] → ServedSoFar limits reading (world state streams reported) (at_now (record { service = state; owners = owners }) streams reported) accepted slots
+none_served limits reading state owners streams reported accepted slots none zero no_owner = record {
+  so_far = nothing_happened limits reading state streams reported;
   within = omega arith;
   few = λ key c h. no_client slots none key c h;
   each = λ key c h. no_client slots none key c h;
   apart = λ j k b c hb hc e. no_client slots none j b hb;
   later = λ n past. refl;
-  untold = λ n past. refl;
+  unreported = λ n past. refl;
   served = λ n h. refl;
   ended = λ n some le. absurd (omega arith);
   owners = no_owner;
@@ -689,9 +689,9 @@ none_served limits reading state owners streams told accepted slots none zero no
 }
 
 -- if as many were accepted as were asked for and no slot has a client, each was reported as ended, once
-pub all_told : (limits : Limits) (reading : Reading) (first : World) (now : Now) (accepted : ℕ) (slots : List (Option Client)) → is_done limits accepted slots ≡ true
-    → (s : ServedSoFar limits reading first now accepted slots) → EachIsTold limits.connections s.so_far.ends
-all_told limits reading first now accepted slots done s n some le =
+pub all_reported : (limits : Limits) (reading : Reading) (first : World) (now : Now) (accepted : ℕ) (slots : List (Option Client)) → is_done limits accepted slots ≡ true
+    → (s : ServedSoFar limits reading first now accepted slots) → EachIsReported limits.connections s.so_far.ends
+all_reported limits reading first now accepted slots done s n some le =
     let both = both_hold (nat_le limits.connections accepted) (list_all is_none slots) done in
     let enough = leb-true limits.connections accepted both.0 in
     elim (s.ended n some (omega arith)) [ inl h ↦ no_client slots (all_free slots both.1) h.0 h.1 h.2 | inr e ↦ e ]

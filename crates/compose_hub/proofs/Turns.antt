@@ -19,7 +19,7 @@ use Rattle.compose_many.specs.Turns.{Moves}
 use Rattle.compose_hub.specs.Slots.{KeepsShare}
 use Rattle.compose_hub.specs.declared.client.Client.{Client}
 use Rattle.compose_hub.specs.Sockets.{KeepsBytes}
-use Rattle.compose_hub.specs.Turns.{OwnedService, AreTurns, TurnsSo, WasHad}
+use Rattle.compose_hub.specs.Turns.{OwnedService, AreTurns, TurnsAs, WasHad}
 
 none_after : (es fs : List Event) → es ++ fs ≡ [] → fs ≡ []
 none_after [] fs none = none
@@ -95,7 +95,7 @@ module _ (turns unsent : ℕ) (reading : Reading) (old mid new : OwnedService) (
   owners_then fs e = e ∙ ap (λ (o : List Owner). owners_by number o (exchanges fs)) so_far.owners ∙ sym (owners_both number old.owners so_far.events fs)
 
   -- a last turn, after turns on which the connection went on, together with these is turns of it
-  pub turns_then : (most : ℕ) (turn : Turn) → turns < most → TurnsSo 1 unsent reading turn mid new number streams' streams'' between now → TurnsSo most unsent reading turn old new number streams streams'' before now
+  pub turns_then : (most : ℕ) (turn : Turn) → turns < most → TurnsAs 1 unsent reading turn mid new number streams' streams'' between now → TurnsAs most unsent reading turn old new number streams streams'' before now
   turns_then most turn lt t = (
     so_far.events ++ t.0,
     t.1,
@@ -109,7 +109,7 @@ module _ (turns unsent : ℕ) (reading : Reading) (old mid new : OwnedService) (
   )
 
   -- and if it goes on after that one too, it went on
-  pub went_on : TurnsSo 1 unsent reading GoesOn mid new number streams' streams'' between now → WentOn (turns + 1) unsent reading old new number streams streams'' before now
+  pub went_on : TurnsAs 1 unsent reading GoesOn mid new number streams' streams'' between now → WentOn (turns + 1) unsent reading old new number streams streams'' before now
   went_on t = record {
     events = so_far.events ++ t.0;
     are =

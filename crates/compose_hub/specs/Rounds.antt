@@ -13,13 +13,13 @@ use Rattle.compose_hub.specs.declared.ends.ConnectionEnd.{ConnectionEnd}
 use Rattle.compose_hub.specs.declared.ends.ConnectionEnd.TheVariants.{Stalled, Idle}
 use Rattle.compose_hub.specs.declared.sockets.Ready.{Ready}
 use Rattle.compose_hub.specs.declared.sockets.Ready.TheVariants.{Listener, Key}
-use Rattle.compose_hub.specs.declared.sockets.Accepted.{Accepted}
-use Rattle.compose_hub.specs.declared.sockets.Accepted.TheVariants.{Connection, NoneWaits, GivenUp, Fails}
+use Rattle.compose_hub.specs.declared.sockets.AcceptedStream.{AcceptedStream}
+use Rattle.compose_hub.specs.declared.sockets.AcceptedStream.TheVariants.{Connection, NoneWaits, GivenUp, Fails}
 
 -- ---- the queue
 
 -- what is known of the queue after an attempt: it is empty only if no connection waits
-abbrev pub queue_after : Accepted → Queue
+abbrev pub queue_after : AcceptedStream → Queue
 queue_after Connection = Waits
 queue_after GivenUp = Waits
 queue_after NoneWaits = Empty

@@ -4,15 +4,15 @@ use Rattle.std.specs.List.{AllByRecursion}
 use Rattle.compose_machine.specs.Machine.{ServiceState, Reading}
 use Rattle.compose_machine.specs.Laws.{Exchange}
 use Rattle.compose_many.specs.Connection.{ConnectionState, new_connection, Event, closes, exchanges, closings}
-use Rattle.compose_many.specs.Owners.{owners_by, owners_of, ClosesOwn, ClosesSo as SessionsCloseSo, ClosedNone, ClosedAtEnd}
+use Rattle.compose_many.specs.Owners.{owners_by, owners_of, ClosesOwn, ClosesAs as SessionsCloseAs, ClosedNone, ClosedAtEnd}
 use Rattle.compose_many.specs.declared.owners.Owner.{Owner}
 use Rattle.compose_many.specs.Service.{NumberedEvent}
 use Rattle.compose_many.specs.Numbered.{StreamState, AllStreamed}
 use Rattle.compose_many.specs.declared.turn.Turn.{Turn}
 use Rattle.compose_many.specs.declared.turn.Turn.TheVariants.{Waits, NeedsRoom, Ends}
 use Rattle.compose_hub.specs.Sockets.{AllStay, KeepsBytes}
-use Rattle.compose_hub.specs.Ends.{ToldEnd, told_more, HasEnded, times_told}
-use Rattle.compose_hub.specs.Turns.{OwnedService, max_turns, TurnsSo, AreTurns}
+use Rattle.compose_hub.specs.Ends.{ReportedEnd, reported_more, HasEnded, times_reported}
+use Rattle.compose_hub.specs.Turns.{OwnedService, max_turns, TurnsAs, AreTurns}
 use Rattle.compose_hub.specs.Slots.{slot_has_turn, clients_in}
 use Rattle.compose_hub.specs.declared.client.Client.{Client}
 use Rattle.compose_hub.specs.declared.client.Limits.{Limits}
@@ -25,10 +25,10 @@ use Rattle.compose_hub.specs.declared.ends.ConnectionEnd.TheVariants.{Served}
 pub record World : Type 0 where
   pub service : ServiceState
   pub streams : ℕ → StreamState
-  pub told : Option (List ToldEnd)
+  pub reported : Option (List ReportedEnd)
 
-abbrev pub world : ServiceState → (ℕ → StreamState) → Option (List ToldEnd) → World
-world service streams told = record { service = service; streams = streams; told = told }
+abbrev pub world : ServiceState → (ℕ → StreamState) → Option (List ReportedEnd) → World
+world service streams reported = record { service = service; streams = streams; reported = reported }
 
 -- each event is on a connection with one of the numbers from 1 to this one
 abbrev pub AreNumberedTo : ℕ → List NumberedEvent → Type 0
@@ -44,19 +44,19 @@ pub record ServesMany (limits : Limits) (reading : Reading) (first now : World) 
   pub after : ℕ → ConnectionState
   pub streamed : AllStreamed (max limits.unsent 1) reading first.service now.service (λ n. new_connection) after first.streams now.streams all
   pub numbered : AreNumberedTo limits.connections all
-  pub ends : List ToldEnd
-  pub told : now.told ≡ told_more first.told ends
-  pub ended : AllByRecursion (λ (e : ToldEnd). HasEnded limits e.how (now.streams e.number) (after e.number)) ends
-  pub closed : AllByRecursion (λ (e : ToldEnd). ClosedAtEnd limits.own_sessions e.number all) ends
+  pub ends : List ReportedEnd
+  pub reported : now.reported ≡ reported_more first.reported ends
+  pub ended : AllByRecursion (λ (e : ReportedEnd). HasEnded limits e.how (now.streams e.number) (after e.number)) ends
+  pub closed : AllByRecursion (λ (e : ReportedEnd). ClosedAtEnd limits.own_sessions e.number all) ends
   pub others : (n : ℕ) → ClosedNone n all ⊎ ClosedAtEnd limits.own_sessions n all
 
 -- each of the connections that were asked for was reported as ended, exactly once
-abbrev pub EachIsTold : ℕ → List ToldEnd → Type 0
-EachIsTold connections ends = (n : ℕ) → 0 < n → n ≤ connections → times_told n ends ≡ 1
+abbrev pub EachIsReported : ℕ → List ReportedEnd → Type 0
+EachIsReported connections ends = (n : ℕ) → 0 < n → n ≤ connections → times_reported n ends ≡ 1
 
 -- everything that happened, when all connections that were asked for have ended
 abbrev pub ServesAll : Limits → Reading → World → World → Type 0
-ServesAll limits reading first now = (s : ServesMany limits reading first now) × EachIsTold limits.connections s.ends
+ServesAll limits reading first now = (s : ServesMany limits reading first now) × EachIsReported limits.connections s.ends
 
 -- ---- the slots
 
@@ -78,22 +78,22 @@ AllAreStill before now = (key : ℕ) → SlotIsStill (get_or before key None) (g
 
 -- a slot once the next connection was accepted into it, if one could be; the numbers of accepted connections, before
 -- and after
-abbrev pub AcceptsSo : ℕ → ℕ → Option Client → Option Client → Type 0
-AcceptsSo accepted accepted' before now = ((accepted' ≡ accepted) × (now ≡ before)) ⊎ ((accepted' ≡ accepted + 1) × StandsAs accepted' new_connection now)
+abbrev pub AcceptsAs : ℕ → ℕ → Option Client → Option Client → Type 0
+AcceptsAs accepted accepted' before now = ((accepted' ≡ accepted) × (now ≡ before)) ⊎ ((accepted' ≡ accepted + 1) × StandsAs accepted' new_connection now)
 
 -- the client in a slot waits for this since this time
 abbrev pub WaitsSince : WaitsFor → ℕ → Option Client → Type 0
 WaitsSince waits_for time slot = (c : Client) → slot ≡ Some c → (c.waits_for ≡ waits_for) × (c.since ≡ time)
 
 -- up to this number of turns of a client are turns of its connection
-abbrev pub ClientTurnsSo : ℕ → ℕ → Reading → Turn → OwnedService → OwnedService → (ℕ → StreamState) → (ℕ → StreamState) → Client → Client → Type 0
-ClientTurnsSo most unsent reading turn old new streams streams' before now =
-    TurnsSo most unsent reading turn old new before.number streams streams' before.connection now.connection × (now.number ≡ before.number)
+abbrev pub ClientTurnsAs : ℕ → ℕ → Reading → Turn → OwnedService → OwnedService → (ℕ → StreamState) → (ℕ → StreamState) → Client → Client → Type 0
+ClientTurnsAs most unsent reading turn old new streams streams' before now =
+    TurnsAs most unsent reading turn old new before.number streams streams' before.connection now.connection × (now.number ≡ before.number)
 
 -- the connection goes on; or it ended, its slot is empty and its end is the result
 abbrev pub GoesOnOrEnds : Limits → Client → ConnectionState → StreamState → Option Client → Option (ℕ × ConnectionEnd) → Type 0
 GoesOnOrEnds limits c after stream now None = StandsAs c.number after now
-GoesOnOrEnds limits c after stream now (Some told) = (now ≡ None) × (told.0 ≡ c.number) × HasEnded limits told.1 stream after
+GoesOnOrEnds limits c after stream now (Some reported) = (now ≡ None) × (reported.0 ≡ c.number) × HasEnded limits reported.1 stream after
 
 -- if the connection with this number ended and sessions end with it, a Close was answered for each of its sessions
 -- after its last request; otherwise no session was closed without a request
@@ -105,7 +105,7 @@ ClosesLast None own number owners events = closings events ≡ []
 
 -- a Close is answered for each session of a connection that ended, if sessions end with it; otherwise nothing happens
 abbrev pub ClosesAfter : Option (ℕ × ConnectionEnd) → Bool → Reading → OwnedService → OwnedService → Type 0
-ClosesAfter (Some e) true reading old new = SessionsCloseSo e.0 old.owners new.owners reading old.service new.service
+ClosesAfter (Some e) true reading old new = SessionsCloseAs e.0 old.owners new.owners reading old.service new.service
 ClosesAfter (Some e) false reading old new = new ≡ old
 ClosesAfter None own reading old new = new ≡ old
 
@@ -131,16 +131,16 @@ SlotFollows (Ends end) time c state now ended = (now ≡ None) × (ended ≡ Som
 SlotFollows turn time c state now ended = (ended ≡ None) × StandsAs c.number state now × WaitsSince (waits_after turn) time now
 
 -- the stream of a connection is closed if the connection ended; otherwise all streams stay
-abbrev pub ClosesSo : Turn → ℕ → (ℕ → StreamState) → (ℕ → StreamState) → Type 0
-ClosesSo (Ends end) number streams streams' = KeepsBytes number streams streams'
-ClosesSo _ number streams streams' = AllStay streams streams'
+abbrev pub ClosesAs : Turn → ℕ → (ℕ → StreamState) → (ℕ → StreamState) → Type 0
+ClosesAs (Ends end) number streams streams' = KeepsBytes number streams streams'
+ClosesAs _ number streams streams' = AllStay streams streams'
 
 -- the client in a slot has had its turns, if its turn was next, and otherwise nothing happened; this is the time then
-abbrev pub SlotTurnsSo : ℕ → ℕ → Reading → OwnedService → OwnedService → (ℕ → StreamState) → (ℕ → StreamState) → Option Client → Option Client → Option (ℕ × ConnectionEnd) → Type 0
-SlotTurnsSo unsent time reading old new streams streams' before now ended =
+abbrev pub SlotTurnsAs : ℕ → ℕ → Reading → OwnedService → OwnedService → (ℕ → StreamState) → (ℕ → StreamState) → Option Client → Option Client → Option (ℕ × ConnectionEnd) → Type 0
+SlotTurnsAs unsent time reading old new streams streams' before now ended =
     ((new ≡ old) × AllStay streams streams' × (now ≡ before) × (ended ≡ None) × (slot_has_turn before ≡ false))
     ⊎ ((c : Client) × (before ≡ Some c) × (slot_has_turn before ≡ true) × (turn : Turn) × (state : ConnectionState) × (between : ℕ → StreamState)
-    × TurnsSo max_turns unsent reading turn old new c.number streams between c.connection state × ClosesSo turn c.number between streams' × SlotFollows turn time c state now ended)
+    × TurnsAs max_turns unsent reading turn old new c.number streams between c.connection state × ClosesAs turn c.number between streams' × SlotFollows turn time c state now ended)
 
 -- ---- a round
 
@@ -159,7 +159,7 @@ abbrev pub AreRound : Bool → ℕ → Reading → OwnedService → OwnedService
 AreRound own unsent reading old new streams streams' [] = (new ≡ old) × AllStay streams streams'
 AreRound own unsent reading old new streams streams' (c ∷ clients) =
     (turn : Turn) × (state : ConnectionState) × (mid : OwnedService) × (between : ℕ → StreamState) × (closed : ℕ → StreamState)
-    × TurnsSo max_turns unsent reading turn old mid c.number streams between c.connection state × ClosesSo turn c.number between closed
+    × TurnsAs max_turns unsent reading turn old mid c.number streams between c.connection state × ClosesAs turn c.number between closed
     × (last : OwnedService) × ClosesAfter (end_of c.number turn) own reading mid last × AreRound own unsent reading last new closed streams' clients
 
 -- this client is in this slot
@@ -178,13 +178,13 @@ IsServed slots n = (key : ℕ) × (c : Client) × IsIn slots key c × (c.number 
 pub record Now : Type 0 where
   pub state : OwnedService
   pub streams : ℕ → StreamState
-  pub told : Option (List ToldEnd)
+  pub reported : Option (List ReportedEnd)
 
-abbrev pub at_now : OwnedService → (ℕ → StreamState) → Option (List ToldEnd) → Now
-at_now state streams told = record { state = state; streams = streams; told = told }
+abbrev pub at_now : OwnedService → (ℕ → StreamState) → Option (List ReportedEnd) → Now
+at_now state streams reported = record { state = state; streams = streams; reported = reported }
 
 abbrev pub world_now : Now → World
-world_now now = world now.state.service now.streams now.told
+world_now now = world now.state.service now.streams now.reported
 
 -- what happened since the first connection was accepted: each connection in a slot is as its events left it; no two
 -- have the same number; this number was accepted; each of these is served, or was reported as ended once; the sessions
@@ -196,11 +196,11 @@ pub record ServedSoFar (limits : Limits) (reading : Reading) (first : World) (no
   pub each : (key : ℕ) (c : Client) → IsIn slots key c → c.connection ≡ so_far.after c.number
   pub apart : (j k : ℕ) (b c : Client) → IsIn slots j b → IsIn slots k c → b.number ≡ c.number → j ≡ k
   pub later : (n : ℕ) → accepted < n → so_far.after n ≡ new_connection
-  pub untold : (n : ℕ) → accepted < n → times_told n so_far.ends ≡ 0
-  pub served : (n : ℕ) → IsServed slots n → times_told n so_far.ends ≡ 0
-  pub ended : (n : ℕ) → 0 < n → n ≤ accepted → IsServed slots n ⊎ (times_told n so_far.ends ≡ 1)
+  pub unreported : (n : ℕ) → accepted < n → times_reported n so_far.ends ≡ 0
+  pub served : (n : ℕ) → IsServed slots n → times_reported n so_far.ends ≡ 0
+  pub ended : (n : ℕ) → 0 < n → n ≤ accepted → IsServed slots n ⊎ (times_reported n so_far.ends ≡ 1)
   pub owners : now.state.owners ≡ owners_of so_far.all
-  pub none_closed : (n : ℕ) → times_told n so_far.ends ≡ 0 → ClosedNone n so_far.all
+  pub none_closed : (n : ℕ) → times_reported n so_far.ends ≡ 0 → ClosedNone n so_far.all
 
 -- what was true of all that happened stays true when the connections go on this way
 abbrev pub GoesOnServing : Limits → Reading → Now → Now → ℕ → ℕ → List (Option Client) → List (Option Client) → Type 0

@@ -2,7 +2,7 @@
 use Rattle.std.specs.Prelude.{◌≡◌, ◌≢◌, ◌⊎◌, ⊤, ℕ, ◌*◌, ◌≤◌, max, List, [], length, Some}
 use Rattle.compose_machine.specs.Machine.{ServiceState, Reading}
 use Rattle.compose_many.specs.Connection.{ConnectionState, Event, received, exchanges, closings, loads, max_piece}
-use Rattle.compose_many.specs.Ends.{EndsSo}
+use Rattle.compose_many.specs.Ends.{EndsAs}
 use Rattle.compose_many.specs.Owners.{owners_by}
 use Rattle.compose_many.specs.declared.owners.Owner.{Owner}
 use Rattle.compose_many.specs.Streams.{is_failed}
@@ -27,9 +27,9 @@ max_turns = 4
 
 -- the state of a connection after these events: as they leave it; unless it ends, and then they leave it in a state
 -- that can end this way
-abbrev pub LeavesSo : Turn → ConnectionState → ConnectionState → StreamState → Type 0
-LeavesSo (Ends end) after now stream = EndsSo end stream.left (is_failed stream.read_mark) (is_failed stream.write_mark) after
-LeavesSo _ after now stream = now ≡ after
+abbrev pub LeavesAs : Turn → ConnectionState → ConnectionState → StreamState → Type 0
+LeavesAs (Ends end) after now stream = EndsAs end stream.left (is_failed stream.read_mark) (is_failed stream.write_mark) after
+LeavesAs _ after now stream = now ≡ after
 
 -- the stream takes none of the unsent bytes for now, or has no bytes while there is nothing else to do
 abbrev pub IsWaiting : ConnectionState → StreamState → Type 0
@@ -53,8 +53,8 @@ pub record AreTurns (unsent : ℕ) (reading : Reading) (old new : ServiceState) 
 -- up to this number of turns of a connection are events of it, in which a bounded number of bytes comes. One load is
 -- answered if the result is Loaded, and none otherwise; the last turn was taken; no session was closed without a
 -- request; and a session that was opened is owned by the connection
-abbrev pub TurnsSo : ℕ → ℕ → Reading → Turn → OwnedService → OwnedService → ℕ → (ℕ → StreamState) → (ℕ → StreamState) → ConnectionState → ConnectionState → Type 0
-TurnsSo most unsent reading turn old new number streams streams' before now =
+abbrev pub TurnsAs : ℕ → ℕ → Reading → Turn → OwnedService → OwnedService → ℕ → (ℕ → StreamState) → (ℕ → StreamState) → ConnectionState → ConnectionState → Type 0
+TurnsAs most unsent reading turn old new number streams streams' before now =
     (events : List Event) × (after : ConnectionState) × AreTurns unsent reading old.service new.service number streams streams' before after events
-    × (length (received events) ≤ most * max_piece) × (loads events ≡ loads_in turn) × LeavesSo turn after now (streams' number) × WasHad turn events after (streams' number)
+    × (length (received events) ≤ most * max_piece) × (loads events ≡ loads_in turn) × LeavesAs turn after now (streams' number) × WasHad turn events after (streams' number)
     × (closings events ≡ []) × (new.owners ≡ owners_by number old.owners (exchanges events))

@@ -3,11 +3,11 @@ ghost use Rattle.std.specs.Prelude.{◌≡◌, true, false, if◌then◌else◌}
 ghost use Rattle.compose_many.specs.Connection.{new_connection};
 ghost use Rattle.compose_hub.specs.Ends.{max_held};
 ghost use Rattle.compose_hub.specs.Turns.{max_turns, owned};
-ghost use Rattle.compose_hub.specs.Serving.{ClientTurnsSo};
+ghost use Rattle.compose_hub.specs.Serving.{ClientTurnsAs};
 ghost use Rattle.compose_hub.specs.Slots.{uses_room, is_stalled, is_idle, idle_in, KeepsShare};
 
-use compose_many::{Connection, Limits as TurnLimits, Owner, Streams, Turn, turn_on};
-use compose_serve::Answer;
+use compose_many::{Connection, Owner, Streams, Turn, TurnLimits, turn_on};
+use compose_serve::Responder;
 use std::alloc::Global;
 
 /// The number of turns per connection before the next one's.
@@ -164,7 +164,7 @@ impl Client {
 
     /// Takes up to 4 turns, as long as it goes on and no load is answered. Returns what follows the
     /// last turn.
-    pub(crate) fn take_turns<N: Streams, A: Answer>(
+    pub(crate) fn take_turns<N: Streams, A: Responder>(
         &mut self,
         streams: &mut N,
         service: &mut A,
@@ -172,7 +172,7 @@ impl Client {
         alloc: Global,
         unsent: usize,
     ) -> Turn
-        ensures turns { ClientTurnsSo max_turns unsent A.reading result
+        ensures turns { ClientTurnsAs max_turns unsent A.reading result
             (owned (A.state service.old) owners.old.items)
             (owned (A.state service.new) owners.new.items) (N.stream streams.old) (N.stream streams.new) self.old self.new }
         ensures share { KeepsShare result self.old self.new }
@@ -188,7 +188,7 @@ impl Client {
     }
 
     /// Takes one turn, on its own stream.
-    fn turn<N: Streams, A: Answer>(
+    fn turn<N: Streams, A: Responder>(
         &mut self,
         streams: &mut N,
         service: &mut A,
@@ -196,7 +196,7 @@ impl Client {
         alloc: Global,
         unsent: usize,
     ) -> Turn
-        ensures turn { ClientTurnsSo 1 unsent A.reading result
+        ensures turn { ClientTurnsAs 1 unsent A.reading result
             (owned (A.state service.old) owners.old.items)
             (owned (A.state service.new) owners.new.items) (N.stream streams.old) (N.stream streams.new) self.old self.new }
         ensures share { KeepsShare result self.old self.new }

@@ -24,7 +24,7 @@ mod sockets;
 mod waits;
 
 pub use client::Limits;
-pub use ends::{ConnectionEnd, Report};
+pub use ends::{ConnectionEnd, EndReport};
 pub use polled::PolledSockets;
 pub use server::serve_at_once;
-pub use sockets::{Accepted, Ready, Sockets};
+pub use sockets::{AcceptedStream, Ready, Sockets};

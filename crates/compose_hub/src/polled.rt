@@ -5,7 +5,7 @@ ghost use Rattle.compose_many.specs.Streams.{TryPulls, TryPushes};
 ghost use Rattle.compose_hub.specs.Sockets.{KeepsBytes};
 ghost use Rattle.compose_hub.specs.Polled.{polled_at};
 
-use crate::sockets::{Accepted, Ready, Sockets};
+use crate::sockets::{AcceptedStream, Ready, Sockets};
 use compose_many::{Nonblocking, Streams, TryError, TryPull, TryPush};
 use indexmap::IndexMap;
 use mio::net::{UnixListener, UnixStream};
@@ -104,7 +104,7 @@ impl<'c, C: Clock + Net> PolledSockets<'c, C> {
 
     /// Keeps a stream under this number, reported by this key, if it can be registered and there is
     /// memory for it.
-    fn admit(&mut self, number: u64, key: usize, stream: UnixStream) -> Accepted
+    fn admit(&mut self, number: u64, key: usize, stream: UnixStream) -> AcceptedStream
         ensures { KeepsBytes number (λ c. polled_at self.old.streams c) (λ c. polled_at self.new.streams c) }
     {
         let mut stream = stream;
@@ -114,7 +114,7 @@ impl<'c, C: Clock + Net> PolledSockets<'c, C> {
             .registry()
             .register(&mut stream, Token(key), interest);
         if registered.is_err() {
-            return Accepted::GivenUp;
+            return AcceptedStream::GivenUp;
         }
         let polled = PolledStream {
             stream,
@@ -122,22 +122,22 @@ impl<'c, C: Clock + Net> PolledSockets<'c, C> {
             write_mark: None,
         };
         match self.streams.insert(number, polled) {
-            Ok(_) => Accepted::Connection,
-            Err(_) => Accepted::GivenUp,
+            Ok(_) => AcceptedStream::Connection,
+            Err(_) => AcceptedStream::GivenUp,
         }
     }
 }
 
 /// Returns what an error of accepting means: only `WouldBlock` means that no connection waits.
-fn refused(kind: ErrorKind) -> Accepted
-    ensures waits { kind ≡ ErrorKind.WouldBlock → result ≡ Accepted.NoneWaits }
-    ensures aborted { kind ≡ ErrorKind.ConnectionAborted → result ≡ Accepted.GivenUp }
-    ensures interrupted { kind ≡ ErrorKind.Interrupted → result ≡ Accepted.GivenUp }
+fn refused(kind: ErrorKind) -> AcceptedStream
+    ensures waits { kind ≡ ErrorKind.WouldBlock → result ≡ AcceptedStream.NoneWaits }
+    ensures aborted { kind ≡ ErrorKind.ConnectionAborted → result ≡ AcceptedStream.GivenUp }
+    ensures interrupted { kind ≡ ErrorKind.Interrupted → result ≡ AcceptedStream.GivenUp }
 {
     match kind {
-        ErrorKind::WouldBlock => Accepted::NoneWaits,
-        ErrorKind::ConnectionAborted | ErrorKind::Interrupted => Accepted::GivenUp,
-        _ => Accepted::Fails,
+        ErrorKind::WouldBlock => AcceptedStream::NoneWaits,
+        ErrorKind::ConnectionAborted | ErrorKind::Interrupted => AcceptedStream::GivenUp,
+        _ => AcceptedStream::Fails,
     }
 }
 
@@ -168,9 +168,9 @@ impl<C: Clock + Net> Sockets for PolledSockets<'_, C> {
 
     /// Attempts once to accept. A connection is given up if its number is in use, or if it can't be
     /// registered or kept.
-    fn accept(&mut self, number: u64, key: usize) -> Accepted {
+    fn accept(&mut self, number: u64, key: usize) -> AcceptedStream {
         if self.streams.contains_key(&number) {
-            return Accepted::GivenUp;
+            return AcceptedStream::GivenUp;
         }
         match self.listener.accept() {
             Ok((stream, _)) => self.admit(number, key, stream),

@@ -3,9 +3,9 @@ ghost use Rattle.std.specs.Prelude.{◌≡◌, ◌≢◌, ◌||◌, ◌≤◌, �
 ghost use Rattle.compose_machine.specs.Machine.{Reading};
 ghost use Rattle.compose_many.specs.Connection.{new_connection};
 ghost use Rattle.compose_hub.specs.Sockets.{KeepsBytes, one_more, IsMore};
-ghost use Rattle.compose_hub.specs.Ends.{ToldEnd};
+ghost use Rattle.compose_hub.specs.Ends.{ReportedEnd};
 ghost use Rattle.compose_hub.specs.Turns.{OwnedService, owned};
-ghost use Rattle.compose_hub.specs.Serving.{world, at_now, ServesMany, ServesAll, HasServed, GoesOnServing, AcceptsSo, WaitsSince, AllAreStill, HasNone, SlotIsStill, SlotTurnsSo, ClosesAfter, AreRound, with_turn};
+ghost use Rattle.compose_hub.specs.Serving.{world, at_now, ServesMany, ServesAll, HasServed, GoesOnServing, AcceptsAs, WaitsSince, AllAreStill, HasNone, SlotIsStill, SlotTurnsAs, ClosesAfter, AreRound, with_turn};
 ghost use Rattle.compose_hub.specs.Rounds.{queue_after, retried, is_waits, is_wanted, is_done, has_turns, waits_for_room, has_slot, later, wait_for_work, sooner, IsNextIdle, why_ended, SlotGivesUp, queue_with, MarksReady, KeepsRooms, KeepsRoom};
 ghost use Rattle.compose_hub.specs.Slots.{slot_uses_room, slot_has_room, given_turn, given_room};
 ghost use Rattle.compose_hub.specs.Sockets.{AllStay};
@@ -14,11 +14,11 @@ ghost use Rattle.std.specs.List.{list_any, list_all};
 ghost use Rattle.std.specs.Duration.{as_nanos};
 
 use crate::client::{Client, Limits, WaitsFor};
-use crate::ends::{ConnectionEnd, Report, tell};
-use crate::sockets::{Accepted, Ready, Sockets};
+use crate::ends::{ConnectionEnd, EndReport, tell};
+use crate::sockets::{AcceptedStream, Ready, Sockets};
 use crate::waits::{next_idle, sooner, waits_longest};
 use compose_many::{Owner, Turn, close_own};
-use compose_serve::Answer;
+use compose_serve::Responder;
 use std::alloc::Global;
 use std::io;
 use std::time::Duration;
@@ -73,7 +73,7 @@ struct Server {
 ///
 /// It takes memory for as many slots as connections are served at once. A round costs O(slots)
 /// besides the turns in it.
-pub fn serve_at_once<N: Sockets, A: Answer, E: Report>(
+pub fn serve_at_once<N: Sockets, A: Responder, E: EndReport>(
     sockets: &mut N,
     alloc: Global,
     service: &mut A,
@@ -81,11 +81,11 @@ pub fn serve_at_once<N: Sockets, A: Answer, E: Report>(
     report: &mut E,
 ) -> io::Result<()>
     ensures serves { ServesMany limits A.reading
-        (world (A.state service.old) (N.stream sockets.old) (E.told report.old))
-        (world (A.state service.new) (N.stream sockets.new) (E.told report.new)) }
+        (world (A.state service.old) (N.stream sockets.old) (E.reported report.old))
+        (world (A.state service.new) (N.stream sockets.new) (E.reported report.new)) }
     ensures all { OnOk result (ServesAll limits A.reading
-        (world (A.state service.old) (N.stream sockets.old) (E.told report.old))
-        (world (A.state service.new) (N.stream sockets.new) (E.told report.new))) }
+        (world (A.state service.old) (N.stream sockets.old) (E.reported report.old))
+        (world (A.state service.new) (N.stream sockets.new) (E.reported report.new))) }
 {
     let mut ready = Vec::new(alloc);
     let mut server = Server::new(alloc, limits.at_once)?;
@@ -208,9 +208,9 @@ impl Server {
     /// Accepts the connections that wait, while there is a slot for them. If the last attempt
     /// failed, it tries again.
     fn accept_all<N: Sockets>(&mut self, alloc: Global, sockets: &mut N, limits: Limits)
-        ensures goes_on { (reading : Reading) (state : OwnedService) (told : Option (List ToldEnd))
-            → GoesOnServing limits reading (at_now state (N.stream sockets.old) told)
-            (at_now state (N.stream sockets.new) told) self.old.accepted
+        ensures goes_on { (reading : Reading) (state : OwnedService) (reported : Option (List ReportedEnd))
+            → GoesOnServing limits reading (at_now state (N.stream sockets.old) reported)
+            (at_now state (N.stream sockets.new) reported) self.old.accepted
             self.new.accepted self.old.slots.items self.new.slots.items }
         ensures owners { self.new.owners.items ≡ self.old.owners.items }
         ensures rooms { KeepsRooms self.old.slots.items self.new.slots.items }
@@ -262,7 +262,7 @@ impl Server {
     }
 
     /// Takes the turns of all connections whose turn is next, in the order of their slots.
-    fn take_turns<N: Sockets, A: Answer, E: Report>(
+    fn take_turns<N: Sockets, A: Responder, E: EndReport>(
         &mut self,
         sockets: &mut N,
         service: &mut A,
@@ -272,14 +272,14 @@ impl Server {
     ) -> io::Result<()>
         ensures happened { HasServed limits A.reading
             (at_now (owned (A.state service.old) self.old.owners.items) (N.stream sockets.old)
-            (E.told report.old))
-            (world (A.state service.new) (N.stream sockets.new) (E.told report.new))
+            (E.reported report.old))
+            (world (A.state service.new) (N.stream sockets.new) (E.reported report.new))
             self.old.accepted self.old.slots.items }
         ensures goes_on { OnOk result (GoesOnServing limits A.reading
             (at_now (owned (A.state service.old) self.old.owners.items) (N.stream sockets.old)
-            (E.told report.old))
+            (E.reported report.old))
             (at_now (owned (A.state service.new) self.new.owners.items) (N.stream sockets.new)
-            (E.told report.new))
+            (E.reported report.new))
             self.old.accepted self.new.accepted self.old.slots.items self.new.slots.items) }
         ensures round { OnOk result (AreRound limits.own_sessions limits.unsent A.reading
             (owned (A.state service.old) self.old.owners.items)
@@ -338,7 +338,7 @@ impl Server {
     /// its load came for ten seconds.
     ///
     /// `time` is the time of the last wait: what came since then is not known.
-    fn give_up<N: Sockets, A: Answer, E: Report>(
+    fn give_up<N: Sockets, A: Responder, E: EndReport>(
         &mut self,
         sockets: &mut N,
         service: &mut A,
@@ -349,14 +349,14 @@ impl Server {
     ) -> io::Result<()>
         ensures happened { HasServed limits A.reading
             (at_now (owned (A.state service.old) self.old.owners.items) (N.stream sockets.old)
-            (E.told report.old))
-            (world (A.state service.new) (N.stream sockets.new) (E.told report.new))
+            (E.reported report.old))
+            (world (A.state service.new) (N.stream sockets.new) (E.reported report.new))
             self.old.accepted self.old.slots.items }
         ensures goes_on { OnOk result (GoesOnServing limits A.reading
             (at_now (owned (A.state service.old) self.old.owners.items) (N.stream sockets.old)
-            (E.told report.old))
+            (E.reported report.old))
             (at_now (owned (A.state service.new) self.new.owners.items) (N.stream sockets.new)
-            (E.told report.new))
+            (E.reported report.new))
             self.old.accepted self.new.accepted self.old.slots.items self.new.slots.items) }
         ensures rooms { KeepsRooms self.old.slots.items self.new.slots.items }
     {
@@ -390,13 +390,13 @@ fn is_wanted(slot: &Option<Client>, queue: Queue, accepted: u32, limits: Limits)
 }
 
 /// Returns what is known of the queue after an attempt.
-fn queue_after(accepted: Accepted) -> Queue
+fn queue_after(accepted: AcceptedStream) -> Queue
     ensures { result ≡ queue_after accepted }
 {
     match accepted {
-        Accepted::Connection | Accepted::GivenUp => Queue::Waits,
-        Accepted::NoneWaits => Queue::Empty,
-        Accepted::Fails => Queue::Failed,
+        AcceptedStream::Connection | AcceptedStream::GivenUp => Queue::Waits,
+        AcceptedStream::NoneWaits => Queue::Empty,
+        AcceptedStream::Fails => Queue::Failed,
     }
 }
 
@@ -486,7 +486,7 @@ fn accept_into<N: Sockets>(
     time: u64,
 ) -> Queue
     requires { accepted.old + 1 < 2 ^ 32 }
-    ensures accepts { AcceptsSo accepted.old accepted.new slot.old slot.new }
+    ensures accepts { AcceptsAs accepted.old accepted.new slot.old slot.new }
     ensures since { accepted.new ≢ accepted.old → WaitsSince WaitsFor.Turn time slot.new }
     ensures room { KeepsRoom slot.old slot.new }
     ensures stay { KeepsBytes (accepted.old + 1) (N.stream sockets.old) (N.stream sockets.new) }
@@ -494,7 +494,7 @@ fn accept_into<N: Sockets>(
 {
     let number = *accepted + 1;
     let came = sockets.accept(u64::from(number), key);
-    if came == Accepted::Connection {
+    if came == AcceptedStream::Connection {
         *slot = Some(Client::new(alloc, number, time));
         *accepted = number;
     }
@@ -503,7 +503,7 @@ fn accept_into<N: Sockets>(
 
 /// Takes the turns of the connection in this slot, if its turn is next. If the connection ended,
 /// returns its number and how it ended.
-fn serve_slot<N: Sockets, A: Answer>(
+fn serve_slot<N: Sockets, A: Responder>(
     slot: &mut Option<Client>,
     sockets: &mut N,
     service: &mut A,
@@ -512,7 +512,7 @@ fn serve_slot<N: Sockets, A: Answer>(
     unsent: usize,
     time: &mut u64,
 ) -> Option<(u32, ConnectionEnd)>
-    ensures turns { SlotTurnsSo unsent time.new A.reading
+    ensures turns { SlotTurnsAs unsent time.new A.reading
         (owned (A.state service.old) owners.old.items)
         (owned (A.state service.new) owners.new.items) (N.stream sockets.old) (N.stream sockets.new) slot.old slot.new result }
     ensures room { KeepsRoom slot.old slot.new }
@@ -540,7 +540,7 @@ fn serve_slot<N: Sockets, A: Answer>(
 
 /// If a connection ended and its sessions end with it, answers a Close for each open session that
 /// was opened on it.
-fn close_sessions<A: Answer>(
+fn close_sessions<A: Responder>(
     ended: Option<(u32, ConnectionEnd)>,
     own_sessions: bool,
     service: &mut A,

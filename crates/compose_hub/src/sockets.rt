@@ -8,7 +8,7 @@ use std::time::Duration;
 
 /// The result of an attempt to accept a connection.
 #[derive(Clone, Copy, Debug, PartialEq, Eq, Drop)]
-pub enum Accepted {
+pub enum AcceptedStream {
     /// A connection was accepted. Its stream is the one with the number that was given.
     Connection,
     /// No connection waits.
@@ -39,7 +39,7 @@ pub trait Sockets: Streams {
 
     /// Accepts the next connection under this number, if one waits. From now on it is reported as
     /// ready by this key.
-    fn accept(&mut self, number: u64, key: usize) -> Accepted
+    fn accept(&mut self, number: u64, key: usize) -> AcceptedStream
         ensures bytes { KeepsBytes number (Self.stream self.old) (Self.stream self.new) }
         ensures attempt { attempts self.new ≡ one_more (attempts self.old) };
 

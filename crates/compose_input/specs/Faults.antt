@@ -7,17 +7,17 @@ use Rattle.std.specs.declared.io.ErrorKind.TheVariants.{NotFound}
 use Rattle.compose_read.specs.Lines.{Source}
 use Rattle.compose_read.specs.Sources.{add_fault}
 use Rattle.compose_read.specs.declared.sources.SourceFault.{SourceFault}
-use Rattle.compose_folder.specs.Content.{Content, Entry as FolderEntry, File, Unreadable, IsHeld, held}
+use Rattle.compose_folder.specs.Content.{Content, ManifestEntry as FolderEntry, File, Unreadable, IsHeld, held}
 use Rattle.compose_find.specs.Expand.{Words, beside, below_root}
 use Rattle.compose_find.specs.Found.{FoundSource, TriedFile, Stop, missing_root, missing_file, refused, found}
 use Rattle.compose_find.specs.declared.found_source.FindFault.{FindFault}
 use Rattle.compose_find.specs.declared.found_source.FindFault.TheVariants as finding
-use Rattle.compose_manifest.specs.Manifest.{Listing, Entry, listing_of}
+use Rattle.compose_manifest.specs.Manifest.{Listing, ManifestEntry, listing_of}
 use Rattle.compose_manifest.specs.Text.{file_path}
 use Rattle.compose_input.specs.Texts.{IsRead, named}
 use Rattle.compose_input.specs.Names.{IsNamedText}
 use Rattle.compose_input.specs.Places.{words_with, IsLocaleTable}
-use Rattle.compose_input.specs.Search.{AreLooked, opened}
+use Rattle.compose_input.specs.Search.{AreSearched, opened}
 use Rattle.compose_input.specs.Tables.{IsManifest, AreEntries}
 use Rattle.compose_input.specs.declared.fault.Fault.{Fault}
 use Rattle.compose_input.specs.declared.fault.Fault.TheVariants.{Unread, Manifest, Source as SourceRefused, Find, NoMemory}
@@ -52,15 +52,15 @@ IsRefusedSource part at why (SourceRefused p path fault) = (p.now ≡ part) × (
 IsRefusedSource part at why fault = ⊥
 
 -- the file of an entry can't be read, or can't be a source in addition to these
-abbrev pub FailsEntry : Option (List FolderEntry) → List ℕ → Listing → List ℕ → Entry → List Source → Fault → Type 0
+abbrev pub FailsEntry : Option (List FolderEntry) → List ℕ → Listing → List ℕ → ManifestEntry → List Source → Fault → Type 0
 FailsEntry folder part listing at entry sources fault =
     IsRead folder (named (file_path listing at entry.path)) (Err fault) ⊎ IsRefusedSource part at (add_fault sources entry.name) fault
 
 -- the first of these entries whose file is refused; the sources are those of the entries before it
-pub record FailEntries (folder : Option (List FolderEntry)) (part : List ℕ) (listing : Listing) (at : List ℕ) (entries : List Entry) (fault : Fault) : Type 0 where
-  pub before : List Entry
-  pub entry : Entry
-  pub after : List Entry
+pub record FailEntries (folder : Option (List FolderEntry)) (part : List ℕ) (listing : Listing) (at : List ℕ) (entries : List ManifestEntry) (fault : Fault) : Type 0 where
+  pub before : List ManifestEntry
+  pub entry : ManifestEntry
+  pub after : List ManifestEntry
   pub is : entries ≡ before ++ entry ∷ after
   pub paths : List (List ℕ)
   pub sources : List Source
@@ -130,7 +130,7 @@ EndsSearch folder words root ended fault = ⊥
 -- the search for the files of this root, in what the folder has
 pub record FailsSearch (folder : Option (List FolderEntry)) (words : Words) (root : List ℕ) (fault : Fault) : Type 0 where
   pub files : List TriedFile
-  pub looked : AreLooked folder root files
+  pub looked : AreSearched folder root files
   pub ends : EndsSearch folder words root (found files words root) fault
 
 -- the same for the file at this path, as it lies on the system

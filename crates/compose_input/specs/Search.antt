@@ -17,14 +17,14 @@ abbrev pub opened : List ℕ → List ℕ → List ℕ
 opened root path = if bytes_eq path (45 ∷ []) && not (bytes_eq root (45 ∷ [])) then codes "./-" else path
 
 -- each path that was searched for has what the folder has there
-abbrev pub AreLooked : Option (List Entry) → List ℕ → List TriedFile → Type 0
-AreLooked folder root files = All (λ f. IsFound folder (opened root f.path) f.bytes) files
+abbrev pub AreSearched : Option (List Entry) → List ℕ → List TriedFile → Type 0
+AreSearched folder root files = All (λ f. IsFound folder (opened root f.path) f.bytes) files
 
 -- the sources are those that the search finds in what the folder has, and each has the bytes in which its includes were
 -- found
 pub record IsTable (folder : Option (List Entry)) (words : Words) (root : List ℕ) (table : FoundTable) : Type 0 where
   pub files : List TriedFile
-  pub looked : AreLooked folder root files
+  pub looked : AreSearched folder root files
   pub found : found files words root ≡ Ok table.files.items
   pub held : table.sources ≡ map (held files) table.files.items
 

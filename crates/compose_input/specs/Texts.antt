@@ -35,9 +35,9 @@ IsFound (Some entries) path None = (kind : ErrorKind) × IsHeld (Some entries) p
 
 -- the fault that this part is refused, with the reason, unless memory ran out for reporting it
 abbrev pub IsRefused : List ℕ → Result (String Global) AllocError → Fault → Type 0
-IsRefused part said (faults.Refused p text) = (p.now ≡ part) × (said ≡ Ok text)
-IsRefused part said faults.NoMemory = (error : AllocError) × (said ≡ Err error)
-IsRefused part said fault = ⊥
+IsRefused part expected (faults.Refused p text) = (p.now ≡ part) × (expected ≡ Ok text)
+IsRefused part expected faults.NoMemory = (error : AllocError) × (expected ≡ Err error)
+IsRefused part expected fault = ⊥
 
 -- the fault that the socket at this path can't be used, with the reason, unless memory ran out for reporting it
 abbrev pub IsSocket : Result (String Global) AllocError → ErrorKind → Fault → Type 0

@@ -1,6 +1,6 @@
 //! The folders of a system's tables.
 ghost use Rattle.std.specs.Prelude.{◌≡◌, ◌++◌, option_copied, option_map, IfOk, IfErr, string_bytes};
-ghost use Rattle.compose_find.specs.FindGives.{words};
+ghost use Rattle.compose_find.specs.FindReturns.{words};
 ghost use Rattle.compose_input.specs.Texts.{IsFound};
 ghost use Rattle.compose_input.specs.declared.fault.Fault.TheVariants.{NoMemory};
 

@@ -1,6 +1,6 @@
 //! The files of a Compose file as it lies on a system.
 ghost use Rattle.std.specs.Prelude.{◌≡◌, map, option_copied, IfOk, IfErr, string_bytes};
-ghost use Rattle.compose_find.specs.FindGives.{words};
+ghost use Rattle.compose_find.specs.FindReturns.{words};
 ghost use Rattle.compose_input.specs.Faults as faults;
 ghost use Rattle.compose_input.specs.Faults.{AreUnopened, FailsFound, FailsSearch, IsKind, IsMissingRoot, IsTriedFault, IsUnopened};
 ghost use Rattle.compose_input.specs.Search.{IsTable, IsSystemTable, opened};

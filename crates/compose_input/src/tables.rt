@@ -11,7 +11,9 @@ use crate::search::find_files;
 use crate::texts::{read_named, read_text};
 use compose_find::{FoundSource, locale_tree};
 use compose_folder::{Folder, ReadOnce};
-use compose_manifest::{Entry, Manifest, ManifestFault, file_path, outside_text, read_manifest};
+use compose_manifest::{
+    Manifest, ManifestEntry, ManifestFault, file_path, outside_text, read_manifest,
+};
 use compose_migration::TableInput;
 use compose_model::Rule;
 use compose_read::{SourceFault, Sources};
@@ -46,7 +48,7 @@ pub struct LocaleTable {
 impl TableFiles {
     ghost use Rattle.compose_input.specs.Faults.{FailsListed, FailsFound};
     ghost use Rattle.compose_input.specs.Tables.{IsListed, IsFoundOnSystem, sources_of};
-    ghost use Rattle.compose_migration.specs.MigrationGives.{table_given};
+    ghost use Rattle.compose_migration.specs.MigrationReturns.{table_given};
 
     /// Reads a manifest and the files that it lists. A fault of a source names this part. O(bytes).
     ///
@@ -267,7 +269,7 @@ fn add_entry<F: Folder>(
     part: &'static str,
     at: &str,
     manifest: &Manifest,
-    entry: &Entry,
+    entry: &ManifestEntry,
     read: &mut ReadEntries,
 ) -> Result<(), Fault>
     ensures kept { files.new.holds ≡ files.old.holds }

@@ -2,7 +2,7 @@
 #![tactic(auto)]
 
 mod lists;
-mod told;
+mod refused_list;
 
 pub use lists::{KeyLists, key_lists};
-pub use told::refused_line;
+pub use refused_list::refused_line;

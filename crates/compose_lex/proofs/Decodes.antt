@@ -60,7 +60,7 @@ pub decodes_more : (raw : List ℕ) (at len b byte taken : ℕ) (kept more behin
 decodes_more raw at len b byte taken kept more behind here stands takes keeps s =
     let fits : taken ≤ length behind = let f = piece_fits b behind in omega arith in
     let left : length raw - at ≡ suc (length behind) = sym (length-drop at raw) ∙ ap length here in
-    let behind_here : drop taken behind ≡ drop (at + (1 + taken)) raw = sym (sym (drop-drop (1 + taken) at raw) ∙ ap (drop (1 + taken)) here ∙ ap (λ n. drop n (b ∷ behind)) (one-add taken)) in
+    let after_here : drop taken behind ≡ drop (at + (1 + taken)) raw = sym (sym (drop-drop (1 + taken) at raw) ∙ ap (drop (1 + taken)) here ∙ ap (λ n. drop n (b ∷ behind)) (one-add taken)) in
     record {
       within = (let w = s.within in omega arith);
       few = (let f = s.few in omega arith);
@@ -69,5 +69,5 @@ decodes_more raw at len b byte taken kept more behind here stands takes keeps s 
       read = s.read ∙ ap (λ x. with_bytes s.done (bytes_from at 0 x)) here
           ∙ ap (with_bytes s.done) (read_one at b byte taken behind (first_len (b ∷ behind)) (sym takes) (ap (λ l. piece (b ∷ take l behind) (drop l behind)) takes ∙ stands))
           ∙ put_twice s.done byte (bytes_from (at + (1 + taken)) 0 (drop taken behind))
-          ∙ ap (λ x. with_bytes (s.done ++ byte ∷ []) (bytes_from (at + (1 + taken)) 0 x)) behind_here;
+          ∙ ap (λ x. with_bytes (s.done ++ byte ∷ []) (bytes_from (at + (1 + taken)) 0 x)) after_here;
     }

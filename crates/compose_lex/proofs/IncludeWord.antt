@@ -6,12 +6,12 @@ use Rattle.std.proofs.lemmas.Bool.{and_parts, not-true}
 use Rattle.compose_text.specs.Bytes.{is_name_byte, leading, behind, begins}
 use Rattle.compose_lex.specs.Fault.{is_include}
 use Rattle.compose_lex.proofs.Runs.{parts_of, prefix_all}
-use Rattle.compose_lex.proofs.LineSaid.{starts_is}
+use Rattle.compose_lex.proofs.LineSound.{starts_is}
 
 -- what follows a run of bytes that pass a test does not begin with one that passes
-pub behind_stops : (p : ℕ → Bool) (xs : List ℕ) → begins p (behind p xs) ≡ false
-behind_stops p [] = refl
-behind_stops p (x ∷ xs) = go (p x) refl (behind_stops p xs)
+pub after_stops : (p : ℕ → Bool) (xs : List ℕ) → begins p (behind p xs) ≡ false
+after_stops p [] = refl
+after_stops p (x ∷ xs) = go (p x) refl (after_stops p xs)
   where
     go : (b : Bool) → p x ≡ b → begins p (behind p xs) ≡ false → begins p (cond b (behind p xs) (x ∷ xs)) ≡ false
     go true e h = h
@@ -21,7 +21,7 @@ behind_stops p (x ∷ xs) = go (p x) refl (behind_stops p xs)
 pub include_here : (rest : List ℕ) → leading is_name_byte rest ≡ codes "include" → (is_include rest ≡ true) × (behind is_name_byte rest ≡ drop 7 rest)
 include_here rest e =
     let is : rest ≡ codes "include" ++ behind is_name_byte rest = parts_of is_name_byte rest ∙ ap (λ x. x ++ behind is_name_byte rest) e in
-    (ap is_include is ∙ ap not (behind_stops is_name_byte rest), sym (ap (drop 7) is))
+    (ap is_include is ∙ ap not (after_stops is_name_byte rest), sym (ap (drop 7) is))
 
 -- any other word at the beginning is not `include`
 pub no_include : (rest : List ℕ) → leading is_name_byte rest ≢ codes "include" → is_include rest ≡ false

@@ -11,7 +11,7 @@ pub mod TextChecks
 pub mod QuoteRuns
 pub mod Productions
 pub mod LineRead
-pub mod LineSaid
+pub mod LineSound
 pub mod IncludeWord
 pub mod TextRead
 pub mod TextFaults

@@ -12,8 +12,8 @@ use Rattle.compose_lex.specs.Fault.{skip_blanks, byte_at, name_at, closed_or, en
 use Rattle.compose_lex.specs.LineFault.{AreFirst, IsLineFault}
 use Rattle.compose_lex.specs.declared.LexFault.{LexFault}
 use Rattle.compose_lex.specs.declared.LexFault.TheVariants.{BadToken, TooManyKeysyms}
-use Rattle.compose_lex.proofs.IncludeWord.{behind_stops}
-use Rattle.compose_lex.proofs.LineSaid.{bind_with, ok_pair, chosen, byte_said, name_said, colon_said}
+use Rattle.compose_lex.proofs.IncludeWord.{after_stops}
+use Rattle.compose_lex.proofs.LineSound.{bind_with, ok_pair, chosen, byte_sound, name_sound, colon_sound}
 use Rattle.compose_lex.proofs.Productions.{RightProduction, right_from}
 use Rattle.compose_lex.proofs.Stages.{between, opened, named, colon, goes, name_steps, no_token_at}
 use Rattle.compose_lex.proofs.LineStops.{Reached, reached_more, whole_before, opened_right, named_right, whole_event, events_right, stops, unlike, no_event}
@@ -72,7 +72,7 @@ name_whole n bytes name rest e =
     elim
     (chosen {A = Result (List ℕ × List ℕ) LexFault} (begins is_name_byte bytes) (Ok (leading is_name_byte bytes, behind is_name_byte bytes)) (Err (BadToken (n - length bytes)))
     (Ok (name, rest)) e) [
-      | inl x ↦ ap (begins is_name_byte) (sym (ok_pair (leading is_name_byte bytes) name (behind is_name_byte bytes) rest x.1).1) ∙ behind_stops is_name_byte bytes
+      | inl x ↦ ap (begins is_name_byte) (sym (ok_pair (leading is_name_byte bytes) name (behind is_name_byte bytes) rest x.1).1) ∙ after_stops is_name_byte bytes
       | inr x ↦ (let w = x.1 in cc)
     ]
 
@@ -106,7 +106,7 @@ name_reached : (line : List ℕ) (events : List (List ℕ)) (bytes : List ℕ) (
     → name_at (length line) bytes ≡ Ok x → Reached line (opened_tokens events ++ x.0 ∷ []) (skip_blanks x.1) (named (length events)) × (is_name x.0 ≡ true)
 name_reached line events bytes x few names r e =
     let k = length events in
-    let s = name_said (length line) bytes x.0 x.1 e in (
+    let s = name_sound (length line) bytes x.0 x.1 e in (
       reached_more line (opened_tokens events) bytes (opened k) (named k) x.0 x.1 r s.0 (whole_before x.0 x.1 (name_whole (length line) bytes x.0 x.1 e)) (name_steps x.0 k s.1)
           (named_right events x.0 few names s.1),
       s.1,
@@ -139,7 +139,7 @@ event_reached line events rest x left count names r e =
     let q : ◌≡◌ {A = List ℕ × List ℕ} (y.0, more) x = cc in
     let s = name_reached line events (skip_blanks rest) y (omega (arith, count)) names r named in
     subst (λ (z : List ℕ × List ℕ). Events line (events ++ z.0 ∷ []) left z.1) q
-    (close_reached line events y.0 (skip_blanks y.1) more left count names s.1 s.0 (byte_said n 62 (skip_blanks y.1) more closed))))
+    (close_reached line events y.0 (skip_blanks y.1) more left count names s.1 s.0 (byte_sound n 62 (skip_blanks y.1) more closed))))
 
 -- if an event after `<` is faulty, the line has that fault
 pub event_broken : (line : List ℕ) (events : List (List ℕ)) (rest : List ℕ) (f : LexFault) → length events < 32 → list_all is_name events ≡ true
@@ -243,13 +243,13 @@ last_event line events left rest x s c =
 pub events_reached : (line : List ℕ) (left : ℕ) (events : List (List ℕ)) (rest : List ℕ) (x : List (List ℕ) × List ℕ) → Events line events left rest → events_at (length line) left rest ≡ Ok x
     → Colon line (events ++ x.0) x.1
 unfolding events_at
-events_reached line zero events rest x s e = elim (colon_said (length line) (skip_blanks rest) (λ _. Err TooManyKeysyms) x e) [
+events_reached line zero events rest x s e = elim (colon_sound (length line) (skip_blanks rest) (λ _. Err TooManyKeysyms) x e) [
   | inl c ↦ last_event line events zero rest x s c
   | inr c ↦ (let w = c.2 in cc)
 ]
 events_reached line (suc left) events rest x s e =
     let n = length line in
-    elim (colon_said n (skip_blanks rest) (λ r. event_at n r >>= λ event. events_at n left event.1 >>= λ more. Ok (event.0 ∷ more.0, more.1)) x e) [
+    elim (colon_sound n (skip_blanks rest) (λ r. event_at n r >>= λ event. events_at n left event.1 >>= λ more. Ok (event.0 ∷ more.0, more.1)) x e) [
       | inl c ↦ last_event line events (suc left) rest x s c
       | inr c ↦
           bind_with (event_at n c.0) (λ event. events_at n left event.1 >>= λ more. Ok (event.0 ∷ more.0, more.1)) x c.2 (λ event is e.

@@ -12,7 +12,7 @@ use Rattle.compose_lex.specs.LineFault.{AreFirst, is_whole, GoesOn, StopsAt, is_
 use Rattle.compose_lex.specs.declared.LexFault.{LexFault}
 use Rattle.compose_lex.specs.declared.LexFault.TheVariants.{BadToken, ModifierList, UnclosedString, UnknownEscape, BadCode, NoResult, TooManyKeysyms, EmptyText, TextTooLong, TextNotUtf8, NoMemory}
 use Rattle.compose_lex.proofs.Runs.{comment_first}
-use Rattle.compose_lex.proofs.LineSaid.{byte_said, string_said, starts_is, reading_said}
+use Rattle.compose_lex.proofs.LineSound.{byte_sound, string_sound, starts_is, reading_sound}
 use Rattle.compose_lex.proofs.Tokens.{AllTokens, right_tokens, all_before, reading_whole, is_token_first, Ahead, compare}
 use Rattle.compose_lex.proofs.Stages.{start, word, opened, ended, goes}
 use Rattle.compose_lex.proofs.LineStops.{Reached, reached_more, at_start, whole_before, opened_right, unlike, no_event, unclosed}
@@ -51,13 +51,13 @@ include_broken line rest f first ends e =
     let b = byte_fails n 34 (skip_blanks rest) f e in
     subst (IsLineFault line) b.1 (unlike line done (skip_blanks rest) word r (may_not (λ b. b == 34) (λ b. is_some (goes word b)) (skip_blanks rest) (λ b h. rw h refl) b.0) (λ e. cc) refl))
     (λ behind is e.
-    let here = byte_said n 34 (skip_blanks rest) behind is in
+    let here = byte_sound n 34 (skip_blanks rest) behind is in
     bind_fails (string_at n behind) (λ string. end_at n (skip_blanks string.1) >>= λ end. Ok (include string.0)) f e
     (λ e.
     let q = closed_fails (UnclosedString (n - length (34 ∷ behind))) (inside_from false behind) f e in
     subst (IsLineFault line) q.1 (unclosed line done behind word (subst (λ x. Reached line done x word) here r) q.0 [] (include [], [], refl, refl) refl))
     (λ string on e.
-    let t = string_said n behind string.0 string.1 on in
+    let t = string_sound n behind string.0 string.1 on in
     let last = reached_more line done (skip_blanks rest) word ended (quoted string.0) string.1 r (here ∙ t.0) (string_whole string.0 string.1) refl (include string.0, [], t.1, refl) in
     let end : End line string.1 = record { done = done ++ quoted string.0 ∷ []; stage = ended; reached = last; none = never (skip_blanks string.1); behind = refl } in
     bind_fails (end_at n (skip_blanks string.1)) (λ end. Ok (include string.0)) f e
@@ -84,8 +84,8 @@ nothing_begins b rest i l g = go g.2.0 g.2.2 g.2.3
         cc
 
 -- the fault that is read from a line is one that the grammar finds in it
-pub line_fault_said : (line : List ℕ) (f : LexFault) → reading_of line ≡ Err f → IsLineFault line f
-line_fault_said line f e = go (skip_blanks line) refl e
+pub line_fault_sound : (line : List ℕ) (f : LexFault) → reading_of line ≡ Err f → IsLineFault line f
+line_fault_sound line f e = go (skip_blanks line) refl e
   where
     by : (b : ℕ) (rest : List ℕ) → skip_blanks line ≡ b ∷ rest → (x : Bool) → (b == 35) ≡ x → (y : Bool) → is_include (b ∷ rest) ≡ y → (z : Bool) → (b == 60) ≡ z
         → cond x (Ok blank) (cond y (include_at (length line) (drop 7 (b ∷ rest))) (cond z (production_at (length line) rest) (Err (event_fault (length line) (b ∷ rest))))) ≡ Err f
@@ -127,7 +127,7 @@ one_place line at at2 done done2 rest rest2 s t = elim (compare done done2 line 
 -- a line of the grammar stops nowhere
 no_stop : (line : List ℕ) (r : Reading) (at : ℕ) (done : List (List ℕ)) (rest : List ℕ) → IsLine line r → StopsAt line at done rest → ⊥
 no_stop line r at done rest l s =
-    let w = reading_whole r line l.said in
+    let w = reading_whole r line l.content in
     elim (compare (tokens r) done line w.rest rest (right_tokens r l.right) (first_tokens done s.right) w.begun s.begun) [
       | inl e ↦ s.no_end (r, l.right, e.0) (ap is_comment (sym e.1) ∙ w.comment)
       | inr (inl a) ↦ (
@@ -209,5 +209,5 @@ pub line_fault_read : (line : List ℕ) (f : LexFault) → IsLineFault line f �
 line_fault_read line f x = go (reading_of line) refl
   where
     go : (r : Result Reading LexFault) → reading_of line ≡ r → r ≡ Err f
-    go (Ok said) h = absurd (no_stop line said x.at x.done x.rest (reading_said line said h) x.stops)
-    go (Err g) h = ap (λ e. let r : Result Reading LexFault = Err e in r) (one_line_fault line g f (line_fault_said line g h) x)
+    go (Ok content) h = absurd (no_stop line content x.at x.done x.rest (reading_sound line content h) x.stops)
+    go (Err g) h = ap (λ e. let r : Result Reading LexFault = Err e in r) (one_line_fault line g f (line_fault_sound line g h) x)

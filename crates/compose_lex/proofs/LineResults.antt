@@ -10,11 +10,11 @@ use Rattle.compose_lex.specs.Fault.{skip_blanks, name_at, inside_from, string_at
 use Rattle.compose_lex.specs.LineFault.{AreFirst, is_whole, IsLineFault}
 use Rattle.compose_lex.specs.declared.LexFault.{LexFault}
 use Rattle.compose_lex.specs.declared.LexFault.TheVariants.{UnclosedString, NoResult, TooManyKeysyms}
-use Rattle.compose_lex.proofs.LineSaid.{bind_with, name_said, name_is, string_said, taken, behind_twice}
-use Rattle.compose_lex.proofs.IncludeWord.{behind_stops}
+use Rattle.compose_lex.proofs.LineSound.{bind_with, name_sound, name_is, string_sound, taken, after_twice}
+use Rattle.compose_lex.proofs.IncludeWord.{after_stops}
 use Rattle.compose_lex.proofs.Productions.{right_from}
 use Rattle.compose_lex.proofs.Tokens.{quoted_no_name}
-use Rattle.compose_lex.proofs.Stages.{Stage, colon, text, ended, goes, is_between, name_ends, behind_text, behind_colon, no_token_at}
+use Rattle.compose_lex.proofs.Stages.{Stage, colon, text, ended, goes, is_between, name_ends, past_text, colon_passed, no_token_at}
 use Rattle.compose_lex.proofs.LineStops.{Reached, reached_more, whole_before, stops, unlike, unclosed}
 use Rattle.compose_lex.proofs.LineEvents.{bind_fails, name_fails, end_fails, closed_fails, name_whole, may_not, Colon}
 
@@ -115,9 +115,9 @@ result_broken line events rest f s e = go (skip_blanks rest) s.reached e
     go (b ∷ rest) r e = by b rest (b == 35) refl (b == 34) refl r e
 
 -- after a string, perhaps a name
-behind_string : (line : List ℕ) (events : List (List ℕ)) (rest raw more : List ℕ) → Colon line events rest → Reached line (colon_tokens events ++ quoted raw ∷ []) (skip_blanks more) text
+after_string : (line : List ℕ) (events : List (List ℕ)) (rest raw more : List ℕ) → Colon line events rest → Reached line (colon_tokens events ++ quoted raw ∷ []) (skip_blanks more) text
     → is_inside raw ≡ true → End line (name_if (skip_blanks more)).1
-behind_string line events rest raw more s r is = go (begins is_name_byte (skip_blanks more)) refl
+after_string line events rest raw more s r is = go (begins is_name_byte (skip_blanks more)) refl
   where
     go : (x : Bool) → begins is_name_byte (skip_blanks more) ≡ x
         → End line (let y : Option (List ℕ) × List ℕ = cond x (Some (leading is_name_byte (skip_blanks more)), behind is_name_byte (skip_blanks more)) (None, skip_blanks more) in y).1
@@ -130,14 +130,14 @@ behind_string line events rest raw more s r is = go (begins is_name_byte (skip_b
           done = (colon_tokens events ++ quoted raw ∷ []) ++ name ∷ [];
           stage = ended;
           reached =
-              reached_more line (colon_tokens events ++ quoted raw ∷ []) (skip_blanks more) text ended name after r t.0 (whole_before name after (behind_stops is_name_byte (skip_blanks more)))
-              (name_ends name text behind_text named)
+              reached_more line (colon_tokens events ++ quoted raw ∷ []) (skip_blanks more) text ended name after r t.0 (whole_before name after (after_stops is_name_byte (skip_blanks more)))
+              (name_ends name text past_text named)
               (both_right events raw name s.some s.few s.names is named);
           none = never (skip_blanks after);
           behind = refl;
         }
     go false e =
-        let same : skip_blanks more ≡ skip_blanks (skip_blanks more) = sym (behind_twice is_blank more) in
+        let same : skip_blanks more ≡ skip_blanks (skip_blanks more) = sym (after_twice is_blank more) in
         record {
           done = colon_tokens events ++ quoted raw ∷ [];
           stage = text;
@@ -159,19 +159,19 @@ result_reached line events rest x s e = go (skip_blanks rest) s.reached e
     by b bytes false true i r e =
         bind_with (string_at (length line) bytes) (λ string. Ok (Some string.0, (name_if (skip_blanks string.1)).0, (name_if (skip_blanks string.1)).1)) x e (λ string is e.
         let q : ◌≡◌ {A = Option (List ℕ) × Option (List ℕ) × List ℕ} (Some string.0, (name_if (skip_blanks string.1)).0, (name_if (skip_blanks string.1)).1) x = cc in
-        let t = string_said (length line) bytes string.0 string.1 is in
+        let t = string_sound (length line) bytes string.0 string.1 is in
         let here : b ∷ bytes ≡ quoted string.0 ++ string.1 = ap (λ y. y ∷ bytes) (eqb-true b 34 i) ∙ t.0 in
         let next =
         reached_more line (colon_tokens events) (b ∷ bytes) colon text (quoted string.0) string.1 r here (string_whole string.0 string.1) refl
         (string_right events string.0 s.some s.few s.names t.1) in
-        subst (λ (y : Option (List ℕ) × Option (List ℕ) × List ℕ). End line y.2) q (behind_string line events rest string.0 string.1 s next t.1))
+        subst (λ (y : Option (List ℕ) × Option (List ℕ) × List ℕ). End line y.2) q (after_string line events rest string.0 string.1 s next t.1))
     by b bytes false false i r e =
         bind_with (name_at (length line) (b ∷ bytes)) (λ name. Ok (None, Some name.0, name.1)) x e (λ name is e.
         let q : ◌≡◌ {A = Option (List ℕ) × Option (List ℕ) × List ℕ} (None, Some name.0, name.1) x = cc in
-        let t = name_said (length line) (b ∷ bytes) name.0 name.1 is in
+        let t = name_sound (length line) (b ∷ bytes) name.0 name.1 is in
         let next =
         reached_more line (colon_tokens events) (b ∷ bytes) colon ended name.0 name.1 r t.0 (whole_before name.0 name.1 (name_whole (length line) (b ∷ bytes) name.0 name.1 is))
-        (name_ends name.0 colon behind_colon t.1)
+        (name_ends name.0 colon colon_passed t.1)
         (name_right events name.0 s.some s.few s.names t.1) in
         subst (λ (y : Option (List ℕ) × Option (List ℕ) × List ℕ). End line y.2) q
         (record { done = colon_tokens events ++ name.0 ∷ []; stage = ended; reached = next; none = never (skip_blanks name.1); behind = refl }))

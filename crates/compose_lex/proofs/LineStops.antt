@@ -12,10 +12,10 @@ use Rattle.compose_lex.specs.Fault.{skip_blanks, inside_from, event_fault}
 use Rattle.compose_lex.specs.LineFault.{AreFirst, is_whole, BeginsWith, GoesOn, StopsAt, is_modifier_first, IsLineFault}
 use Rattle.compose_lex.specs.declared.LexFault.TheVariants.{BadToken, ModifierList, UnclosedString}
 use Rattle.compose_lex.proofs.Runs.{parts_of, prefix_passes}
-use Rattle.compose_lex.proofs.IncludeWord.{behind_stops}
+use Rattle.compose_lex.proofs.IncludeWord.{after_stops}
 use Rattle.compose_lex.proofs.Productions.{RightProduction, right_from}
 use Rattle.compose_lex.proofs.Tokens.{right_tokens, IsToken, AllTokens, next_token, quoted_of}
-use Rattle.compose_lex.proofs.Stages.{Stage, start, goes, step, on, walk, walk_append, is_end, is_between, is_colon, first_steps, all_ends, no_token_at, events_between, behind_a_colon}
+use Rattle.compose_lex.proofs.Stages.{Stage, start, goes, step, on, walk, walk_append, is_end, is_between, is_colon, first_steps, all_ends, no_token_at, events_between, after_a_colon}
 
 -- ---- lines read so far
 
@@ -28,7 +28,7 @@ pub record Reached (line : List ℕ) (done : List (List ℕ)) (rest : List ℕ) 
 
 begins_more : (ts : List (List ℕ)) (t bytes rest more : List ℕ) → BeginsWith ts bytes rest → rest ≡ t ++ more → is_whole t more ≡ true → BeginsWith (ts ++ t ∷ []) bytes (skip_blanks more)
 begins_more [] t bytes rest more b here w =
-    (b.0, more, b.1, w, b.3 ∙ ap (λ x. b.0 ++ x) here, (leading is_blank more, prefix_passes is_blank more, ap not (behind_stops is_blank more), parts_of is_blank more))
+    (b.0, more, b.1, w, b.3 ∙ ap (λ x. b.0 ++ x) here, (leading is_blank more, prefix_passes is_blank more, ap not (after_stops is_blank more), parts_of is_blank more))
 begins_more (u ∷ us) t bytes rest more b here w = (b.0, b.1, b.2, b.3, b.4, begins_more us t b.1 rest more b.5 here w)
 
 begins_fits : (ts : List (List ℕ)) (bytes rest : List ℕ) → BeginsWith ts bytes rest → length rest ≤ length bytes
@@ -50,7 +50,7 @@ reached_more line done rest s m t more r here w steps right = record {
 
 -- at the first byte that is not a blank, no token was read yet
 pub at_start : (line : List ℕ) → Reached line [] (skip_blanks line) start
-at_start line = record { begun = (leading is_blank line, prefix_passes is_blank line, ap not (behind_stops is_blank line), parts_of is_blank line); right = (blank, [], refl, refl); walked = refl }
+at_start line = record { begun = (leading is_blank line, prefix_passes is_blank line, ap not (after_stops is_blank line), parts_of is_blank line); right = (blank, [], refl, refl); walked = refl }
 
 -- a token is whole if what follows it does not begin with a byte of a name
 pub whole_before : (t rest : List ℕ) → begins is_name_byte rest ≡ false → is_whole t rest ≡ true
@@ -153,7 +153,7 @@ bad_token line done rest s r p = record {
     record {
       no_modifier_list = λ m. (let e = p.event (events_between done m.0.0 s r.walked m.0.1) in let f = e.0 in let t = m.1 in cc);
       no_unclosed_string = λ u. (let e = p.string (first_steps done (quoted u.0) s r.walked u.1) in let t = u.2 in cc);
-      no_missing_result = λ n. (let e = p.comment (or_right (is_end s) (is_colon s) (behind_a_colon done (flat_map event_tokens n.0) s r.walked n.1)) in let t = n.2 in cc);
+      no_missing_result = λ n. (let e = p.comment (or_right (is_end s) (is_colon s) (after_a_colon done (flat_map event_tokens n.0) s r.walked n.1)) in let t = n.2 in cc);
       no_33rd_event = λ m. (let e = p.event (events_between done m.0 s r.walked m.1) in let f = e.1 in let t = m.3 in cc);
     },
   );

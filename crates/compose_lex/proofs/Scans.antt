@@ -18,17 +18,17 @@ prefix_taken p (b ∷ rest) = go (p b) (prefix_taken p rest)
     go false e = refl
 
 -- what follows the leading bytes is what is left after as many as the scan counts
-pub behind_left : (p : ℕ → Bool) (text : List ℕ) → behind p text ≡ drop (prefix_len p text) text
-behind_left p [] = refl
-behind_left p (b ∷ rest) = go (p b) (behind_left p rest)
+pub after_left : (p : ℕ → Bool) (text : List ℕ) → behind p text ≡ drop (prefix_len p text) text
+after_left p [] = refl
+after_left p (b ∷ rest) = go (p b) (after_left p rest)
   where
     go : (x : Bool) → behind p rest ≡ drop (prefix_len p rest) rest → cond x (behind p rest) (b ∷ rest) ≡ drop (cond x (1 + prefix_len p rest) 0) (b ∷ rest)
     go true e = let one : 1 + prefix_len p rest ≡ suc (prefix_len p rest) = omega arith in e ∙ ap (λ n. drop n (b ∷ rest)) (sym one)
     go false e = refl
 
 -- the last byte that passes the test is ASCII, so a character ends there
-cut_behind : (p : ℕ → Bool) (text : List ℕ) → ((b : ℕ) → p b ≡ true → b < 128) → IsUtf8 text → IsCharBoundary text (prefix_len p text)
-cut_behind p text ascii u =
+cut_after : (p : ℕ → Bool) (text : List ℕ) → ((b : ℕ) → p b ≡ true → b < 128) → IsUtf8 text → IsCharBoundary text (prefix_len p text)
+cut_after p text ascii u =
     let n = prefix_len p text in
     elim (cases_lt 0 n) [
       | inl some ↦
@@ -41,9 +41,9 @@ cut_behind p text ascii u =
     ]
 
 -- a text may be cut after its leading blanks
-pub cut_behind_blanks : (text : List ℕ) → IsUtf8 text → IsCharBoundary text (prefix_len is_blank text)
-cut_behind_blanks text u = cut_behind is_blank text (λ b h. grind (arith, nat_tests)) u
+pub cut_after_blanks : (text : List ℕ) → IsUtf8 text → IsCharBoundary text (prefix_len is_blank text)
+cut_after_blanks text u = cut_after is_blank text (λ b h. grind (arith, nat_tests)) u
 
 -- a text may be cut after a name at its beginning
-pub cut_behind_name : (text : List ℕ) → IsUtf8 text → IsCharBoundary text (prefix_len is_name_byte text)
-cut_behind_name text u = cut_behind is_name_byte text (λ b h. grind (arith, nat_tests)) u
+pub cut_after_name : (text : List ℕ) → IsUtf8 text → IsCharBoundary text (prefix_len is_name_byte text)
+cut_after_name text u = cut_after is_name_byte text (λ b h. grind (arith, nat_tests)) u

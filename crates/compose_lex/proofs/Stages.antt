@@ -82,9 +82,9 @@ is_colon (opened k) = false
 is_colon (named k) = false
 
 -- the stage after this number of events
-abbrev pub behind_events : ℕ → Stage
-behind_events zero = start
-behind_events (suc k) = between (suc k)
+abbrev pub after_events : ℕ → Stage
+after_events zero = start
+after_events (suc k) = between (suc k)
 
 -- a walk over two lists of tokens is one over the second from where the first ends
 pub walk_append : (s : Stage) (ts us : List (List ℕ)) → walk s (ts ++ us) ≡ on (walk s ts) (λ m. walk m us)
@@ -113,21 +113,21 @@ name_ends (b ∷ name) s f h =
     f b (and_parts (is_name_byte b) (list_all is_name_byte name) all).0
 
 -- after a string a byte of a name begins the last token
-pub behind_text : (b : ℕ) → is_name_byte b ≡ true → goes text b ≡ Some ended
-behind_text b h = rw h refl
+pub past_text : (b : ℕ) → is_name_byte b ≡ true → goes text b ≡ Some ended
+past_text b h = rw h refl
 
 -- after the colon a byte of a name begins the last token
-pub behind_colon : (b : ℕ) → is_name_byte b ≡ true → goes colon b ≡ Some ended
-behind_colon b h = let other = name_differs b 34 refl h in rw (other, h) refl
+pub colon_passed : (b : ℕ) → is_name_byte b ≡ true → goes colon b ≡ Some ended
+colon_passed b h = let other = name_differs b 34 refl h in rw (other, h) refl
 
-event_opens : (k : ℕ) → k < 32 → goes (behind_events k) 60 ≡ Some (opened k)
+event_opens : (k : ℕ) → k < 32 → goes (after_events k) 60 ≡ Some (opened k)
 event_opens zero l = refl
 event_opens (suc k) l = let few = lt-ltb (suc k) 32 l in rw few refl
 
 -- a walk over events goes on from the stage after that many more
 pub events_walk : (k : ℕ) (events ts : List (List ℕ)) → k + length events ≤ 32 → list_all is_name events ≡ true
-    → walk (behind_events k) (flat_map event_tokens events ++ ts) ≡ walk (behind_events (k + length events)) ts
-events_walk k [] ts l h = let same : k ≡ k + 0 = omega arith in ap (λ n. walk (behind_events n) ts) same
+    → walk (after_events k) (flat_map event_tokens events ++ ts) ≡ walk (after_events (k + length events)) ts
+events_walk k [] ts l h = let same : k ≡ k + 0 = omega arith in ap (λ n. walk (after_events n) ts) same
 events_walk k (e ∷ es) ts l h =
     let parts = and_parts (is_name e) (list_all is_name es) h in
     let same : suc k + length es ≡ k + length (e ∷ es) = omega arith in
@@ -135,11 +135,11 @@ events_walk k (e ∷ es) ts l h =
     ap (λ o. on o (λ m. walk m (e ∷ (62 ∷ []) ∷ rest))) (event_opens k (omega (arith, l)))
     ∙ ap (λ o. on o (λ m. walk m ((62 ∷ []) ∷ rest))) (name_steps e k parts.0)
     ∙ events_walk (suc k) es ts (omega (arith, l)) parts.1
-    ∙ ap (λ n. walk (behind_events n) ts) same
+    ∙ ap (λ n. walk (after_events n) ts) same
 
 -- the stage after the first tokens of a production
-pub events_stage : (events ts : List (List ℕ)) → length events ≤ 32 → list_all is_name events ≡ true → walk start (flat_map event_tokens events ++ ts) ≡ walk (behind_events (length events)) ts
-events_stage events ts l h = let same : 0 + length events ≡ length events = omega arith in events_walk 0 events ts (omega (arith, l)) h ∙ ap (λ n. walk (behind_events n) ts) same
+pub events_stage : (events ts : List (List ℕ)) → length events ≤ 32 → list_all is_name events ≡ true → walk start (flat_map event_tokens events ++ ts) ≡ walk (after_events (length events)) ts
+events_stage events ts l h = let same : 0 + length events ≡ length events = omega arith in events_walk 0 events ts (omega (arith, l)) h ∙ ap (λ n. walk (after_events n) ts) same
 
 -- these tokens lead from the beginning to a stage at which a reading may end
 pub record Walked (ts : List (List ℕ)) : Type 0 where
@@ -150,11 +150,11 @@ pub record Walked (ts : List (List ℕ)) : Type 0 where
 result_walk : (raw name : Option (List ℕ)) → option_map_or is_name name true ≡ true → is_some raw || is_some name ≡ true
     → (last : Stage) × (walk colon (result_tokens raw name) ≡ Some last) × (is_end last ≡ true)
 result_walk None None n s = cc
-result_walk None (Some name) n s = (ended, ap (λ o. on o (λ m. walk m [])) (name_ends name colon behind_colon n), refl)
+result_walk None (Some name) n s = (ended, ap (λ o. on o (λ m. walk m [])) (name_ends name colon colon_passed n), refl)
 result_walk (Some raw) None n s = (text, refl, refl)
-result_walk (Some raw) (Some name) n s = (ended, ap (λ o. on o (λ m. walk m [])) (name_ends name text behind_text n), refl)
+result_walk (Some raw) (Some name) n s = (ended, ap (λ o. on o (λ m. walk m [])) (name_ends name text past_text n), refl)
 
-some_events : (n : ℕ) → 0 < n → goes (behind_events n) 58 ≡ Some colon
+some_events : (n : ℕ) → 0 < n → goes (after_events n) 58 ≡ Some colon
 some_events zero l = absurd (omega (arith, l))
 some_events (suc n) l = refl
 
@@ -246,5 +246,5 @@ colon_goes (Some text) s h = cc
 colon_goes (Some ended) s h = cc
 
 -- the stage after a colon is that of the colon
-pub behind_a_colon : (done before : List (List ℕ)) (s : Stage) → walk start done ≡ Some s → done ≡ before ++ (58 ∷ []) ∷ [] → is_colon s ≡ true
-behind_a_colon done before s at is = colon_goes (walk start before) s (sym (walk_append start before ((58 ∷ []) ∷ [])) ∙ sym (ap (walk start) is) ∙ at)
+pub after_a_colon : (done before : List (List ℕ)) (s : Stage) → walk start done ≡ Some s → done ≡ before ++ (58 ∷ []) ∷ [] → is_colon s ≡ true
+after_a_colon done before s at is = colon_goes (walk start before) s (sym (walk_append start before ((58 ∷ []) ∷ [])) ∙ sym (ap (walk start) is) ∙ at)

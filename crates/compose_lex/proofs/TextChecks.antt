@@ -7,11 +7,11 @@ use Rattle.std.proofs.lemmas.Bool.{or_parts, false_from_ne_true}
 use Rattle.std.proofs.lemmas.Str.{is_utf8-from_IsUtf8, IsUtf8-from_is_utf8}
 use Rattle.std.proofs.lemmas.List.{take_all}
 use Rattle.compose_lex.specs.Escape.{bytes_from, text_or, text_of, Unescapes, IsText}
-use Rattle.compose_lex.specs.Lexed.{PushGives}
+use Rattle.compose_lex.specs.Lexed.{PushReturns}
 use Rattle.compose_lex.specs.Steps.{len_check, IsDecoded}
 use Rattle.compose_lex.specs.declared.LexFault.{LexFault}
 use Rattle.compose_lex.specs.declared.LexFault.TheVariants.{EmptyText, TextTooLong, TextNotUtf8}
-use Rattle.compose_lex.proofs.TextRead.{text_said}
+use Rattle.compose_lex.proofs.TextRead.{text_sound}
 
 -- bytes without a backslash stand for themselves
 pub no_escape : (at : ℕ) (raw : List ℕ) → list_any (λ b. b == 92) raw ≡ false → bytes_from at 0 raw ≡ Ok raw
@@ -71,6 +71,6 @@ decoded_other kept bytes len u d h few t = not_text bytes u (ap len_check (sym d
 -- ---- a text after another
 
 -- what is appended is what the raw text stands for
-pub found_pushed : (old new raw : List ℕ) (r : Result (Unit {0}) LexFault) → PushGives old new r (text_of raw) → OnOk r ((bytes : List ℕ) × (new ≡ old ++ bytes) × Unescapes raw bytes × IsText bytes)
-found_pushed old new raw (Ok u) p = let t = text_said raw p.0 p.1 in (p.0, p.2, t.0, t.1)
+pub found_pushed : (old new raw : List ℕ) (r : Result (Unit {0}) LexFault) → PushReturns old new r (text_of raw) → OnOk r ((bytes : List ℕ) × (new ≡ old ++ bytes) × Unescapes raw bytes × IsText bytes)
+found_pushed old new raw (Ok u) p = let t = text_sound raw p.0 p.1 in (p.0, p.2, t.0, t.1)
 found_pushed old new raw (Err e) p = tt

@@ -13,7 +13,7 @@ use Rattle.compose_lex.specs.TextFault.{BeginsNoPiece, StopsAt, is_code_first, I
 use Rattle.compose_lex.specs.declared.LexFault.{LexFault}
 use Rattle.compose_lex.specs.declared.LexFault.TheVariants.{BadToken, ModifierList, UnclosedString, UnknownEscape, BadCode, NoResult, TooManyKeysyms, EmptyText, TextTooLong, TextNotUtf8, NoMemory}
 use Rattle.compose_lex.proofs.Decodes.{skipped_to, piece_fits}
-use Rattle.compose_lex.proofs.TextRead.{take_prefix, drop_prefix, piece_takes, none_left, bytes_said, read_again}
+use Rattle.compose_lex.proofs.TextRead.{take_prefix, drop_prefix, piece_takes, none_left, bytes_sound, read_again}
 
 -- ---- a backslash after a piece does not change the piece
 
@@ -154,15 +154,15 @@ stop_read at before (b ∷ bytes) behind u none =
 
 -- ---- texts
 
-escape_fault_said : (raw : List ℕ) (at : ℕ) (behind : List ℕ) → StopsAt raw at behind → IsTextFault raw (escape_fault at behind)
-escape_fault_said raw at behind s = go (begins is_code_first behind) refl
+escape_fault_sound : (raw : List ℕ) (at : ℕ) (behind : List ℕ) → StopsAt raw at behind → IsTextFault raw (escape_fault at behind)
+escape_fault_sound raw at behind s = go (begins is_code_first behind) refl
   where
     go : (x : Bool) → begins is_code_first behind ≡ x → IsTextFault raw (cond x (BadCode at) (UnknownEscape at))
     go true e = (behind, s, e)
     go false e = (behind, s, ap not e)
 
-bytes_fault_said : (raw bytes : List ℕ) (fault : LexFault) → Unescapes raw bytes → text_or (Ok bytes) ≡ Err fault → IsTextFault raw fault
-bytes_fault_said raw bytes fault u e = go (length bytes == 0) refl (nat_lt 255 (length bytes)) refl (is_utf8 bytes) refl e
+bytes_fault_sound : (raw bytes : List ℕ) (fault : LexFault) → Unescapes raw bytes → text_or (Ok bytes) ≡ Err fault → IsTextFault raw fault
+bytes_fault_sound raw bytes fault u e = go (length bytes == 0) refl (nat_lt 255 (length bytes)) refl (is_utf8 bytes) refl e
   where
     go : (x : Bool) → (length bytes == 0) ≡ x → (y : Bool) → nat_lt 255 (length bytes) ≡ y → (z : Bool) → is_utf8 bytes ≡ z
         → cond {A = Result (List ℕ) LexFault} x (Err EmptyText) (cond {A = Result (List ℕ) LexFault} y (Err TextTooLong) (cond {A = Result (List ℕ) LexFault} z (Ok bytes) (Err TextNotUtf8)))
@@ -175,15 +175,15 @@ bytes_fault_said raw bytes fault u e = go (length bytes == 0) refl (nat_lt 255 (
         subst (IsTextFault raw) is (bytes, u, omega (arith, eqb-false (length bytes) 0 a), omega (arith, ltb-false 255 (length bytes) b), λ v. let w = is_utf8-from_IsUtf8 bytes v in cc)
 
 -- the fault that is read from a raw text is one that its definition finds in it
-pub text_fault_said : (raw : List ℕ) (fault : LexFault) → text_of raw ≡ Err fault → IsTextFault raw fault
-text_fault_said raw fault e = go (bytes_from 0 0 raw) refl e
+pub text_fault_sound : (raw : List ℕ) (fault : LexFault) → text_of raw ≡ Err fault → IsTextFault raw fault
+text_fault_sound raw fault e = go (bytes_from 0 0 raw) refl e
   where
     go : (r : Result (List ℕ) LexFault) → bytes_from 0 0 raw ≡ r → text_or r ≡ Err fault → IsTextFault raw fault
-    go (Ok bytes) h e = bytes_fault_said raw bytes fault (bytes_said 0 0 raw bytes h) e
+    go (Ok bytes) h e = bytes_fault_sound raw bytes fault (bytes_sound 0 0 raw bytes h) e
     go (Err f) h e =
         let s = stop_found 0 0 raw fault (h ∙ e) in
         let here : 0 + 0 + s.at ≡ s.at = omega arith in
-        subst (IsTextFault raw) (sym (s.same ∙ ap (λ n. escape_fault n s.behind) here)) (escape_fault_said raw s.at s.behind s.stops)
+        subst (IsTextFault raw) (sym (s.same ∙ ap (λ n. escape_fault n s.behind) here)) (escape_fault_sound raw s.at s.behind s.stops)
 
 not_empty : (bytes : List ℕ) → 0 < length bytes → (length bytes == 0) ≡ false
 not_empty [] l = absurd (omega (arith, l))

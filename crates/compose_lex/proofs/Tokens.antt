@@ -109,25 +109,25 @@ abbrev Separated : List (List ℕ) → Type 0
 Separated [] = Unit {0}
 Separated (t ∷ ts) = NoName t ts × Separated ts
 
-behind_mark : (t : List ℕ) (ts : List (List ℕ)) → is_name t ≡ false → NoName t ts
-behind_mark t [] h = tt
-behind_mark t (u ∷ us) h = λ is rest. cc
+after_mark : (t : List ℕ) (ts : List (List ℕ)) → is_name t ≡ false → NoName t ts
+after_mark t [] h = tt
+after_mark t (u ∷ us) h = λ is rest. cc
 
 events_separated : (events ts : List (List ℕ)) → Separated ts → Separated (flat_map event_tokens events ++ ts)
 events_separated [] ts s = s
 events_separated (e ∷ es) ts s =
-    (behind_mark (60 ∷ []) (e ∷ (62 ∷ []) ∷ (flat_map event_tokens es ++ ts)) refl, (λ is rest. refl, (behind_mark (62 ∷ []) (flat_map event_tokens es ++ ts) refl, events_separated es ts s)))
+    (after_mark (60 ∷ []) (e ∷ (62 ∷ []) ∷ (flat_map event_tokens es ++ ts)) refl, (λ is rest. refl, (after_mark (62 ∷ []) (flat_map event_tokens es ++ ts) refl, events_separated es ts s)))
 
 result_separated : (raw name : Option (List ℕ)) → Separated (result_tokens raw name)
 result_separated None None = tt
 result_separated None (Some name) = (tt, tt)
 result_separated (Some raw) None = (tt, tt)
-result_separated (Some raw) (Some name) = (behind_mark (quoted raw) (name ∷ []) (quoted_no_name raw), (tt, tt))
+result_separated (Some raw) (Some name) = (after_mark (quoted raw) (name ∷ []) (quoted_no_name raw), (tt, tt))
 
 separated : (r : Reading) → Separated (tokens r)
 separated blank = tt
 separated (include raw) = (λ is rest. refl, (tt, tt))
-separated (production events raw name) = events_separated events ((58 ∷ []) ∷ result_tokens raw name) (behind_mark (58 ∷ []) (result_tokens raw name) refl, result_separated raw name)
+separated (production events raw name) = events_separated events ((58 ∷ []) ∷ result_tokens raw name) (after_mark (58 ∷ []) (result_tokens raw name) refl, result_separated raw name)
 
 -- so each token of a line is whole
 pub record Whole (ts : List (List ℕ)) (bytes : List ℕ) : Type 0 where
@@ -135,8 +135,8 @@ pub record Whole (ts : List (List ℕ)) (bytes : List ℕ) : Type 0 where
   pub begun : BeginsWith ts bytes rest
   pub comment : is_comment rest ≡ true
 
-stands_whole : (t : List ℕ) (ts : List (List ℕ)) (more : List ℕ) → NoName t ts → AreTokens ts more → is_whole t more ≡ true
-stands_whole t ts more n a = go (is_name t) refl
+token_whole : (t : List ℕ) (ts : List (List ℕ)) (more : List ℕ) → NoName t ts → AreTokens ts more → is_whole t more ≡ true
+token_whole t ts more n a = go (is_name t) refl
   where
     ends : (ts : List (List ℕ)) → NoName t ts → AreTokens ts more → is_name t ≡ true → begins is_name_byte more ≡ false
     ends [] n a is = end_first is_name_byte more blank_no_name refl a
@@ -150,7 +150,7 @@ all_whole : (ts : List (List ℕ)) (bytes : List ℕ) → Separated ts → AreTo
 all_whole [] bytes s a = record { rest = a.1; begun = (a.0, a.2, ap not (comment_first is_blank a.1 refl a.3), a.4); comment = a.3 }
 all_whole (t ∷ ts) bytes s a =
     let later = all_whole ts a.1 s.1 a.4 in
-    record { rest = later.rest; begun = (a.0, a.1, a.2, stands_whole t ts a.1 s.0 a.4, a.3, later.begun); comment = later.comment }
+    record { rest = later.rest; begun = (a.0, a.1, a.2, token_whole t ts a.1 s.0 a.4, a.3, later.begun); comment = later.comment }
 
 -- in a line with the tokens of a reading each of them is whole, and a comment or nothing follows the last
 pub reading_whole : (r : Reading) (line : List ℕ) → AreTokens (tokens r) line → Whole (tokens r) line

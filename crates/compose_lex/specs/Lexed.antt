@@ -5,8 +5,8 @@ use Rattle.compose_lex.specs.declared.LexFault.{LexFault}
 use Rattle.compose_lex.specs.declared.LexFault.TheVariants.{NoMemory}
 use Rattle.compose_lex.specs.declared.Line.{Line}
 use Rattle.compose_lex.specs.declared.Line.TheVariants.{Blank, Include, Production}
-use Rattle.compose_lex.specs.declared.lexer.Said.{Said}
-use Rattle.compose_lex.specs.declared.lexer.Said.TheVariants as said
+use Rattle.compose_lex.specs.declared.lexer.LineContent.{LineContent}
+use Rattle.compose_lex.specs.declared.lexer.LineContent.TheVariants as content
 
 -- the meaning of a line
 abbrev pub reading : Line → Reading
@@ -15,10 +15,10 @@ reading (Include raw) = include raw.now
 reading (Production events raw name) = production (map (λ e. e.now) events.items) (option_copied raw) (option_copied name)
 
 -- the meaning of a line with these names of events
-abbrev pub said_reading : List (List ℕ) → Said → Reading
-said_reading events said.Blank = blank
-said_reading events (said.Include raw) = include raw.now
-said_reading events (said.Production raw name) = production events (option_copied raw) (option_copied name)
+abbrev pub content_reading : List (List ℕ) → LineContent → Reading
+content_reading events content.Blank = blank
+content_reading events (content.Include raw) = include raw.now
+content_reading events (content.Production raw name) = production events (option_copied raw) (option_copied name)
 
 -- the names of the events
 abbrev pub event_names : Reading → List (List ℕ)
@@ -28,23 +28,23 @@ event_names (production events raw name) = events
 
 -- the same; a faulty line has none
 abbrev pub names_in : Result Reading LexFault → List (List ℕ)
-names_in (Ok said) = event_names said
+names_in (Ok content) = event_names content
 names_in (Err e) = []
 
 -- the function returns the value of the definition
 abbrev pub Is : {X Y : Type 0} → (X → Y) → Result X LexFault → Result Y LexFault → Type 0
-Is view (Ok x) said = said ≡ Ok (view x)
-Is view (Err e) said = said ≡ Err e
+Is view (Ok x) content = content ≡ Ok (view x)
+Is view (Err e) content = content ≡ Err e
 
 -- the function returns the value of the definition, unless memory ran out
-abbrev pub Gives : {X Y : Type 0} → (X → Y) → Result X LexFault → Result Y LexFault → Type 0
-Gives view (Ok x) said = said ≡ Ok (view x)
-Gives view (Err NoMemory) said = Unit {0}
-Gives view (Err e) said = said ≡ Err e
+abbrev pub Returns : {X Y : Type 0} → (X → Y) → Result X LexFault → Result Y LexFault → Type 0
+Returns view (Ok x) content = content ≡ Ok (view x)
+Returns view (Err NoMemory) content = Unit {0}
+Returns view (Err e) content = content ≡ Err e
 
 -- the function appends the value of the definition to the old text; an error, which is that of the definition or that
 -- memory ran out, leaves the text as it was
-abbrev pub PushGives : List ℕ → List ℕ → Result (Unit {0}) LexFault → Result (List ℕ) LexFault → Type 0
-PushGives old new (Ok u) said = (bytes : List ℕ) × (said ≡ Ok bytes) × (new ≡ old ++ bytes)
-PushGives old new (Err NoMemory) said = new ≡ old
-PushGives old new (Err e) said = (said ≡ Err e) × (new ≡ old)
+abbrev pub PushReturns : List ℕ → List ℕ → Result (Unit {0}) LexFault → Result (List ℕ) LexFault → Type 0
+PushReturns old new (Ok u) content = (bytes : List ℕ) × (content ≡ Ok bytes) × (new ≡ old ++ bytes)
+PushReturns old new (Err NoMemory) content = new ≡ old
+PushReturns old new (Err e) content = (content ≡ Err e) × (new ≡ old)

@@ -4,7 +4,7 @@ ghost use Rattle.std.specs.Prelude.{◌≡◌, ◌-◌, ℕ, List, [], length, m
 ghost use Rattle.std.specs.Char.{is_ascii_alphabetic};
 ghost use Rattle.compose_lex.specs.Line.{IsLine, include};
 ghost use Rattle.compose_lex.specs.Fault as fault;
-ghost use Rattle.compose_lex.specs.Lexed.{reading, said_reading, event_names, names_in, Is};
+ghost use Rattle.compose_lex.specs.Lexed.{reading, content_reading, event_names, names_in, Is};
 ghost use Rattle.compose_lex.specs.Steps.{with_prefix, IsNext};
 
 use crate::token::{byte_at, end_at, name_at, offset, skip_blanks, split_name, string_at};
@@ -13,7 +13,7 @@ use arrayvec::ArrayVec;
 
 /// The content of a line apart from the names of its events; its tokens are slices of the line.
 #[derive(Clone, Copy, Debug, PartialEq, Eq, Drop)]
-pub enum Said<'a> {
+pub enum LineContent<'a> {
     /// Only blanks, and perhaps a comment.
     Blank,
     /// An include, with the raw text of its string.
@@ -80,14 +80,14 @@ fn next_at(line_len: usize, rest: &str) -> Result<Next<'_>, LexFault>
 /// the line after the colon. O(bytes).
 fn events_at<'a>(
     line_len: usize,
-    behind_event: &'a str,
+    after_event: &'a str,
     events: &mut Events<'a>,
 ) -> Result<&'a str, LexFault>
     ensures { Is (λ behind. (map (λ e. e.now) events.new.items, behind.now)) result
         (with_prefix (map (λ e. e.now) events.old.items)
-        (fault.events_at line_len (32 - length events.old.items) behind_event.now)) }
+        (fault.events_at line_len (32 - length events.old.items) after_event.now)) }
 {
-    let mut rest = behind_event;
+    let mut rest = after_event;
     loop {
         match next_at(line_len, skip_blanks(rest))? {
             Next::Colon(behind) => return Ok(behind),
@@ -137,12 +137,12 @@ fn production_at<'a>(
     line_len: usize,
     rest: &'a str,
     events: &mut Events<'a>,
-) -> Result<Said<'a>, LexFault>
+) -> Result<LineContent<'a>, LexFault>
     requires { events.old.items ≡ [] }
-    ensures exact { Is (said_reading (map (λ e. e.now) events.new.items)) result
+    ensures exact { Is (content_reading (map (λ e. e.now) events.new.items)) result
         (fault.production_at line_len rest.now) }
     ensures listed { IfOk result
-        (λ said. event_names (said_reading (map (λ e. e.now) events.new.items) said)
+        (λ content. event_names (content_reading (map (λ e. e.now) events.new.items) content)
         ≡ map (λ e. e.now) events.new.items) }
 {
     let (first, rest) = event_at(line_len, rest)?;
@@ -150,7 +150,7 @@ fn production_at<'a>(
     let rest = events_at(line_len, rest, events)?;
     let (raw_text, result_name, rest) = result_at(line_len, skip_blanks(rest))?;
     end_at(line_len, skip_blanks(rest))?;
-    Ok(Said::Production {
+    Ok(LineContent::Production {
         raw_text,
         result_name,
     })
@@ -168,7 +168,7 @@ fn include_at(line_len: usize, rest: &str) -> Result<&str, LexFault>
 
 /// Returns what follows the word `include` at the beginning, if it is there and no letter, digit or
 /// underscore follows it.
-fn behind_include(rest: &str) -> Option<&str>
+fn after_include(rest: &str) -> Option<&str>
     ensures { MatchOption result (fault.is_include rest.now ≡ false)
         (λ behind. (fault.is_include rest.now ≡ true) × (behind.now ≡ drop 7 rest.now)) }
 {
@@ -182,19 +182,19 @@ fn reading_at<'a>(
     line_len: usize,
     rest: &'a str,
     events: &mut Events<'a>,
-) -> Result<Said<'a>, LexFault>
+) -> Result<LineContent<'a>, LexFault>
     requires { events.old.items ≡ [] }
-    ensures exact { Is (said_reading (map (λ e. e.now) events.new.items)) result
+    ensures exact { Is (content_reading (map (λ e. e.now) events.new.items)) result
         (fault.reading_at line_len rest.now) }
     ensures listed { IfOk result
-        (λ said. event_names (said_reading (map (λ e. e.now) events.new.items) said)
+        (λ content. event_names (content_reading (map (λ e. e.now) events.new.items) content)
         ≡ map (λ e. e.now) events.new.items) }
 {
     match rest.as_bytes().first() {
-        None | Some(b'#') => Ok(Said::Blank),
+        None | Some(b'#') => Ok(LineContent::Blank),
         Some(b'<') => production_at(line_len, &rest[1..], events),
-        Some(_) => match behind_include(rest) {
-            Some(behind) => Ok(Said::Include(include_at(line_len, behind)?)),
+        Some(_) => match after_include(rest) {
+            Some(behind) => Ok(LineContent::Include(include_at(line_len, behind)?)),
             None => Err(event_fault(line_len, rest)),
         },
     }
@@ -208,20 +208,20 @@ fn reading_at<'a>(
 pub fn lex_line_into<'a>(
     line: &'a str,
     events: &mut ArrayVec<&'a str, 32>,
-) -> Result<Said<'a>, LexFault>
-    ensures exact { Is (said_reading (map (λ e. e.now) events.new.items)) result
+) -> Result<LineContent<'a>, LexFault>
+    ensures exact { Is (content_reading (map (λ e. e.now) events.new.items)) result
         (fault.reading_of line.now) }
     ensures listed { map (λ e. e.now) events.new.items ≡ names_in (fault.reading_of line.now) }
     ensures found { IfOk result
-        (λ said. IsLine line.now (said_reading (map (λ e. e.now) events.new.items) said)) }
+        (λ content. IsLine line.now (content_reading (map (λ e. e.now) events.new.items) content)) }
 {
     law_right_reading();
     events.clear();
-    let said = reading_at(line.len(), skip_blanks(line), events);
-    if said.is_err() {
+    let content = reading_at(line.len(), skip_blanks(line), events);
+    if content.is_err() {
         events.clear();
     }
-    said
+    content
 }
 
 /// Reads a line; the tokens of the result are slices of the line. Takes no memory. O(bytes).
@@ -229,14 +229,14 @@ pub fn lex_line_into<'a>(
 /// Errors: the fault of the line, at the first place where the expected token is missing.
 pub fn lex_line<'a>(line: &'a str) -> Result<Line<'a>, LexFault>
     ensures exact { Is reading result (fault.reading_of line.now) }
-    ensures found { IfOk result (λ said. IsLine line.now (reading said)) }
+    ensures found { IfOk result (λ content. IsLine line.now (reading content)) }
 {
     let mut events = ArrayVec::new();
-    let said = lex_line_into(line, &mut events)?;
-    Ok(match said {
-        Said::Blank => Line::Blank,
-        Said::Include(raw) => Line::Include(raw),
-        Said::Production {
+    let content = lex_line_into(line, &mut events)?;
+    Ok(match content {
+        LineContent::Blank => Line::Blank,
+        LineContent::Include(raw) => Line::Include(raw),
+        LineContent::Production {
             raw_text,
             result_name,
         } => Line::Production {

@@ -36,7 +36,7 @@ mod texts;
 mod token;
 
 use arrayvec::ArrayVec;
-pub use lexer::{Said, lex_line, lex_line_into};
+pub use lexer::{LineContent, lex_line, lex_line_into};
 pub use quotes::quote;
 use std::alloc::AllocError;
 pub use texts::{push_text, unescape};
@@ -129,7 +129,7 @@ pub fn law_right_reading()
 /// the first ones of a valid line, and no token of a valid line follows. A line has at most one
 /// fault.
 pub fn law_line_fault()
-    ensures said { (line : List ℕ) (fault : LexFault) → reading_of line ≡ Err fault
+    ensures content { (line : List ℕ) (fault : LexFault) → reading_of line ≡ Err fault
         → IsLineFault line fault }
     ensures read { (line : List ℕ) (fault : LexFault) → IsLineFault line fault
         → reading_of line ≡ Err fault }
@@ -143,14 +143,14 @@ pub fn law_one_text()
     ensures one { (raw a b : List ℕ) → Unescapes raw a → Unescapes raw b → a ≡ b }
     ensures read { (raw bytes : List ℕ) → Unescapes raw bytes → IsText bytes
         → text_of raw ≡ Ok bytes }
-    ensures said { (raw bytes : List ℕ) → text_of raw ≡ Ok bytes
+    ensures content { (raw bytes : List ℕ) → text_of raw ≡ Ok bytes
         → Unescapes raw bytes × IsText bytes }
 {}
 
 /// The fault that is found in a raw text is the fault of its escapes, or of the bytes that it
 /// stands for. A raw text has at most one fault.
 pub fn law_text_fault()
-    ensures said { (raw : List ℕ) (fault : LexFault) → text_of raw ≡ Err fault
+    ensures content { (raw : List ℕ) (fault : LexFault) → text_of raw ≡ Err fault
         → IsTextFault raw fault }
     ensures read { (raw : List ℕ) (fault : LexFault) → IsTextFault raw fault
         → text_of raw ≡ Err fault }

@@ -3,7 +3,7 @@ ghost use Rattle.std.specs.Prelude.{◌≡◌, ◌==◌, ◌≤◌, ◌<◌, ◌
 ghost use Rattle.std.specs.List.{list_any};
 ghost use Rattle.std.specs.Str.{IsUtf8};
 ghost use Rattle.compose_lex.specs.Escape as escapes;
-ghost use Rattle.compose_lex.specs.Lexed.{Is, Gives, PushGives};
+ghost use Rattle.compose_lex.specs.Lexed.{Is, Returns, PushReturns};
 ghost use Rattle.compose_lex.specs.Steps.{len_check, IsDecoded};
 
 use crate::escapes::decode;
@@ -47,7 +47,7 @@ fn decoded_text(kept: &[u8], len: usize) -> Result<&str, LexFault>
 /// Errors: the fault of the raw text: its leftmost bad escape, or a text that is empty, longer than
 /// 255 bytes or not UTF-8; `NoMemory` if memory runs out.
 pub fn unescape(alloc: Global, raw: &str) -> Result<String, LexFault>
-    ensures exact { Gives string_bytes result (escapes.text_of raw.now) }
+    ensures exact { Returns string_bytes result (escapes.text_of raw.now) }
     ensures found { IfOk result
         (λ text. escapes.Unescapes raw.now (string_bytes text)
         × escapes.IsText (string_bytes text)) }
@@ -59,7 +59,7 @@ pub fn unescape(alloc: Global, raw: &str) -> Result<String, LexFault>
 
 /// Appends a raw text without a backslash.
 fn push_plain(text: &mut String, raw: &str) -> Result<(), LexFault>
-    ensures { PushGives (string_bytes text.old) (string_bytes text.new) result
+    ensures { PushReturns (string_bytes text.old) (string_bytes text.new) result
         (escapes.text_or (Ok raw.now)) }
 {
     check_len(raw.len())?;
@@ -69,7 +69,7 @@ fn push_plain(text: &mut String, raw: &str) -> Result<(), LexFault>
 
 /// Appends the text of a raw text with escapes.
 fn push_unescaped(text: &mut String, raw: &str) -> Result<(), LexFault>
-    ensures { PushGives (string_bytes text.old) (string_bytes text.new) result
+    ensures { PushReturns (string_bytes text.old) (string_bytes text.new) result
         (escapes.text_of raw.now) }
 {
     let (bytes, len) = decode(raw.as_bytes())?;
@@ -82,7 +82,7 @@ fn push_unescaped(text: &mut String, raw: &str) -> Result<(), LexFault>
 ///
 /// Errors: the fault of the raw text, as for `unescape`; `NoMemory` if memory runs out.
 pub fn push_text(text: &mut String, raw: &str) -> Result<(), LexFault>
-    ensures exact { PushGives (string_bytes text.old) (string_bytes text.new) result
+    ensures exact { PushReturns (string_bytes text.old) (string_bytes text.new) result
         (escapes.text_of raw.now) }
     ensures found { OnOk result
         ((bytes : List ℕ) × (string_bytes text.new ≡ string_bytes text.old ++ bytes)

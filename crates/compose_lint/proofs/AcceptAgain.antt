@@ -10,14 +10,14 @@ use Rattle.std.proofs.lemmas.List.{append_assoc}
 use Rattle.std.proofs.lemmas.List.Folds.{list_all-append}
 use Rattle.compose_text.specs.Lines.{in_line, lines_of, onto_first}
 use Rattle.compose_shown.specs.Shown.{shown_character}
-use Rattle.compose_diff.specs.Accepted.{Line, is_skipped, said_from}
+use Rattle.compose_diff.specs.Accepted.{Line, is_skipped, list_lines_from}
 use Rattle.compose_diff.specs.declared.accepted.AcceptFault.TheVariants.{Stale, BadLine}
 use Rattle.compose_diff.proofs.Plain.{is_plain, ArePlain, character_plain}
 use Rattle.compose_lint.specs.Rows.{Row}
 use Rattle.compose_lint.specs.Report.{kind_word}
 use Rattle.compose_lint.specs.Accepted.{listed_character, listed_line, listed_text, file_words, text_words, reader_words, begins_as_one, is_in_form, is_accepted, is_none_of, without_blanks, distinct, as_lines, accept_lines, AcceptsAll}
-use Rattle.compose_lint.specs.declared.finding.Kind.{Kind}
-use Rattle.compose_lint.specs.declared.finding.Kind.TheVariants.{Fault, Overridden, Repeated, Prefix, Keysym, Mark, Form, Alike, Comment, Redundant, Reader}
+use Rattle.compose_lint.specs.declared.finding.FindingKind.{FindingKind}
+use Rattle.compose_lint.specs.declared.finding.FindingKind.TheVariants.{Fault, Overridden, Repeated, Prefix, Keysym, Mark, Form, Alike, Comment, Redundant, Reader}
 use Rattle.compose_lint.specs.declared.reader.Reader.TheVariants.{LibX11, Libxkbcommon, Gtk3, Gtk4}
 use Rattle.compose_lint.proofs.Among.{distinct_all, among_distinct, all_among}
 
@@ -48,7 +48,7 @@ form_of text = begins_as_one file_words text || (begins_as_one text_words text |
 abbrev is_good : List ℕ → Bool
 is_good text = not (is_skipped text) && (form_of text && list_all in_line text)
 
-good : (k : Kind) (more : List ℕ) → list_all in_line more ≡ true → is_good (kind_word k ++ (codes ": " ++ more)) ≡ true
+good : (k : FindingKind) (more : List ℕ) → list_all in_line more ≡ true → is_good (kind_word k ++ (codes ": " ++ more)) ≡ true
 good (Fault index) more line = line
 good (Overridden number) more line = line
 good (Repeated number) more line = line
@@ -90,11 +90,11 @@ lines_again (text ∷ texts) all =
     let parts = and_parts (is_good text) (list_all is_good texts) all in
     ap lines_of (append_assoc text (10 ∷ []) (as_lines texts)) ∙ line_first text (as_lines texts) (first_good text parts.0).2 ∙ ap (λ ls. text ∷ ls) (lines_again texts parts.1)
 
-said_again : (n : ℕ) (texts : List (List ℕ)) → list_all is_good texts ≡ true → said_from n texts ≡ numbered n texts
-said_again n [] all = refl
-said_again n (text ∷ texts) all =
+list_lines_again : (n : ℕ) (texts : List (List ℕ)) → list_all is_good texts ≡ true → list_lines_from n texts ≡ numbered n texts
+list_lines_again n [] all = refl
+list_lines_again n (text ∷ texts) all =
     let parts = and_parts (is_good text) (list_all is_good texts) all in
-    rw (first_good text parts.0).0 (ap (λ lines. record { number = n; text = text } ∷ lines) (said_again (1 + n) texts parts.1))
+    rw (first_good text parts.0).0 (ap (λ lines. record { number = n; text = text } ∷ lines) (list_lines_again (1 + n) texts parts.1))
 
 find_skip : {X : Type 0} (p : X → Bool) (x : X) (xs : List X) → p x ≡ false → find p (x ∷ xs) ≡ find p xs
 find_skip p x xs e = rw e refl
@@ -142,10 +142,10 @@ covered all (row ∷ rows) there =
 pub accepts_all : (rows : List Row) → AcceptsAll (accept_lines rows) rows
 accepts_all rows =
     let all = map listed_text rows in let texts = distinct all in let there = all_among all in let fine : list_all is_good texts ≡ true = distinct_all is_good all (all_good rows) in
-    let said : said_from 1 (lines_of (accept_lines rows)) ≡ numbered 1 texts = ap (said_from 1) (lines_again texts fine) ∙ said_again 1 texts fine in record {
+    let reading_result : list_lines_from 1 (lines_of (accept_lines rows)) ≡ numbered 1 texts = ap (list_lines_from 1) (lines_again texts fine) ∙ list_lines_again 1 texts fine in record {
       lines = numbered 1 texts;
       read =
-          ap (λ ls. option_map_or (λ (line : Line). Err (BadLine line.number)) (find is_bad ls) (Ok ls)) said
+          ap (λ ls. option_map_or (λ (line : Line). Err (BadLine line.number)) (find is_bad ls) (Ok ls)) reading_result
           ∙ ap (λ o. option_map_or (λ (line : Line). Err (BadLine line.number)) o (Ok (numbered 1 texts))) (none_bad 1 texts fine);
       left =
           ap (λ o. option_map_or (λ (line : Line). Err (Stale line.number)) o (Ok (filter (λ (row : Row). not (is_accepted (numbered 1 texts) row)) rows)))

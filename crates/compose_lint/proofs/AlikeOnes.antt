@@ -11,11 +11,11 @@ use Rattle.compose_model.specs.Table.{Definition}
 use Rattle.compose_lint.specs.Texts.{normal_form, is_normal}
 use Rattle.compose_lint.specs.Lines.{LintLine, SourceLines, all_lines}
 use Rattle.compose_lint.specs.Longer.{place_of}
-use Rattle.compose_lint.specs.Alike.{are_alike, gives_alike, alike_place, gives_form, form_place}
+use Rattle.compose_lint.specs.Alike.{are_alike, has_alike, alike_place, has_own_form, form_place}
 use Rattle.compose_lint.specs.Findings.{form_of}
 use Rattle.compose_lint.specs.declared.finding.LinePlace.{LinePlace}
-use Rattle.compose_lint.specs.declared.finding.Kind.{Kind}
-use Rattle.compose_lint.specs.declared.finding.Kind.TheVariants.{Alike, Form}
+use Rattle.compose_lint.specs.declared.finding.FindingKind.{FindingKind}
+use Rattle.compose_lint.specs.declared.finding.FindingKind.TheVariants.{Alike, Form}
 use Rattle.compose_lint.proofs.PrefixOnes.{map_or, lines_more}
 use Rattle.compose_lint.proofs.Among.{turned}
 
@@ -23,7 +23,7 @@ use Rattle.compose_lint.proofs.Among.{turned}
 
 -- among several lines, earlier ones go first
 pub form_of_both : (xs ys : List LintLine) (q : List ℕ) → form_place (xs ++ ys) q ≡ option_or (form_place xs q) (form_place ys q)
-form_of_both xs ys q = ap (option_map place_of) (find-append (gives_form q) xs ys) ∙ map_or (find (gives_form q) xs) (find (gives_form q) ys)
+form_of_both xs ys q = ap (option_map place_of) (find-append (has_own_form q) xs ys) ∙ map_or (find (has_own_form q) xs) (find (has_own_form q) ys)
 
 or_assoc : (a b c : Option LinePlace) → option_or (option_or a b) c ≡ option_or a (option_or b c)
 or_assoc None b c = refl
@@ -129,14 +129,14 @@ module _ (text : List ℕ) (normal : is_normal text ≡ true) where
           none true = refl
           none false = refl
 
-  same_line : (l : LintLine) → gives_form text l ≡ gives_alike text l
+  same_line : (l : LintLine) → has_own_form text l ≡ has_alike text l
   same_line l = by l.definition
     where
       by : (o : Option Definition) → option_map_or (λ d. not (is_normal d.text) && bytes_eq (normal_form d.text) text) o false ≡ option_map_or (λ d. are_alike text d.text) o false
       by None = refl
       by (Some d) = same_text d.text
 
-  same_find : (lines : List LintLine) → find (gives_form text) lines ≡ find (gives_alike text) lines
+  same_find : (lines : List LintLine) → find (has_own_form text) lines ≡ find (has_alike text) lines
   same_find [] = refl
   same_find (l ∷ lines) = ap₂ (λ b o. cond b (Some l) o) (same_line l) (same_find lines)
 
@@ -146,25 +146,25 @@ module _ (text : List ℕ) (normal : is_normal text ≡ true) where
   same_place lines = ap (option_map place_of) (same_find lines)
 
 -- the findings about the form of a text, by the places of normal forms
-pub form_said : (all : List LintLine) (text : List ℕ) → form_of all text ≡ cond (is_normal text) (option_map_or (λ place. Alike place ∷ []) (form_place all text) []) (Form ∷ [])
-form_said all text = by (is_normal text) refl
+pub form_findings : (all : List LintLine) (text : List ℕ) → form_of all text ≡ cond (is_normal text) (option_map_or (λ place. Alike place ∷ []) (form_place all text) []) (Form ∷ [])
+form_findings all text = by (is_normal text) refl
   where
     by : (b : Bool) → is_normal text ≡ b
         → cond b (option_map_or (λ place. Alike place ∷ []) (alike_place all text) []) (Form ∷ []) ≡ cond b (option_map_or (λ place. Alike place ∷ []) (form_place all text) []) (Form ∷ [])
     by true e = ap (λ o. option_map_or (λ place. Alike place ∷ []) o []) (sym (same_place text e all))
     by false e = refl
 
-pub found_alike : (all : List LintLine) (text : List ℕ) (place : LinePlace) (kinds : List Kind) → is_normal text ≡ true → Some place ≡ form_place all text → kinds ++ Alike place ∷ [] ≡ kinds ++ form_of all text
+pub found_alike : (all : List LintLine) (text : List ℕ) (place : LinePlace) (kinds : List FindingKind) → is_normal text ≡ true → Some place ≡ form_place all text → kinds ++ Alike place ∷ [] ≡ kinds ++ form_of all text
 found_alike all text place kinds normal at =
     ap (λ ks. kinds ++ ks)
-    (sym (form_said all text
+    (sym (form_findings all text
     ∙ ap (λ b. cond b (option_map_or (λ place. Alike place ∷ []) (form_place all text) []) (Form ∷ [])) normal
     ∙ ap (λ o. option_map_or (λ place. Alike place ∷ []) o []) (sym at)))
 
-pub none_alike : (all : List LintLine) (text : List ℕ) (kinds : List Kind) → is_normal text ≡ true → None ≡ form_place all text → kinds ≡ kinds ++ form_of all text
+pub none_alike : (all : List LintLine) (text : List ℕ) (kinds : List FindingKind) → is_normal text ≡ true → None ≡ form_place all text → kinds ≡ kinds ++ form_of all text
 none_alike all text kinds normal at =
     sym (ap (λ ks. kinds ++ ks)
-    (form_said all text
+    (form_findings all text
     ∙ ap (λ b. cond b (option_map_or (λ place. Alike place ∷ []) (form_place all text) []) (Form ∷ [])) normal
     ∙ ap (λ o. option_map_or (λ place. Alike place ∷ []) o []) (sym at))
     ∙ append-nil kinds)

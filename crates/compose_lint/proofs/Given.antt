@@ -13,7 +13,7 @@ use Rattle.compose_lex.specs.Fault.{reading_of}
 use Rattle.compose_lex.specs.Escape.{text_of}
 use Rattle.compose_lex.specs.declared.LexFault.{LexFault}
 use Rattle.compose_read.specs.Lines.{Source, Visit, source_named, max_depth}
-use Rattle.compose_read.specs.Read.{at_line, event_keysym, sequence_of, string_text, result_text, definition_of, said, line_gives}
+use Rattle.compose_read.specs.Read.{at_line, event_keysym, sequence_of, string_text, result_text, definition_of, reading_result, line_result}
 use Rattle.compose_read.specs.declared.ReadFault.{ReadFault}
 use Rattle.compose_read.specs.declared.ReadFault.TheVariants.{NotUtf8, UnknownKeysym, IgnoredKeysym, MissingInclude, IncludeDepth}
 use Rattle.compose_lint.specs.Productions.{parts_of, production_of, written_of, comment_of, fed_sequence, string_given, name_given, definition_given}
@@ -89,18 +89,18 @@ module _ (names : KeysymNames) (sources : List Source) (v : Visit) where
   include_is false true = refl
   include_is false false = refl
 
-  reading_is : (r : Result Reading LexFault) → definition_in (at_line v r >>= said names sources v) ≡ option_and_then (definition_given names) (parts_of r)
+  reading_is : (r : Result Reading LexFault) → definition_in (at_line v r >>= reading_result names sources v) ≡ option_and_then (definition_given names) (parts_of r)
   reading_is (Err f) = refl
   reading_is (Ok blank) = refl
   reading_is (Ok (include name)) = include_is (not (nat_lt (source_named sources name) (length sources))) (nat_lt v.depth max_depth)
   reading_is (Ok (production events raw name)) = production_is events raw name
 
   -- the definition on a line is that of its production
-  pub given_is : definition_in (line_gives names sources v) ≡ option_and_then (definition_given names) (production_of v.bytes)
+  pub given_is : definition_in (line_result names sources v) ≡ option_and_then (definition_given names) (production_of v.bytes)
   given_is = by (is_utf8 v.bytes)
     where
       by : (b : Bool)
-          → definition_in (cond b (at_line v (reading_of v.bytes) >>= said names sources v) (Err (NotUtf8 v.source v.line)))
+          → definition_in (cond b (at_line v (reading_of v.bytes) >>= reading_result names sources v) (Err (NotUtf8 v.source v.line)))
           ≡ option_and_then (definition_given names) (cond b (parts_of (reading_of v.bytes)) None)
       by true = reading_is (reading_of v.bytes)
       by false = refl

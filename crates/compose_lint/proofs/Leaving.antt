@@ -6,7 +6,7 @@ use Rattle.std.specs.Option.{option_map_or}
 use Rattle.std.specs.declared.vec.Vec.{Vec}
 use Rattle.std.specs.declared.alloc.Global.{Global}
 use Rattle.compose_text.specs.Lines.{lines_of}
-use Rattle.compose_diff.specs.Accepted.{Line, Gives, said_from}
+use Rattle.compose_diff.specs.Accepted.{Line, Returns, list_lines_from}
 use Rattle.compose_diff.specs.declared.accepted.AcceptFault.{AcceptFault}
 use Rattle.compose_diff.specs.declared.accepted.AcceptFault.TheVariants.{Stale, BadLine, NoMemory}
 use Rattle.compose_lint.specs.Rows.{Row}
@@ -35,8 +35,8 @@ no_stale lines None n h = cc
 no_stale lines (Some line) n h = cc
 
 -- if it is refused
-pub read_refused : (bytes : List ℕ) (rows : List Row) (fault : AcceptFault) → Gives (Err fault) (accepted_of bytes) → IsLeftBy bytes rows (Err fault)
-read_refused bytes rows (Stale n) is = absurd (no_stale (said_from 1 (lines_of bytes)) (find (λ line. not (is_in_form line)) (said_from 1 (lines_of bytes))) n is)
+pub read_refused : (bytes : List ℕ) (rows : List Row) (fault : AcceptFault) → Returns (Err fault) (accepted_of bytes) → IsLeftBy bytes rows (Err fault)
+read_refused bytes rows (Stale n) is = absurd (no_stale (list_lines_from 1 (lines_of bytes)) (find (λ line. not (is_in_form line)) (list_lines_from 1 (lines_of bytes))) n is)
 read_refused bytes rows (BadLine n) is = is
 read_refused bytes rows NoMemory is = tt
 

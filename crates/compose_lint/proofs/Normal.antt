@@ -20,6 +20,6 @@ module _ (text : List ℕ) (u : IsUtf8 text) where
   from_form : is_normal text ≡ true → IsInForm Nfc (chars text)
   from_form is = encodes_same (nfc (chars text)) (chars text) ((bytes_decides (encode_utf8_all (nfc (chars text))) text).0 is ∙ sym (encodes-chars text u))
 
-  pub as_said : (r : Result Bool AllocError) → IfOk r (λ b. IsTrue b ↔ IsInForm Nfc (chars text)) → IfOk r (λ b. b ≡ is_normal text)
-  as_said (Ok b) h = same_truth b (is_normal text) (λ e. in_form (h.0 e)) (λ e. h.1 (from_form e))
-  as_said (Err e) h = h
+  pub as_in_form : (r : Result Bool AllocError) → IfOk r (λ b. IsTrue b ↔ IsInForm Nfc (chars text)) → IfOk r (λ b. b ≡ is_normal text)
+  as_in_form (Ok b) h = same_truth b (is_normal text) (λ e. in_form (h.0 e)) (λ e. h.1 (from_form e))
+  as_in_form (Err e) h = h

@@ -77,10 +77,10 @@ any_first (suc n) (x ∷ xs) e = by (is_return x) (any_first n xs) e
     by true rest f = f
     by false rest f = rest f
 
-any_rest : (n : ℕ) (xs : List ℕ) → list_any is_return xs ≡ false → list_any is_return (drop n xs) ≡ false
-any_rest zero xs e = e
-any_rest (suc n) [] e = refl
-any_rest (suc n) (x ∷ xs) e = by (is_return x) (any_rest n xs) e
+any_dropped : (n : ℕ) (xs : List ℕ) → list_any is_return xs ≡ false → list_any is_return (drop n xs) ≡ false
+any_dropped zero xs e = e
+any_dropped (suc n) [] e = refl
+any_dropped (suc n) (x ∷ xs) e = by (is_return x) (any_dropped n xs) e
   where
     by : (t : Bool) → (list_any is_return xs ≡ false → list_any is_return (drop n xs) ≡ false) → (t || list_any is_return xs) ≡ false → list_any is_return (drop n xs) ≡ false
     by true rest f = absurd (true≢false f)
@@ -97,15 +97,15 @@ none_there (x ∷ line) h = by (is_return x) refl (none_there line (λ k low hig
     by true e rest = absurd (h 0 (omega arith) (omega arith) e)
     by false e rest = rest
 
-none_behind : (line : List ℕ) (raw : Option (List ℕ)) → list_any is_return line ≡ false → option_map_or (λ raw. list_any is_return (tail line raw)) raw false ≡ false
-none_behind line None none = refl
-none_behind line (Some raw) none =
+none_later : (line : List ℕ) (raw : Option (List ℕ)) → list_any is_return line ≡ false → option_map_or (λ raw. list_any is_return (tail line raw)) raw false ≡ false
+none_later line None none = refl
+none_later line (Some raw) none =
     any_while (λ b. not (b == 35)) (drop (length raw) (drop 2 (drop (head_len line) line)))
-    (any_rest (length raw) (drop 2 (drop (head_len line) line)) (any_rest 2 (drop (head_len line) line) (any_rest (head_len line) line none)))
+    (any_dropped (length raw) (drop 2 (drop (head_len line) line)) (any_dropped 2 (drop (head_len line) line) (any_dropped (head_len line) line none)))
 
 -- a line without one has none outside of its string and its comment
 pub returnless : (line : List ℕ) (p : Written) → list_any is_return line ≡ false → has_return line p ≡ false
-returnless line p none = ap₂ (λ s t. s || t) (any_first (head_len line) line none) (none_behind line p.raw none)
+returnless line p none = ap₂ (λ s t. s || t) (any_first (head_len line) line none) (none_later line p.raw none)
 
 pub no_return : (line : List ℕ) (p : Written) → Nowhere (Passes (is_byte 13) line) 0 (length line) → has_return line p ≡ false
 no_return line p h = returnless line p (none_there line h)

@@ -13,7 +13,7 @@ use Rattle.compose_lex.specs.Line.{Reading, blank, include, production, quoted, 
 use Rattle.compose_lex.specs.Fault.{reading_of}
 use Rattle.compose_lex.specs.declared.LexFault.{LexFault}
 use Rattle.compose_lex.specs.declared.LexFault.TheVariants.{EmptyText, TextTooLong, TextNotUtf8}
-use Rattle.compose_lex.proofs.LineSaid.{reading_said}
+use Rattle.compose_lex.proofs.LineSound.{reading_sound}
 use Rattle.compose_lint.specs.FileLines.{is_spaced, has_spaced_name, has_spaced_name_after, has_return, has_return_in_include, begins_string_or_comment}
 use Rattle.compose_lint.specs.Productions.{Written, Production, parts_of, production_of}
 use Rattle.compose_lint.specs.Readers.{has_digit_name}
@@ -297,4 +297,4 @@ never_skipped line e =
     by few unsigned counted true (Ok blank) is = refl
     by few unsigned counted true (Ok (include name)) is = refl
     by few unsigned counted true (Ok (production events raw name)) is =
-        production_kept line events raw name few unsigned counted (reading_said line (production events raw name) is).said
+        production_kept line events raw name few unsigned counted (reading_sound line (production events raw name) is).content

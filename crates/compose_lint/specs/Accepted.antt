@@ -9,7 +9,7 @@ use Rattle.std.specs.declared.alloc.Global.{Global}
 use Rattle.compose_text.specs.Bytes.{is_blank}
 use Rattle.compose_text.specs.Lines.{lines_of}
 use Rattle.compose_shown.specs.Shown.{shown_character}
-use Rattle.compose_diff.specs.Accepted.{Line, said_from, begins_with}
+use Rattle.compose_diff.specs.Accepted.{Line, list_lines_from, begins_with}
 use Rattle.compose_diff.specs.declared.accepted.AcceptFault.{AcceptFault}
 use Rattle.compose_diff.specs.declared.accepted.AcceptFault.TheVariants.{Stale, BadLine, NoMemory}
 use Rattle.compose_lint.specs.Rows.{Row}
@@ -65,7 +65,7 @@ is_in_form line = begins_as_one file_words line.text || (begins_as_one text_word
 -- the lines of a list, or the first of them that is not in the form
 abbrev pub accepted_of : List ℕ → Result (List Line) AcceptFault
 accepted_of bytes =
-    let lines = said_from 1 (lines_of bytes) in
+    let lines = list_lines_from 1 (lines_of bytes) in
     option_map_or (λ (line : Line). Err (BadLine line.number)) (find (λ line. not (is_in_form line)) lines) (Ok lines)
 
 -- ---- what the lines accept
@@ -88,9 +88,9 @@ left_of lines rows = option_map_or (λ (line : Line). Err (Stale line.number)) (
 
 -- this is the result, unless memory runs out
 abbrev pub Leaves : Result (Vec Row Global) AcceptFault → Result (List Row) AcceptFault → Type 0
-Leaves (Ok left) said = said ≡ Ok left.items
-Leaves (Err NoMemory) said = Unit {0}
-Leaves (Err fault) said = said ≡ Err fault
+Leaves (Ok left) reading_result = reading_result ≡ Ok left.items
+Leaves (Err NoMemory) reading_result = Unit {0}
+Leaves (Err fault) reading_result = reading_result ≡ Err fault
 
 -- the same by the bytes of a list; a line that is not in the form is refused before one that
 -- accepts nothing

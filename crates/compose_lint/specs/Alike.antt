@@ -13,19 +13,19 @@ abbrev pub are_alike : List ℕ → List ℕ → Bool
 are_alike a b = bytes_eq (normal_form a) (normal_form b) && not (bytes_eq a b)
 
 -- the line produces another text with the same normal form C
-abbrev pub gives_alike : List ℕ → LintLine → Bool
-gives_alike text l = option_map_or (λ d. are_alike text d.text) l.definition false
+abbrev pub has_alike : List ℕ → LintLine → Bool
+has_alike text l = option_map_or (λ d. are_alike text d.text) l.definition false
 
 -- the place of the first of these lines that produces another text with the same normal form C
 abbrev pub alike_place : List LintLine → List ℕ → Option LinePlace
-alike_place lines text = option_map place_of (find (gives_alike text) lines)
+alike_place lines text = option_map place_of (find (has_alike text) lines)
 
 -- ---- definitions for private functions
 
 -- the line produces a text that is not in normal form C, and this is its normal form
-abbrev pub gives_form : List ℕ → LintLine → Bool
-gives_form form l = option_map_or (λ d. not (is_normal d.text) && bytes_eq (normal_form d.text) form) l.definition false
+abbrev pub has_own_form : List ℕ → LintLine → Bool
+has_own_form form l = option_map_or (λ d. not (is_normal d.text) && bytes_eq (normal_form d.text) form) l.definition false
 
 -- the place of the first of these lines that does
 abbrev pub form_place : List LintLine → List ℕ → Option LinePlace
-form_place lines form = option_map place_of (find (gives_form form) lines)
+form_place lines form = option_map place_of (find (has_own_form form) lines)

@@ -52,11 +52,11 @@ form_text Json rows left = json_answer rows left
 form_text AcceptList rows left = accept_lines left
 
 -- yes if no finding is left
-abbrev pub Tells : LintForm → List Row → List Row → Answer → Type 0
-Tells form rows left (Yes text) = (left ≡ []) × (string_bytes text ≡ form_text form rows left)
-Tells form rows left (No text) = (left ≢ []) × (string_bytes text ≡ form_text form rows left)
-Tells form rows left (Invalid fault) = ⊥
-Tells form rows left (FreshNotAllowed keysym) = ⊥
+abbrev pub IsLintAnswer : LintForm → List Row → List Row → Answer → Type 0
+IsLintAnswer form rows left (Yes text) = (left ≡ []) × (string_bytes text ≡ form_text form rows left)
+IsLintAnswer form rows left (No text) = (left ≢ []) × (string_bytes text ≡ form_text form rows left)
+IsLintAnswer form rows left (Invalid fault) = ⊥
+IsLintAnswer form rows left (FreshNotAllowed keysym) = ⊥
 
 abbrev pub rows_asked : Asked → KeysymNames → List Row
 rows_asked asked names = rows_in names asked.readers asked.is_all asked.tables
@@ -67,7 +67,7 @@ pub record IsLinted (asked : Asked) (rows : List Row) (answer : Answer) : Type 0
   pub left : List Row
   pub read : accepted_of asked.accepted ≡ Ok lines
   pub leaves : left_of lines rows ≡ Ok left
-  pub tells : Tells asked.form rows left answer
+  pub reports : IsLintAnswer asked.form rows left answer
 
 -- this line is the first that accepts none of these findings
 pub record IsStale (asked : Asked) (rows : List Row) (line : ℕ) : Type 0 where

@@ -5,12 +5,12 @@ use Rattle.compose_lint.specs.Lines.{LintLine}
 use Rattle.compose_lint.specs.Commonest.{Note, has_other}
 
 -- the comment of a line, and the text that the line produces
-abbrev pub commented : LintLine → Option Note
-commented l = option_and_then (λ c. option_map (λ d. record { key = c; value = d.text }) l.definition) l.comment
+abbrev pub comment_note : LintLine → Option Note
+comment_note l = option_and_then (λ c. option_map (λ d. record { key = c; value = d.text }) l.definition) l.comment
 
 -- the comments of these lines, each with the text of its line
 abbrev pub comments_in : List LintLine → List Note
-comments_in lines = flat_map (λ l. option_to_list (commented l)) lines
+comments_in lines = flat_map (λ l. option_to_list (comment_note l)) lines
 
 abbrev pub turned : Note → Note
 turned n = record { key = n.value; value = n.key }
@@ -20,4 +20,4 @@ abbrev pub is_misplaced : List Note → Note → Bool
 is_misplaced notes n = has_other notes n.key n.value && has_other (map turned notes) n.value n.key
 
 abbrev pub has_misplaced_comment : List LintLine → LintLine → Bool
-has_misplaced_comment lines l = option_map_or (is_misplaced (comments_in lines)) (commented l) false
+has_misplaced_comment lines l = option_map_or (is_misplaced (comments_in lines)) (comment_note l) false

@@ -12,8 +12,8 @@ use Rattle.compose_lint.specs.Lines.{LintLine}
 -- ---- the first and the last line of a file
 
 -- the line is a definition or an include
-abbrev pub says_something : List ℕ → Bool
-says_something line = is_some (production_of line) || is_some (raw_include line)
+abbrev pub has_content : List ℕ → Bool
+has_content line = is_some (production_of line) || is_some (raw_include line)
 
 -- the bytes begin with a UTF-8 byte order mark
 abbrev pub has_mark : List ℕ → Bool
@@ -21,7 +21,7 @@ has_mark bytes = starts_with nat_eq bytes (0xef ∷ 0xbb ∷ 0xbf ∷ [])
 
 -- the first line, after a byte order mark: libX11 and libxkbcommon skip it
 abbrev pub is_after_mark : List ℕ → LintLine → Bool
-is_after_mark bytes l = l.line == 1 && has_mark bytes && says_something l.bytes
+is_after_mark bytes l = l.line == 1 && has_mark bytes && has_content l.bytes
 
 -- the bytes end without a newline (code 10)
 abbrev pub is_unended : List ℕ → Bool
@@ -47,7 +47,7 @@ follows_backslash lines l = nat_le 2 l.line && option_map_or (λ m. ends_in_back
 
 -- libX11 joins the line to the comment on the line before
 abbrev pub is_joined : List LintLine → LintLine → Bool
-is_joined lines l = follows_backslash lines l && says_something l.bytes
+is_joined lines l = follows_backslash lines l && has_content l.bytes
 
 -- ---- blanks
 

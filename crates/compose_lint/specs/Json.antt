@@ -5,13 +5,13 @@ use Rattle.std.specs.Fmt.{decimal}
 use Rattle.compose_diff.specs.Json.{json_string}
 use Rattle.compose_lint.specs.Rows.{Row}
 use Rattle.compose_lint.specs.Report.{kind_word, path_of, sentence_of, column_of, reader_word}
-use Rattle.compose_lint.specs.declared.finding.Kind.{Kind}
-use Rattle.compose_lint.specs.declared.finding.Kind.TheVariants.{Overridden, Repeated, Prefix, Alike, Redundant, Reader}
+use Rattle.compose_lint.specs.declared.finding.FindingKind.{FindingKind}
+use Rattle.compose_lint.specs.declared.finding.FindingKind.TheVariants.{Overridden, Repeated, Prefix, Alike, Redundant, Reader}
 use Rattle.compose_lint.specs.declared.finding.LinePlace.{LinePlace}
 use Rattle.compose_lint.specs.declared.reader.Reader.{Reader as ReaderName}
 
 -- the place of the other line that a kind names
-abbrev pub kind_other : ℕ → Kind → Option LinePlace
+abbrev pub kind_other : ℕ → FindingKind → Option LinePlace
 kind_other source (Overridden line) = Some (record { source = source; line = line })
 kind_other source (Repeated line) = Some (record { source = source; line = line })
 kind_other source (Prefix place) = Some place
@@ -31,7 +31,7 @@ json_other paths None = codes ",\"other\":null"
 json_other paths (Some place) = codes ",\"other\":{" ++ (json_place paths place ++ codes "}")
 
 -- the reader that a kind names
-abbrev pub reader_of : Kind → Option ReaderName
+abbrev pub reader_of : FindingKind → Option ReaderName
 reader_of (Reader reader class) = Some reader
 reader_of kind = None
 

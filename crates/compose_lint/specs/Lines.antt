@@ -4,7 +4,7 @@ use Rattle.std.specs.Option.{option_map_or, option_and_then}
 use Rattle.keysym_core.specs.Names.{KeysymNames}
 use Rattle.compose_model.specs.Table.{Definition}
 use Rattle.compose_read.specs.Lines.{Source, Visit, own_lines, source_named, visits}
-use Rattle.compose_read.specs.Read.{line_gives, max_lines}
+use Rattle.compose_read.specs.Read.{line_result, max_lines}
 use Rattle.compose_read.specs.declared.ReadFault.{ReadFault}
 use Rattle.compose_lint.specs.Productions.{Written, comment_of, definition_given, production_of, written_of}
 
@@ -24,7 +24,7 @@ definition_in (Ok definition) = definition
 definition_in (Err fault) = None
 
 abbrev pub lint_line : KeysymNames → List Source → Visit → LintLine
-lint_line names sources v = record { source = v.source; line = v.line; bytes = v.bytes; written = written_of v.bytes; definition = definition_in (line_gives names sources v); comment = comment_of v.bytes }
+lint_line names sources v = record { source = v.source; line = v.line; bytes = v.bytes; written = written_of v.bytes; definition = definition_in (line_result names sources v); comment = comment_of v.bytes }
 
 -- the line by its bytes, for private functions
 abbrev pub line_read : KeysymNames → ℕ → ℕ → List ℕ → LintLine

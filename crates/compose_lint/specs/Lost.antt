@@ -7,7 +7,7 @@ use Rattle.std.specs.Option.{option_map_or}
 use Rattle.std.specs.Result.{result_ok}
 use Rattle.compose_lex.specs.Escape.{text_of}
 use Rattle.compose_read.specs.Lines.{Source, source_lines}
-use Rattle.compose_lint.specs.FileLines.{has_mark, is_unended, says_something, ends_in_string, ends_in_backslash, has_return, has_return_in_include, has_spaced_name}
+use Rattle.compose_lint.specs.FileLines.{has_mark, is_unended, has_content, ends_in_string, ends_in_backslash, has_return, has_return_in_include, has_spaced_name}
 use Rattle.compose_lint.specs.Productions.{Production, Written, production_of}
 use Rattle.compose_lint.specs.Readers.{has_digit_name}
 
@@ -43,7 +43,7 @@ is_skipped line = has_return_in_include line || option_map_or (is_skipped_produc
 -- libX11 or libxkbcommon skips the line; `marked`: a byte order mark precedes it, `cut`: it is the last line and has no
 -- newline, `before`: the line before it
 abbrev pub is_lost : Bool → Bool → List ℕ → List ℕ → Bool
-is_lost marked cut before line = ((marked || ends_in_backslash before) && says_something line) || (cut && ends_in_string line) || is_skipped line
+is_lost marked cut before line = ((marked || ends_in_backslash before) && has_content line) || (cut && ends_in_string line) || is_skipped line
 
 -- the lost lines among these, which are the last ones of a file
 abbrev pub lost_after : Bool → Bool → List ℕ → List (List ℕ) → List (List ℕ)

@@ -44,8 +44,8 @@ abbrev pub head_len : List ℕ → ℕ
 head_len line = unwrap_or (position begins_string_or_comment line) (length line)
 
 -- what follows the string with this raw text
-abbrev pub behind_string : List ℕ → List ℕ → List ℕ
-behind_string line raw = drop (length raw) (drop 2 (drop (head_len line) line))
+abbrev pub after_string : List ℕ → List ℕ → List ℕ
+after_string line raw = drop (length raw) (drop 2 (drop (head_len line) line))
 
 -- the bytes as a text without white space at its ends, if they are UTF-8
 abbrev pub trimmed : List ℕ → Option (List ℕ)
@@ -57,7 +57,7 @@ comment_in bytes = option_and_then (λ i. trimmed (drop 1 (drop i bytes))) (posi
 
 -- the comment after the string of a line with this string and result name
 abbrev pub comment_beside : List ℕ → Option Written → Option (List ℕ)
-comment_beside line written = option_and_then (λ p. option_and_then (λ raw. comment_in (behind_string line raw)) p.raw) written
+comment_beside line written = option_and_then (λ p. option_and_then (λ raw. comment_in (after_string line raw)) p.raw) written
 
 -- the comment of a line with a string
 abbrev pub comment_of : List ℕ → Option (List ℕ)

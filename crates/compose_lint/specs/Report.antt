@@ -4,11 +4,11 @@ use Rattle.std.specs.Fmt.{decimal}
 use Rattle.std.specs.Option.{option_map_or}
 use Rattle.compose_shown.specs.Shown.{shown_text}
 use Rattle.compose_messages.specs.Places.{position_of}
-use Rattle.compose_messages.specs.Messages.{read_said}
+use Rattle.compose_messages.specs.Messages.{read_message_text}
 use Rattle.compose_lint.specs.Rows.{Row}
-use Rattle.compose_lint.specs.declared.finding.Kind.{Kind}
+use Rattle.compose_lint.specs.declared.finding.FindingKind.{FindingKind}
 use Rattle.compose_lint.specs.declared.finding.LinePlace.{LinePlace}
-use Rattle.compose_lint.specs.declared.finding.Kind.TheVariants.{Fault, Overridden, Repeated, Prefix, Keysym, Mark, Form, Alike, Comment, Redundant, Reader}
+use Rattle.compose_lint.specs.declared.finding.FindingKind.TheVariants.{Fault, Overridden, Repeated, Prefix, Keysym, Mark, Form, Alike, Comment, Redundant, Reader}
 use Rattle.compose_lint.specs.declared.reader.Reader.{Reader as ReaderName}
 use Rattle.compose_lint.specs.declared.reader.Reader.TheVariants.{LibX11, Libxkbcommon, Gtk3, Gtk4}
 use Rattle.compose_lint.specs.declared.reader.Class.{Class}
@@ -20,22 +20,22 @@ reader_word Libxkbcommon = codes "libxkbcommon"
 reader_word Gtk3 = codes "gtk3"
 reader_word Gtk4 = codes "gtk4"
 
-abbrev pub class_said : Class → List ℕ
-class_said ByteOrderMark = codes "the line is skipped, as it follows a byte order mark"
-class_said NoNewline = codes "the line is skipped, as no newline follows it"
-class_said Joined = codes "the line is skipped, as the line before it ends in a backslash"
-class_said CarriageReturn = codes "the line is skipped, as it has a carriage return"
-class_said SpacedName = codes "the line is skipped, as a blank stands beside the name of a key"
-class_said ManyKeysyms = codes "the line is skipped, as its sequence has more keysyms than are read"
-class_said NoSymbol = codes "the line is skipped, as its sequence has the keysym 0"
-class_said LongestText = codes "the line is skipped, as its text has 255 bytes"
-class_said Nul = codes "the text is cut, as it has a byte 0"
-class_said WideKeysym = codes "the sequence is never typed, as a keysym of it is above 0xffff"
-class_said DigitName = codes "the line is skipped, as the name of its result begins with a digit"
-class_said NoString = codes "the line is skipped, as it has no string"
-class_said LetterEscape = codes "of the escapes \\n, \\r and \\t the letter is typed"
+abbrev pub class_message : Class → List ℕ
+class_message ByteOrderMark = codes "the line is skipped, as it follows a byte order mark"
+class_message NoNewline = codes "the line is skipped, as no newline follows it"
+class_message Joined = codes "the line is skipped, as the line before it ends in a backslash"
+class_message CarriageReturn = codes "the line is skipped, as it has a carriage return"
+class_message SpacedName = codes "the line is skipped, as a blank stands beside the name of a key"
+class_message ManyKeysyms = codes "the line is skipped, as its sequence has more keysyms than are read"
+class_message NoSymbol = codes "the line is skipped, as its sequence has the keysym 0"
+class_message LongestText = codes "the line is skipped, as its text has 255 bytes"
+class_message Nul = codes "the text is cut, as it has a byte 0"
+class_message WideKeysym = codes "the sequence is never typed, as a keysym of it is above 0xffff"
+class_message DigitName = codes "the line is skipped, as the name of its result begins with a digit"
+class_message NoString = codes "the line is skipped, as it has no string"
+class_message LetterEscape = codes "of the escapes \\n, \\r and \\t the letter is typed"
 
-abbrev pub kind_word : Kind → List ℕ
+abbrev pub kind_word : FindingKind → List ℕ
 kind_word (Fault index) = codes "fault"
 kind_word (Overridden line) = codes "overridden"
 kind_word (Repeated line) = codes "repeated"
@@ -64,18 +64,18 @@ place_sentence paths place sentence = shown_text (path_of paths place.source) ++
 
 -- the message of a fault
 abbrev pub fault_sentence : Row → ℕ → List ℕ
-fault_sentence row index = option_map_or (read_said row.sources) (slice_get row.faults index) []
+fault_sentence row index = option_map_or (read_message_text row.sources) (slice_get row.faults index) []
 
 -- the sentence of a kind that names no other line
-abbrev pub own_sentence : Kind → List ℕ
+abbrev pub own_sentence : FindingKind → List ℕ
 own_sentence Keysym = codes "the keysym after the string has another character"
 own_sentence Mark = codes "the text has one combining mark twice in a row"
 own_sentence Form = codes "the text is not in normal form C"
 own_sentence Comment = codes "the comment stands most often beside another text, and the text beside another comment"
-own_sentence (Reader reader class) = class_said class
+own_sentence (Reader reader class) = class_message class
 own_sentence kind = []
 
-abbrev pub kind_sentence : Row → Kind → List ℕ
+abbrev pub kind_sentence : Row → FindingKind → List ℕ
 kind_sentence row (Fault index) = fault_sentence row index
 kind_sentence row (Overridden line) = line_sentence line (codes " gives the sequence another text, which counts")
 kind_sentence row (Repeated line) = line_sentence line (codes " gives the sequence the same text again")
@@ -93,7 +93,7 @@ abbrev pub fault_column : Row → ℕ → ℕ
 fault_column row index = option_map_or (λ fault. option_map_or (λ at. at.1.column) (position_of row.sources fault) 1) (slice_get row.faults index) 1
 
 -- that of a fault, or 1 if the finding is not a fault
-abbrev pub kind_column : Row → Kind → ℕ
+abbrev pub kind_column : Row → FindingKind → ℕ
 kind_column row (Fault index) = fault_column row index
 kind_column row kind = 1
 

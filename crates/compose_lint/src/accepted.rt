@@ -3,7 +3,7 @@ ghost use Rattle.std.specs.Prelude.{◌≡◌, ◌++◌, ◌==◌, ℕ, List, le
 ghost use Rattle.std.specs.List.{find, list_any};
 ghost use Rattle.std.specs.Option.{option_map};
 ghost use Rattle.indexmap.specs.IndexMap.{get_by};
-ghost use Rattle.compose_diff.specs.Accepted.{Gives, begins_with};
+ghost use Rattle.compose_diff.specs.Accepted.{Returns, begins_with};
 ghost use Rattle.compose_lint.specs.Accepted as words;
 ghost use Rattle.compose_lint.specs.Accepted.{accepted_of, left_of};
 
@@ -34,7 +34,7 @@ impl<'a> Accepted<'a> {
     /// Errors: `BadLine` with the first line that doesn't begin with the word of a kind, a colon
     /// and a blank; `NoMemory` if memory runs out.
     fn read(alloc: Global, bytes: &'a [u8]) -> Result<Accepted<'a>, AcceptFault>
-        ensures { Gives result (accepted_of bytes.now) }
+        ensures { Returns result (accepted_of bytes.now) }
     {
         let lines = list_lines(alloc, bytes)?;
         match first_bad(&lines) {

@@ -56,7 +56,7 @@ fn answer_of(
     rows: &[Row<'_>],
     left: &[Row<'_>],
 ) -> Result<Answer, AllocError>
-    ensures { IfOk result (words.Tells form rows.now left.now) }
+    ensures { IfOk result (words.IsLintAnswer form rows.now left.now) }
 {
     let text = form_text(alloc, form, rows, left)?;
     if left.is_empty() {

@@ -11,12 +11,12 @@ use crate::production::Written;
 pub(crate) fn comment_beside<'a>(line: &'a [u8], written: Option<&Written<'_>>) -> Option<&'a str>
     ensures { option_copied result ≡ words.comment_beside line.now (option_copied written.entry) }
 {
-    comment_in(behind_string(line, written?.raw_text()?))
+    comment_in(after_string(line, written?.raw_text()?))
 }
 
 /// Returns the bytes after the string with this raw text. O(bytes).
-fn behind_string<'a>(line: &'a [u8], raw: &str) -> &'a [u8]
-    ensures { result.now ≡ words.behind_string line.now raw.now }
+fn after_string<'a>(line: &'a [u8], raw: &str) -> &'a [u8]
+    ensures { result.now ≡ words.after_string line.now raw.now }
 {
     behind(behind(behind(line, head_len(line)), 2), raw.len())
 }

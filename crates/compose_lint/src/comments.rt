@@ -12,8 +12,8 @@ use crate::source_lines::SourceLines;
 use std::alloc::{AllocError, Global};
 
 /// Returns the comment of a line and the text that the line produces. O(1).
-fn commented<'a>(line: &'a LintLine<'_>) -> Option<Note<'a>>
-    ensures { result ≡ words.commented line.now }
+fn comment_note<'a>(line: &'a LintLine<'_>) -> Option<Note<'a>>
+    ensures { result ≡ words.comment_note line.now }
 {
     let comment = line.comment()?;
     let definition = line.definition()?;
@@ -50,9 +50,9 @@ fn push_comments<'a>(notes: &mut Vec<Note<'a>>, lines: &'a [LintLine<'_>]) -> Re
 /// Adds the comment of the line with the text of the line, if it has both.
 fn push_commented<'a>(notes: &mut Vec<Note<'a>>, line: &'a LintLine<'_>) -> Result<(), AllocError>
     ensures { OnOk result
-        (notes.new.items ≡ notes.old.items ++ option_to_list (words.commented line.now)) }
+        (notes.new.items ≡ notes.old.items ++ option_to_list (words.comment_note line.now)) }
 {
-    if let Some(note) = commented(line) {
+    if let Some(note) = comment_note(line) {
         notes.push(note)?;
     }
     Ok(())
@@ -89,7 +89,7 @@ pub(crate) fn has_misplaced_comment(
         (get_by (λ p. bytes_eq k.now p.now) by_text.now) }
     ensures { result ≡ words.has_misplaced_comment (all_lines files.now) line.now }
 {
-    match commented(line) {
+    match comment_note(line) {
         Some(note) => {
             has_other(by_comment, note.key(), note.value())
                 && has_other(by_text, note.value(), note.key())

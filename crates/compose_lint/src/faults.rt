@@ -2,7 +2,7 @@
 ghost use Rattle.std.specs.Prelude.{◌≡◌, ◌++◌, position, OnOk};
 ghost use Rattle.compose_lint.specs.Faults as words;
 
-use crate::finding::Kind;
+use crate::finding::FindingKind;
 use crate::lines::LintLine;
 use compose_messages::line_of;
 use compose_read::ReadFault;
@@ -27,7 +27,7 @@ fn fault_in(faults: &[ReadFault], line: &LintLine<'_>) -> Option<usize>
 
 /// Adds the first fault in the line, if there is one. O(faults).
 pub(crate) fn push_fault_kinds(
-    kinds: &mut Vec<Kind>,
+    kinds: &mut Vec<FindingKind>,
     faults: &[ReadFault],
     line: &LintLine<'_>,
 ) -> Result<(), AllocError>
@@ -35,7 +35,7 @@ pub(crate) fn push_fault_kinds(
         (kinds.new.items ≡ kinds.old.items ++ words.fault_kinds faults.now line.now) }
 {
     if let Some(index) = fault_in(faults, line) {
-        kinds.push(Kind::Fault { index })?;
+        kinds.push(FindingKind::Fault { index })?;
     }
     Ok(())
 }

@@ -10,12 +10,12 @@ ghost use Rattle.compose_lint.specs.FileLines as words;
 use crate::lines::LintLine;
 use crate::production::{Written, production_of};
 use arrayvec::ArrayVec;
-use compose_lex::{Said, lex_line_into};
+use compose_lex::{LineContent, lex_line_into};
 use memchr::memchr;
 
 /// Returns whether the line is a definition or an include. O(bytes).
-pub(crate) fn says_something(line: &[u8]) -> bool
-    ensures { result ≡ words.says_something line.now }
+pub(crate) fn has_content(line: &[u8]) -> bool
+    ensures { result ≡ words.has_content line.now }
 {
     production_of(line).is_some() || raw_include(line).is_some()
 }
@@ -29,7 +29,7 @@ fn raw_include(line: &[u8]) -> Option<&str>
     };
     let mut events = ArrayVec::new();
     match lex_line_into(text, &mut events) {
-        Ok(Said::Include(name)) => Some(name),
+        Ok(LineContent::Include(name)) => Some(name),
         _ => None,
     }
 }
@@ -46,7 +46,7 @@ pub(crate) fn has_mark(bytes: &[u8]) -> bool
 pub(crate) fn is_after_mark(bytes: &[u8], line: &LintLine<'_>) -> bool
     ensures { result ≡ words.is_after_mark bytes.now line.now }
 {
-    line.line() == 1 && has_mark(bytes) && says_something(line.bytes())
+    line.line() == 1 && has_mark(bytes) && has_content(line.bytes())
 }
 
 /// Returns whether the bytes don't end in a newline.
@@ -112,7 +112,7 @@ fn follows_backslash(lines: &[LintLine<'_>], line: &LintLine<'_>) -> bool
 pub(crate) fn is_joined(lines: &[LintLine<'_>], line: &LintLine<'_>) -> bool
     ensures { result ≡ words.is_joined lines.now line.now }
 {
-    follows_backslash(lines, line) && says_something(line.bytes())
+    follows_backslash(lines, line) && has_content(line.bytes())
 }
 
 /// Returns whether the byte begins a string or a comment.

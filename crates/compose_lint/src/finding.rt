@@ -12,7 +12,7 @@ pub struct LinePlace {
 
 /// The kind of a finding.
 #[derive(Clone, Copy, Debug, PartialEq, Eq, Drop)]
-pub enum Kind {
+pub enum FindingKind {
     /// The line has a fault, the one with this index.
     Fault { index: usize },
     /// The line with this number of the same file defines the sequence again, with another text.
@@ -45,5 +45,5 @@ pub struct Finding {
     /// The number of the line in the source, from 1.
     pub line: usize,
     /// What is wrong in the line.
-    pub kind: Kind,
+    pub kind: FindingKind,
 }

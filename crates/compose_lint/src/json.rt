@@ -2,7 +2,7 @@
 ghost use Rattle.std.specs.Prelude.{◌≡◌, ◌++◌, map, IfOk, OnOk, string_bytes};
 ghost use Rattle.compose_lint.specs.Json as words;
 
-use crate::finding::{Kind, LinePlace};
+use crate::finding::{FindingKind, LinePlace};
 use crate::reader::Reader;
 use crate::report::{column_of, kind_word, path_of, push_sentence, reader_word};
 use crate::row::Row;
@@ -96,8 +96,12 @@ fn other_of(row: &Row<'_>) -> Option<LinePlace>
 {
     let source = row.finding.source;
     match row.finding.kind {
-        Kind::Overridden { line } | Kind::Repeated { line } => Some(LinePlace { source, line }),
-        Kind::Prefix(place) | Kind::Alike(place) | Kind::Redundant(place) => Some(place),
+        FindingKind::Overridden { line } | FindingKind::Repeated { line } => Some(LinePlace {
+            source,
+            line,
+        }),
+        FindingKind::Prefix(place) | FindingKind::Alike(place) | FindingKind::Redundant(place) =>
+            Some(place),
         _ => None,
     }
 }
@@ -117,11 +121,11 @@ fn push_other(text: &mut String, paths: &[&str], other: Option<LinePlace>) -> Re
 }
 
 /// Returns the reader that a kind names, if there is one.
-fn reader_of(kind: Kind) -> Option<Reader>
+fn reader_of(kind: FindingKind) -> Option<Reader>
     ensures { result ≡ words.reader_of kind }
 {
     match kind {
-        Kind::Reader(reader, _) => Some(reader),
+        FindingKind::Reader(reader, _) => Some(reader),
         _ => None,
     }
 }

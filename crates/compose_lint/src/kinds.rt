@@ -25,7 +25,7 @@ use crate::file_lines::{
     has_return, has_return_in_include, has_spaced_name, is_after_mark, is_joined,
     is_without_newline,
 };
-use crate::finding::{Finding, Kind};
+use crate::finding::{Finding, FindingKind};
 use crate::lines::LintLine;
 use crate::longer::LongerPlaces;
 use crate::production::Written;
@@ -37,7 +37,7 @@ use keysym_core::{Keysym, Names};
 use std::alloc::{AllocError, Global};
 
 /// Adds this kind if `is_so` is true.
-fn push_when(kinds: &mut Vec<Kind>, is_so: bool, kind: Kind) -> Result<(), AllocError>
+fn push_when(kinds: &mut Vec<FindingKind>, is_so: bool, kind: FindingKind) -> Result<(), AllocError>
     ensures { OnOk result (kinds.new.items ≡ kinds.old.items ++ words.when is_so kind) }
 {
     if is_so {
@@ -47,8 +47,8 @@ fn push_when(kinds: &mut Vec<Kind>, is_so: bool, kind: Kind) -> Result<(), Alloc
 }
 
 /// Returns whether the line has a definition with this text.
-fn gives_text(text: &str, line: &LintLine<'_>) -> bool
-    ensures { result ≡ words.gives_text text.now line.now }
+fn has_own_text(text: &str, line: &LintLine<'_>) -> bool
+    ensures { result ≡ words.has_own_text text.now line.now }
 {
     match line.definition() {
         Some(definition) => text == definition.text(),
@@ -58,7 +58,7 @@ fn gives_text(text: &str, line: &LintLine<'_>) -> bool
 
 /// Adds `Overridden` or `Repeated` if a later line of the file defines the sequence again.
 fn push_defined_again(
-    kinds: &mut Vec<Kind>,
+    kinds: &mut Vec<FindingKind>,
     lines: &[LintLine<'_>],
     last: &LastLines<'_>,
     line: &LintLine<'_>,
@@ -93,7 +93,7 @@ fn counting_line<'b, 'a>(
 
 /// Adds `Overridden` or `Repeated` if the line that counts is a later one.
 fn push_beside(
-    kinds: &mut Vec<Kind>,
+    kinds: &mut Vec<FindingKind>,
     line: &LintLine<'_>,
     definition: &LineDefinition,
     counting: &LintLine<'_>,
@@ -106,10 +106,10 @@ fn push_beside(
         return Ok(());
     }
     let line = counting.line();
-    if gives_text(definition.text(), counting) {
-        kinds.push(Kind::Repeated { line })?;
+    if has_own_text(definition.text(), counting) {
+        kinds.push(FindingKind::Repeated { line })?;
     } else {
-        kinds.push(Kind::Overridden { line })?;
+        kinds.push(FindingKind::Overridden { line })?;
     }
     Ok(())
 }
@@ -117,7 +117,7 @@ fn push_beside(
 /// Adds the findings in the text alone.
 fn push_text_kinds(
     names: &Names,
-    kinds: &mut Vec<Kind>,
+    kinds: &mut Vec<FindingKind>,
     written: &Written<'_>,
     definition: &LineDefinition,
 ) -> Result<(), AllocError>
@@ -126,13 +126,13 @@ fn push_text_kinds(
         ≡ kinds.old.items ++ words.text_kinds names.now written.now definition.now) }
 {
     let is_other = has_other_character(names, written, definition);
-    push_when(kinds, is_other, Kind::Keysym)?;
-    push_when(kinds, repeats_mark(definition.text()), Kind::Mark)
+    push_when(kinds, is_other, FindingKind::Keysym)?;
+    push_when(kinds, repeats_mark(definition.text()), FindingKind::Mark)
 }
 
 /// Adds the findings about libX11.
 fn push_libx11_kinds(
-    kinds: &mut Vec<Kind>,
+    kinds: &mut Vec<FindingKind>,
     readers: Readers,
     definition: &LineDefinition,
 ) -> Result<(), AllocError>
@@ -141,16 +141,16 @@ fn push_libx11_kinds(
 {
     let reader = Reader::LibX11;
     let many = readers.libx11 && has_ten_keysyms(definition);
-    push_when(kinds, many, Kind::Reader(reader, Class::ManyKeysyms))?;
+    push_when(kinds, many, FindingKind::Reader(reader, Class::ManyKeysyms))?;
     let none = readers.libx11 && has_no_symbol(definition);
-    push_when(kinds, none, Kind::Reader(reader, Class::NoSymbol))?;
+    push_when(kinds, none, FindingKind::Reader(reader, Class::NoSymbol))?;
     let nul = readers.libx11 && has_nul(definition);
-    push_when(kinds, nul, Kind::Reader(reader, Class::Nul))
+    push_when(kinds, nul, FindingKind::Reader(reader, Class::Nul))
 }
 
 /// Adds the findings about libxkbcommon.
 fn push_libxkbcommon_kinds(
-    kinds: &mut Vec<Kind>,
+    kinds: &mut Vec<FindingKind>,
     readers: Readers,
     written: &Written<'_>,
     definition: &LineDefinition,
@@ -162,22 +162,26 @@ fn push_libxkbcommon_kinds(
 {
     let reader = Reader::Libxkbcommon;
     let many = readers.libxkbcommon && has_eleven_keysyms(definition);
-    push_when(kinds, many, Kind::Reader(reader, Class::ManyKeysyms))?;
+    push_when(kinds, many, FindingKind::Reader(reader, Class::ManyKeysyms))?;
     let none = readers.libxkbcommon && has_no_symbol(definition);
-    push_when(kinds, none, Kind::Reader(reader, Class::NoSymbol))?;
+    push_when(kinds, none, FindingKind::Reader(reader, Class::NoSymbol))?;
     let long = readers.libxkbcommon && has_longest_text(definition);
-    push_when(kinds, long, Kind::Reader(reader, Class::LongestText))?;
+    push_when(kinds, long, FindingKind::Reader(reader, Class::LongestText))?;
     let nul = readers.libxkbcommon && has_nul(definition);
-    push_when(kinds, nul, Kind::Reader(reader, Class::Nul))?;
+    push_when(kinds, nul, FindingKind::Reader(reader, Class::Nul))?;
     let digit = readers.libxkbcommon && has_digit_name(written);
-    push_when(kinds, digit, Kind::Reader(reader, Class::DigitName))?;
+    push_when(kinds, digit, FindingKind::Reader(reader, Class::DigitName))?;
     let letter = readers.libxkbcommon && has_letter_escape(written);
-    push_when(kinds, letter, Kind::Reader(reader, Class::LetterEscape))
+    push_when(
+        kinds,
+        letter,
+        FindingKind::Reader(reader, Class::LetterEscape),
+    )
 }
 
 /// Adds the findings about GTK.
 fn push_gtk_kinds(
-    kinds: &mut Vec<Kind>,
+    kinds: &mut Vec<FindingKind>,
     readers: Readers,
     written: &Written<'_>,
     definition: &LineDefinition,
@@ -190,20 +194,24 @@ fn push_gtk_kinds(
     push_when(
         kinds,
         readers.gtk3 && none,
-        Kind::Reader(Reader::Gtk3, Class::NoString),
+        FindingKind::Reader(Reader::Gtk3, Class::NoString),
     )?;
     let wide = readers.gtk4 && has_wide_keysym(definition);
-    push_when(kinds, wide, Kind::Reader(Reader::Gtk4, Class::WideKeysym))?;
+    push_when(
+        kinds,
+        wide,
+        FindingKind::Reader(Reader::Gtk4, Class::WideKeysym),
+    )?;
     push_when(
         kinds,
         readers.gtk4 && none,
-        Kind::Reader(Reader::Gtk4, Class::NoString),
+        FindingKind::Reader(Reader::Gtk4, Class::NoString),
     )
 }
 
 /// Adds the findings of other readers about the form of the file.
 fn push_file_kinds(
-    kinds: &mut Vec<Kind>,
+    kinds: &mut Vec<FindingKind>,
     readers: Readers,
     bytes: &[u8],
     lines: &[LintLine<'_>],
@@ -218,29 +226,37 @@ fn push_file_kinds(
     push_when(
         kinds,
         readers.libx11 && marked,
-        Kind::Reader(Reader::LibX11, class),
+        FindingKind::Reader(Reader::LibX11, class),
     )?;
     let is_lost = readers.libxkbcommon && marked;
-    push_when(kinds, is_lost, Kind::Reader(Reader::Libxkbcommon, class))?;
+    push_when(
+        kinds,
+        is_lost,
+        FindingKind::Reader(Reader::Libxkbcommon, class),
+    )?;
     let is_last = readers.libxkbcommon && is_without_newline(bytes, lines.len(), line);
     push_when(
         kinds,
         is_last,
-        Kind::Reader(Reader::Libxkbcommon, Class::NoNewline),
+        FindingKind::Reader(Reader::Libxkbcommon, Class::NoNewline),
     )?;
     let joined = readers.libx11 && is_joined(lines, line);
-    push_when(kinds, joined, Kind::Reader(Reader::LibX11, Class::Joined))?;
+    push_when(
+        kinds,
+        joined,
+        FindingKind::Reader(Reader::LibX11, Class::Joined),
+    )?;
     let returned = readers.libx11 && has_return_in_include(line.bytes());
     push_when(
         kinds,
         returned,
-        Kind::Reader(Reader::LibX11, Class::CarriageReturn),
+        FindingKind::Reader(Reader::LibX11, Class::CarriageReturn),
     )
 }
 
 /// Adds the findings of other readers about blanks in a production.
 fn push_blank_kinds(
-    kinds: &mut Vec<Kind>,
+    kinds: &mut Vec<FindingKind>,
     readers: Readers,
     line: &[u8],
     written: &Written<'_>,
@@ -253,13 +269,13 @@ fn push_blank_kinds(
     push_when(
         kinds,
         returned,
-        Kind::Reader(Reader::LibX11, Class::CarriageReturn),
+        FindingKind::Reader(Reader::LibX11, Class::CarriageReturn),
     )?;
     let spaced = readers.libxkbcommon && has_spaced_name(line);
     push_when(
         kinds,
         spaced,
-        Kind::Reader(Reader::Libxkbcommon, Class::SpacedName),
+        FindingKind::Reader(Reader::Libxkbcommon, Class::SpacedName),
     )
 }
 
@@ -275,7 +291,7 @@ pub(crate) struct LintFile<'b, 'a> {
 
 /// Adds the findings in a line of the file with this definition, made from `written`.
 fn push_kinds_of(
-    kinds: &mut Vec<Kind>,
+    kinds: &mut Vec<FindingKind>,
     file: LintFile<'_, '_>,
     last: &LastLines<'_>,
     line: &LintLine<'_>,
@@ -301,7 +317,7 @@ fn push_kinds_of(
 
 /// Adds the findings in the definition of a line of the file, if it has one.
 fn push_kinds_if(
-    kinds: &mut Vec<Kind>,
+    kinds: &mut Vec<FindingKind>,
     file: LintFile<'_, '_>,
     last: &LastLines<'_>,
     line: &LintLine<'_>,
@@ -329,7 +345,7 @@ pub(crate) fn own_kinds(
     file: LintFile<'_, '_>,
     last: &LastLines<'_>,
     line: &LintLine<'_>,
-) -> Result<Vec<Kind>, AllocError>
+) -> Result<Vec<FindingKind>, AllocError>
     requires { (q : Bor (List ℕ))
         → option_and_then (slice_get file.lines.now) (get_by (λ k. bytes_eq q.now k.now) last.now)
         ≡ last_defining file.lines.now q.now }
@@ -349,7 +365,7 @@ pub(crate) fn own_kinds(
 fn push_kinds(
     findings: &mut Vec<Finding>,
     line: &LintLine<'_>,
-    kinds: &[Kind],
+    kinds: &[FindingKind],
 ) -> Result<(), AllocError>
     ensures { OnOk result
         (findings.new.items
@@ -372,7 +388,7 @@ fn push_kinds(
 /// any file produces another text with this normal form C.
 fn push_form_kinds(
     alloc: Global,
-    kinds: &mut Vec<Kind>,
+    kinds: &mut Vec<FindingKind>,
     files: &[SourceLines<'_>],
     forms: &FormPlaces,
     line: &LintLine<'_>,
@@ -390,7 +406,7 @@ fn push_form_kinds(
 /// Does the work of `push_form_kinds` for a text.
 fn push_form_of(
     alloc: Global,
-    kinds: &mut Vec<Kind>,
+    kinds: &mut Vec<FindingKind>,
     _files: &[SourceLines<'_>],
     forms: &FormPlaces,
     text: &str,
@@ -400,9 +416,9 @@ fn push_form_of(
         (kinds.new.items ≡ kinds.old.items ++ words.form_of (all_lines _files.now) text.now) }
 {
     if !is_normal(alloc, text)? {
-        kinds.push(Kind::Form)?;
+        kinds.push(FindingKind::Form)?;
     } else if let Some(place) = forms.get(text) {
-        kinds.push(Kind::Alike(*place))?;
+        kinds.push(FindingKind::Alike(*place))?;
     }
     Ok(())
 }
@@ -410,7 +426,7 @@ fn push_form_of(
 /// Adds `Prefix` if a line of any file defines a longer sequence that begins with the one of the
 /// line.
 fn push_prefix_kinds(
-    kinds: &mut Vec<Kind>,
+    kinds: &mut Vec<FindingKind>,
     files: &[SourceLines<'_>],
     longer: &LongerPlaces<'_>,
     line: &LintLine<'_>,
@@ -422,7 +438,7 @@ fn push_prefix_kinds(
 {
     if let Some(definition) = line.definition() {
         if let Some(place) = longer.get(definition.sequence()) {
-            kinds.push(Kind::Prefix(*place))?;
+            kinds.push(FindingKind::Prefix(*place))?;
         }
     }
     Ok(())
@@ -430,7 +446,7 @@ fn push_prefix_kinds(
 
 /// Adds `Redundant` if the included files define the sequence of the line with the same text.
 fn push_redundant_kinds(
-    kinds: &mut Vec<Kind>,
+    kinds: &mut Vec<FindingKind>,
     included: &[LintLine<'_>],
     last: &LastLines<'_>,
     line: &LintLine<'_>,
@@ -452,15 +468,15 @@ fn push_redundant_kinds(
 
 /// Adds `Redundant` if this line of an included file has the same text.
 fn push_again(
-    kinds: &mut Vec<Kind>,
+    kinds: &mut Vec<FindingKind>,
     definition: &LineDefinition,
     counting: &LintLine<'_>,
 ) -> Result<(), AllocError>
     ensures { OnOk result
         (kinds.new.items ≡ kinds.old.items ++ words.again definition.now counting.now) }
 {
-    let is_same = gives_text(definition.text(), counting);
-    push_when(kinds, is_same, Kind::Redundant(counting.place()))
+    let is_same = has_own_text(definition.text(), counting);
+    push_when(kinds, is_same, FindingKind::Redundant(counting.place()))
 }
 
 /// What the lines of all files contribute to the findings in a line: the places of texts that look
@@ -515,7 +531,7 @@ pub(crate) fn push_findings(
         push_form_kinds(alloc, &mut kinds, all.files, all.forms, line)?;
         push_prefix_kinds(&mut kinds, all.files, all.longer, line)?;
         let is_misplaced = has_misplaced_comment(all.files, all.by_comment, all.by_text, line);
-        push_when(&mut kinds, is_misplaced, Kind::Comment)?;
+        push_when(&mut kinds, is_misplaced, FindingKind::Comment)?;
         push_redundant_kinds(&mut kinds, included, &last_included, line)?;
         push_kinds(findings, line, &kinds)?;
     }

@@ -38,7 +38,7 @@ mod texts;
 
 pub use answer::lint_tables;
 pub use asking::{LintFault, LintForm, LintInput, LintTable};
-pub use finding::{Finding, Kind, LinePlace};
+pub use finding::{Finding, FindingKind, LinePlace};
 pub use lint::find_findings;
 pub use lost::lost_count;
 pub use reader::{Class, Reader, Readers};

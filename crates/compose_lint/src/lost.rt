@@ -6,8 +6,8 @@ ghost use Rattle.compose_lint.specs.Lost as words;
 use crate::classes::has_digit_name;
 use crate::definition::string_text;
 use crate::file_lines::{
-    ends_in_backslash, ends_in_string, has_mark, has_return, has_return_in_include,
-    has_spaced_name, is_unended, says_something,
+    ends_in_backslash, ends_in_string, has_content, has_mark, has_return, has_return_in_include,
+    has_spaced_name, is_unended,
 };
 use crate::lines::without_mark;
 use crate::production::{Production, Written, production_of};
@@ -92,7 +92,7 @@ fn is_lost(
     ensures { IfOk result
         (λ is. is ≡ words.is_lost marked cut before.now line.now) }
 {
-    if (marked || ends_in_backslash(before)) && says_something(line) {
+    if (marked || ends_in_backslash(before)) && has_content(line) {
         return Ok(true);
     }
     if cut && ends_in_string(line) {

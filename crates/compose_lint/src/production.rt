@@ -3,7 +3,7 @@ ghost use Rattle.std.specs.Prelude.{◌≡◌};
 ghost use Rattle.compose_lint.specs.Productions.{production_of};
 
 use arrayvec::ArrayVec;
-use compose_lex::{Said, lex_line_into};
+use compose_lex::{LineContent, lex_line_into};
 use std::marker::Model;
 
 /// The right-hand side of a production: what is between the quotes of its string, and the name of
@@ -73,7 +73,7 @@ pub(crate) fn production_of(line: &[u8]) -> Option<Production<'_>>
     let mut events = ArrayVec::new();
     match lex_line_into(text, &mut events) {
         Ok(
-            Said::Production {
+            LineContent::Production {
                 raw_text,
                 result_name,
             },

@@ -2,7 +2,7 @@
 ghost use Rattle.std.specs.Prelude.{◌≡◌, ◌++◌, map, IfOk, OnOk, string_bytes};
 ghost use Rattle.compose_lint.specs.Report as words;
 
-use crate::finding::{Kind, LinePlace};
+use crate::finding::{FindingKind, LinePlace};
 use crate::reader::{Class, Reader};
 use crate::row::Row;
 use compose_messages::{fault_position, read_message};
@@ -24,7 +24,7 @@ pub(crate) fn reader_word(reader: Reader) -> &'static str
 
 /// Returns the sentence about a class: what a reader does with its lines.
 fn class_sentence(class: Class) -> &'static str
-    ensures { result.now ≡ words.class_said class }
+    ensures { result.now ≡ words.class_message class }
 {
     match class {
         Class::ByteOrderMark => "the line is skipped, as it follows a byte order mark",
@@ -46,20 +46,20 @@ fn class_sentence(class: Class) -> &'static str
 }
 
 /// Returns the word of a kind.
-pub(crate) fn kind_word(kind: Kind) -> &'static str
+pub(crate) fn kind_word(kind: FindingKind) -> &'static str
     ensures { result.now ≡ words.kind_word kind }
 {
     match kind {
-        Kind::Fault { .. } => "fault",
-        Kind::Overridden { .. } => "overridden",
-        Kind::Repeated { .. } => "repeated",
-        Kind::Prefix(_) => "prefix",
-        Kind::Keysym => "keysym",
-        Kind::Mark => "mark",
-        Kind::Form | Kind::Alike(_) => "form",
-        Kind::Comment => "comment",
-        Kind::Redundant(_) => "redundant",
-        Kind::Reader(reader, _) => reader_word(reader),
+        FindingKind::Fault { .. } => "fault",
+        FindingKind::Overridden { .. } => "overridden",
+        FindingKind::Repeated { .. } => "repeated",
+        FindingKind::Prefix(_) => "prefix",
+        FindingKind::Keysym => "keysym",
+        FindingKind::Mark => "mark",
+        FindingKind::Form | FindingKind::Alike(_) => "form",
+        FindingKind::Comment => "comment",
+        FindingKind::Redundant(_) => "redundant",
+        FindingKind::Reader(reader, _) => reader_word(reader),
     }
 }
 
@@ -79,26 +79,26 @@ pub(crate) fn push_sentence(text: &mut String, row: &Row<'_>) -> Result<(), Allo
         (string_bytes text.new ≡ string_bytes text.old ++ words.sentence_of row.now) }
 {
     match row.finding.kind {
-        Kind::Fault { index } => push_fault_sentence(text, row, index),
-        Kind::Overridden { line } => {
+        FindingKind::Fault { index } => push_fault_sentence(text, row, index),
+        FindingKind::Overridden { line } => {
             push_line_sentence(text, line, " gives the sequence another text, which counts")
         }
-        Kind::Repeated { line } => {
+        FindingKind::Repeated { line } => {
             push_line_sentence(text, line, " gives the sequence the same text again")
         }
-        Kind::Prefix(place) => push_place_sentence(
+        FindingKind::Prefix(place) => push_place_sentence(
             text,
             row.paths,
             place,
             " defines a longer sequence that begins with this one, and the longer one is typed",
         ),
-        Kind::Alike(place) => push_place_sentence(
+        FindingKind::Alike(place) => push_place_sentence(
             text,
             row.paths,
             place,
             " gives another text that looks like this one, and is not in normal form C",
         ),
-        Kind::Redundant(place) => push_place_sentence(
+        FindingKind::Redundant(place) => push_place_sentence(
             text,
             row.paths,
             place,
@@ -109,17 +109,17 @@ pub(crate) fn push_sentence(text: &mut String, row: &Row<'_>) -> Result<(), Allo
 }
 
 /// Returns the sentence of a kind that names no other line.
-fn own_sentence(kind: Kind) -> &'static str
+fn own_sentence(kind: FindingKind) -> &'static str
     ensures { result.now ≡ words.own_sentence kind }
 {
     match kind {
-        Kind::Keysym => "the keysym after the string has another character",
-        Kind::Mark => "the text has one combining mark twice in a row",
-        Kind::Form => "the text is not in normal form C",
-        Kind::Comment => {
+        FindingKind::Keysym => "the keysym after the string has another character",
+        FindingKind::Mark => "the text has one combining mark twice in a row",
+        FindingKind::Form => "the text is not in normal form C",
+        FindingKind::Comment => {
             "the comment stands most often beside another text, and the text beside another comment"
         }
-        Kind::Reader(_, class) => class_sentence(class),
+        FindingKind::Reader(_, class) => class_sentence(class),
         _ => "",
     }
 }
@@ -171,7 +171,7 @@ pub(crate) fn column_of(row: &Row<'_>) -> usize
     ensures { result ≡ words.column_of row.now }
 {
     match row.finding.kind {
-        Kind::Fault { index } => fault_column(row, index),
+        FindingKind::Fault { index } => fault_column(row, index),
         _ => 1,
     }
 }

@@ -23,7 +23,7 @@ use Rattle.compose_lex.specs.Escape.{quote, quote_inside, quote_byte, octal_esca
 use Rattle.compose_lex.specs.Fault.{reading_of}
 use Rattle.compose_lex.proofs.TextRead.{quote_again}
 use Rattle.compose_read.specs.Lines.{Source, Visit, included, included_by, source_named, numbered, own_lines, visits, visits_below, without_mark}
-use Rattle.compose_read.specs.Read.{at_line, event_keysym, sequence_of, string_text, result_text, definition_of, said, line_gives, with_room, line_behind, read_on, definitions_of, max_lines, max_definitions}
+use Rattle.compose_read.specs.Read.{at_line, event_keysym, sequence_of, string_text, result_text, definition_of, reading_result, line_result, with_room, line_after, read_on, definitions_of, max_lines, max_definitions}
 use Rattle.compose_read.specs.Settle.{IsSettled, row, in_order}
 use Rattle.compose_read.specs.declared.ReadFault.{ReadFault}
 use Rattle.compose_read.specs.declared.ReadFault.TheVariants as faults
@@ -37,7 +37,7 @@ use Rattle.compose_listing.specs.Line as printed
 use Rattle.compose_listing.specs.Held.{is_writable}
 use Rattle.compose_listing.specs.Listing.{line_of, sequence_line, listing}
 use Rattle.compose_listing.specs.declared.form.ListForm.TheVariants.{Lines}
-use Rattle.compose_listing.proofs.Said.{IsNamed, counts_named, is_read}
+use Rattle.compose_listing.proofs.NamedLines.{IsNamed, counts_named, is_read}
 
 -- ---- no newline but the last byte
 
@@ -183,11 +183,11 @@ module _ (names : KeysymNames) (sources : List Source) (paths : List (List ℕ))
     abbrev made : List ℕ → Option (List ℕ) → Result Definition ReadFault
     made sequence string = Ok (record { sequence = sequence; text = option_map_or (λ x. x) string [] })
 
-    given : (v : Visit) → v.bytes ≡ words s → is_utf8 (words s) ≡ true → line_gives names sources v ≡ Ok (Some (row table s))
+    given : (v : Visit) → v.bytes ≡ words s → is_utf8 (words s) ≡ true → line_result names sources v ≡ Ok (Some (row table s))
     given v b u =
-        ap (λ bs. cond (is_utf8 bs) (at_line v (reading_of bs) >>= said names sources v) (Err (faults.NotUtf8 v.source v.line))) b
-        ∙ ap (λ t. cond t (at_line v (reading_of (words s)) >>= said names sources v) (Err (faults.NotUtf8 v.source v.line))) u
-        ∙ ap (λ r. at_line v r >>= said names sources v) read
+        ap (λ bs. cond (is_utf8 bs) (at_line v (reading_of bs) >>= reading_result names sources v) (Err (faults.NotUtf8 v.source v.line))) b
+        ∙ ap (λ t. cond t (at_line v (reading_of (words s)) >>= reading_result names sources v) (Err (faults.NotUtf8 v.source v.line))) u
+        ∙ ap (λ r. at_line v r >>= reading_result names sources v) read
         ∙ ap (λ q. (q >>= (λ sequence. string_text v (Some (quote_inside (text_for s))) >>= made sequence)) >>= found)
         (sequence_given names v 0 here.line.keys s (counts_named names s lines here.line here.counts).sequence here.fed)
         ∙ ap (λ t. ((at_line v t >>= (λ x. let r : Result (Option (List ℕ)) ReadFault = Ok (Some x) in r)) >>= made s) >>= found) text_read
@@ -240,7 +240,7 @@ module _ (names : KeysymNames) (sources : List Source) (paths : List (List ℕ))
       let d = row table x in
       let vs = numbered 0 0 (1 + n) (map words xs) in
       let gives = given x (All-head IsListable x xs all) v refl (All-head (λ s. is_utf8 (words s) ≡ true) x xs texts) in
-      ap (λ b. (let r : Result (Option Definition) ReadFault = cond b (Err (faults.TooManyLines 0 n)) (line_gives names sources v >>= with_room v j) in r) >>= on i j vs) (lt-leb max_lines i (omega arith))
+      ap (λ b. (let r : Result (Option Definition) ReadFault = cond b (Err (faults.TooManyLines 0 n)) (line_result names sources v >>= with_room v j) in r) >>= on i j vs) (lt-leb max_lines i (omega arith))
       ∙ ap (λ r. (r >>= with_room v j) >>= on i j vs) gives
       ∙ ap (λ b. (let r : Result (Option Definition) ReadFault = cond b (Err (faults.TooManyDefinitions 0 n)) (Ok (Some d)) in r) >>= on i j vs) (lt-leb max_definitions j (omega arith))
       ∙ ap (λ r. r >>= (λ table. let q : Result (List Definition) ReadFault = Ok (d ∷ table) in q))

@@ -3,6 +3,6 @@ pub mod Ordered
 pub mod Keys
 pub mod Parts
 pub mod Followed
-pub mod Said
+pub mod NamedLines
 pub mod Again
 pub mod Table

@@ -13,8 +13,8 @@ use Rattle.compose_answer.specs.declared.refusal.Refusal.TheVariants as refusals
 use Rattle.compose_tool.proofs.Steps.{IsRead}
 use Rattle.compose_listing.specs.Answers.{HowParts, given_repertoire, how_parts}
 
-is_read : {A : Type 0} (said : Result A NoAnswer) (x : A) → IsRead said x → said ≡ Ok x
-is_read said x h = h.1 ∙ ap (λ a. Ok a) h.2
+is_read : {A : Type 0} (expected : Result A NoAnswer) (x : A) → IsRead expected x → expected ≡ Ok x
+is_read expected x h = h.1 ∙ ap (λ a. Ok a) h.2
 
 -- a refusal of one step is the refusal of the whole
 step_refused : {A B : Type 0} (refusal : Refusal) (r : Result A NoAnswer) (f : A → Result B NoAnswer) → IsRefused refusal r → IsRefused refusal (r >>= f)

@@ -24,7 +24,7 @@ use Rattle.compose_read.specs.Settle.{IsSettled, row, in_order, settled, overlap
 use Rattle.compose_read.specs.declared.ReadFault.{ReadFault}
 use Rattle.compose_read.specs.declared.ReadFault.TheVariants as faults
 use Rattle.compose_read.proofs.TextLines.{text_lines}
-use Rattle.compose_tree.specs.TableGives.{NoTable, bounded, settled_by, table_of, too_many_nodes}
+use Rattle.compose_tree.specs.TableReturns.{NoTable, bounded, settled_by, table_of, too_many_nodes}
 use Rattle.compose_tree.specs.Targets.{leaf_text, max_nodes}
 use Rattle.compose_tree.proofs.Adding.{leaves_are}
 use Rattle.compose_tree.proofs.Lookups.{leaves_count, leaf_text_is}
@@ -92,8 +92,8 @@ module _ (names : KeysymNames) (lines : List Visit) (paths : List (List ℕ)) (t
   abbrev Listable : List ℕ → Type 0
   Listable = IsListable names sources paths lines table
 
-  abbrev said : List ℕ → List ℕ
-  said = words names sources paths lines table
+  abbrev expected : List ℕ → List ℕ
+  expected = words names sources paths lines table
 
   abbrev Counted : List ℕ → Type 0
   Counted s = option_and_then (λ (line : WrittenLine). sequence_named names line.keys) (counting_line names lines s) ≡ Some s
@@ -130,27 +130,27 @@ module _ (names : KeysymNames) (lines : List Visit) (paths : List (List ℕ)) (t
               absurd (let clash : None ≡ Some (get_or (leaves table) i []) = ap (option_and_then (λ (line : WrittenLine). sequence_named names line.keys)) (sym e) ∙ c in cc)
           by (Some line) e c fed few w = record { line = line; counts = e; fed = fed; few = few; writable = w }
 
-  text_said : lines_of (without_mark (listing names lines paths table)) ≡ map said (leaves table)
-  text_said =
+  listed_lines : lines_of (without_mark (listing names lines paths table)) ≡ map expected (leaves table)
+  listed_lines =
       ap (λ b. lines_of (without_mark b)) (joined names sources paths lines table (leaves table) listable)
       ∙ ap lines_of (no_mark names sources paths lines table (leaves table) listable)
-      ∙ lines_again said (leaves table) (words_plain names sources paths lines table)
+      ∙ lines_again expected (leaves table) (words_plain names sources paths lines table)
 
-  texts : All (λ s. is_utf8 (said s) ≡ true) (leaves table)
-  texts = of_map (leaves table) (subst (All IsUtf8) (ap lines_of (sym unmarked) ∙ text_said) (text_lines (listing names lines paths table) (IsUtf8-from_is_utf8 (listing names lines paths table) utf8)))
+  texts : All (λ s. is_utf8 (expected s) ≡ true) (leaves table)
+  texts = of_map (leaves table) (subst (All IsUtf8) (ap lines_of (sym unmarked) ∙ listed_lines) (text_lines (listing names lines paths table) (IsUtf8-from_is_utf8 (listing names lines paths table) utf8)))
     where
       unmarked : without_mark (listing names lines paths table) ≡ listing names lines paths table
       unmarked =
           ap without_mark (joined names sources paths lines table (leaves table) listable) ∙ no_mark names sources paths lines table (leaves table) listable
           ∙ sym (joined names sources paths lines table (leaves table) listable)
 
-      of_map : (xs : List (List ℕ)) → All IsUtf8 (map said xs) → All (λ s. is_utf8 (said s) ≡ true) xs
-      of_map [] h = All-nil (λ s. is_utf8 (said s) ≡ true)
-      of_map (x ∷ xs) h = All-cons (λ s. is_utf8 (said s) ≡ true) x xs (is_utf8-from_IsUtf8 (said x) (All-head IsUtf8 (said x) (map said xs) h)) (of_map xs (All-tail IsUtf8 (said x) (map said xs) h))
+      of_map : (xs : List (List ℕ)) → All IsUtf8 (map expected xs) → All (λ s. is_utf8 (expected s) ≡ true) xs
+      of_map [] h = All-nil (λ s. is_utf8 (expected s) ≡ true)
+      of_map (x ∷ xs) h = All-cons (λ s. is_utf8 (expected s) ≡ true) x xs (is_utf8-from_IsUtf8 (expected x) (All-head IsUtf8 (expected x) (map expected xs) h)) (of_map xs (All-tail IsUtf8 (expected x) (map expected xs) h))
 
-  visited : visits sources 0 ≡ numbered 0 0 1 (map said (leaves table))
+  visited : visits sources 0 ≡ numbered 0 0 1 (map expected (leaves table))
   visited =
-      ap (λ ls. flat_map (λ v. v ∷ option_map_or (visits_below sources 7) (included sources v.bytes) []) (numbered 0 0 1 ls)) text_said
+      ap (λ ls. flat_map (λ v. v ∷ option_map_or (visits_below sources 7) (included sources v.bytes) []) (numbered 0 0 1 ls)) listed_lines
       ∙ alone names sources paths lines table (visits_below sources 7) (leaves table) 1 listable
 
   definitions_again : definitions_of names sources root ≡ Ok table

@@ -3,8 +3,8 @@ ghost use Rattle.std.specs.Prelude.{◌≡◌, ◌++◌, length, nat_lt, ℕ, Li
 ghost use Rattle.compose_model.specs.Nodes.{leaves};
 ghost use Rattle.compose_read.specs.Lines.{Visit};
 ghost use Rattle.compose_places.specs.Counting.{counting_line, AreLines};
-ghost use Rattle.compose_migration.specs.MigrationGives.{table_given};
-ghost use Rattle.compose_answer.specs.Refused.{Gives};
+ghost use Rattle.compose_migration.specs.MigrationReturns.{table_given};
+ghost use Rattle.compose_answer.specs.Refused.{Returns};
 ghost use Rattle.compose_lookup.specs.TextIndex.{IsTextIndex};
 ghost use Rattle.compose_listing.specs.Answers as words;
 ghost use Rattle.compose_listing.specs.Answers.{AreWays, given_repertoire, how_parts, is_given, ways};
@@ -58,7 +58,7 @@ pub fn how_to_type<T: ComposeTable>(
     paths: &[&str],
     wanted: HowWanted<'_>,
 ) -> Result<Ways, Refusal>
-    ensures { Gives
+    ensures { Returns
         (AreWays table.entry.now.sources.now (map (λ path. path.now) paths.now)
         (map (λ text. text.now) wanted.entry.texts.now) wanted.entry.first wanted.entry.form)
         result
@@ -85,7 +85,7 @@ pub fn how_to_type<T: ComposeTable>(
 
 /// Reads the repertoire with these bytes, if they are given.
 fn read_given(alloc: Global, bytes: Option<&[u8]>) -> Result<Option<Repertoire>, Refusal>
-    ensures { Gives (λ said read. said ≡ read) result
+    ensures { Returns (λ expected read. expected ≡ read) result
         (given_repertoire (option_copied bytes.entry)) }
 {
     match bytes {

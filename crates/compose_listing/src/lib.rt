@@ -20,7 +20,7 @@ ghost use Rattle.compose_model.specs.Table.{Definition};
 ghost use Rattle.compose_model.specs.Nodes.{leaves};
 ghost use Rattle.compose_model.specs.declared.Rule as rules;
 ghost use Rattle.compose_read.specs.Lines.{Visit};
-ghost use Rattle.compose_tree.specs.TableGives.{table_of};
+ghost use Rattle.compose_tree.specs.TableReturns.{table_of};
 ghost use Rattle.compose_places.specs.Counting.{counting_line, AreLines};
 ghost use Rattle.compose_listing.specs.Chosen.{chosen};
 ghost use Rattle.compose_listing.specs.Held.{IsBuilt, are_writable};

@@ -3,9 +3,9 @@ ghost use Rattle.std.specs.Prelude.{◌≡◌, ℕ, List, map, option_copied, If
 ghost use Rattle.compose_model.specs.Nodes.{leaves};
 ghost use Rattle.compose_read.specs.Lines.{Visit};
 ghost use Rattle.compose_places.specs.Counting.{counting_line, AreLines};
-ghost use Rattle.compose_migration.specs.MigrationGives.{table_given};
+ghost use Rattle.compose_migration.specs.MigrationReturns.{table_given};
 ghost use Rattle.compose_answer.specs.Parts.{type_parts};
-ghost use Rattle.compose_answer.specs.Refused.{Gives};
+ghost use Rattle.compose_answer.specs.Refused.{Returns};
 ghost use Rattle.compose_listing.specs.Answers.{IsListed, IsListing};
 
 use crate::chosen::chosen_leaves;
@@ -47,7 +47,7 @@ pub fn list_table<T: ComposeTable>(
     paths: &[&str],
     wanted: ListWanted<'_>,
 ) -> Result<Answer, Refusal>
-    ensures { Gives
+    ensures { Returns
         (IsListed table.entry.now.sources.now (map (λ path. path.now) paths.now)
         (option_copied wanted.entry.text) wanted.entry.order wanted.entry.form) result
         (type_parts header.now (map (λ key. key.now) wanted.entry.prefix.now)

@@ -3,9 +3,9 @@ ghost use Rattle.std.specs.Prelude.{◌≡◌, ◌<◌, ◌++◌, ◌∷◌, ℕ
 ghost use Rattle.keysym_core.specs.Printed.{printed};
 ghost use Rattle.compose_model.specs.Nodes as nodes_words;
 ghost use Rattle.compose_model.specs.Nodes.{nodes, edges};
-ghost use Rattle.compose_migration.specs.MigrationGives.{table_given};
+ghost use Rattle.compose_migration.specs.MigrationReturns.{table_given};
 ghost use Rattle.compose_answer.specs.Parts.{type_parts};
-ghost use Rattle.compose_answer.specs.Refused.{Gives};
+ghost use Rattle.compose_answer.specs.Refused.{Returns};
 ghost use Rattle.compose_listing.specs.Answers.{IsNext};
 ghost use Rattle.compose_listing.specs.Next as words;
 
@@ -35,7 +35,7 @@ pub fn list_next<T: ComposeTable>(
     prefix: &[&str],
     form: ListForm,
 ) -> Result<Answer, Refusal>
-    ensures { Gives (IsNext form) result
+    ensures { Returns (IsNext form) result
         (type_parts header.now (map (λ key. key.now) prefix.now) (table_given table.entry.now)) }
 {
     let named = read_names(alloc, header, prefix)?;

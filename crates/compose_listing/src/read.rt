@@ -2,13 +2,13 @@
 ghost use Rattle.std.specs.Prelude.{◌≡◌, map, IfOk};
 ghost use Rattle.compose_model.specs.Nodes.{leaves};
 ghost use Rattle.compose_places.specs.Counting.{counting_line, read_lines, AreLines};
-ghost use Rattle.compose_tree.specs.TableGives.{TableGives, first_table};
+ghost use Rattle.compose_tree.specs.TableReturns.{TableReturns, first_table};
 ghost use Rattle.compose_cert.specs.Repertoire.{repertoire_of};
 ghost use Rattle.compose_check.specs.Input.{no_repertoire};
 ghost use Rattle.compose_migration.specs.Migration.{or_because};
-ghost use Rattle.compose_migration.specs.MigrationGives.{named_parts};
+ghost use Rattle.compose_migration.specs.MigrationReturns.{named_parts};
 ghost use Rattle.compose_answer.specs.Parts.{given_key_names, no_only_table, unread};
-ghost use Rattle.compose_answer.specs.Refused.{Gives};
+ghost use Rattle.compose_answer.specs.Refused.{Returns};
 ghost use Rattle.compose_listing.specs.Answers.{root_of};
 
 use compose_answer::Refusal;
@@ -23,7 +23,7 @@ use std::alloc::Global;
 
 /// Reads the names of a header, and the keysyms of key names.
 pub(crate) fn read_names(alloc: Global, header: &[u8], key_names: &[&str]) -> Result<Named, Refusal>
-    ensures { Gives (λ said read. said ≡ named_parts read) result
+    ensures { Returns (λ expected read. expected ≡ named_parts read) result
         (given_key_names header.now (map (λ name. name.now) key_names.now)) }
 {
     match Named::read(alloc, header, key_names) {
@@ -34,7 +34,7 @@ pub(crate) fn read_names(alloc: Global, header: &[u8], key_names: &[&str]) -> Re
 
 /// Reads the characters that people need, and the keys that they have.
 pub(crate) fn read_repertoire(alloc: Global, bytes: &[u8]) -> Result<Repertoire, Refusal>
-    ensures { Gives (λ said repertoire. said ≡ repertoire) result
+    ensures { Returns (λ expected repertoire. expected ≡ repertoire) result
         (or_because (λ why. unread (no_repertoire why)) (repertoire_of bytes.now)) }
 {
     match Repertoire::read(alloc, bytes) {
@@ -51,7 +51,7 @@ pub(crate) fn read_placed<'a, T: ComposeTable>(
     names: &Names,
     input: &TableInput<'a>,
 ) -> Result<PlacedTable<'a, T>, Refusal>
-    ensures table { Gives (λ said placed. said ≡ T.definitions placed.table) result
+    ensures table { Returns (λ expected placed. expected ≡ T.definitions placed.table) result
         (or_because no_only_table
         (first_table names.now input.now.sources.now input.now.rule)) }
     ensures lines { IfOk result
@@ -78,7 +78,7 @@ fn read_first<'a, T: ComposeTable>(
     sources: &'a Sources,
     rule: Rule,
 ) -> Result<PlacedTable<'a, T>, TableFault>
-    ensures table { TableGives (λ placed. T.definitions placed.table) result
+    ensures table { TableReturns (λ placed. T.definitions placed.table) result
         (first_table names.now sources.now rule) }
     ensures lines { IfOk result
         (λ placed. placed.lines.items

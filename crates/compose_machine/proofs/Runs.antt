@@ -30,23 +30,23 @@ module _ (reading : Reading) where
       record { mid = rest.mid; first = y ∷ rest.first; second = rest.second; both = ap (λ rs. y ∷ rs) rest.both; before = (h.0, h.1, rest.before); after = rest.after }
 
   -- a run whose requests have their replies beside them
-  pub record Told (old : ServiceState) (requests : List Request) (replies : List Reply) (new : ServiceState) : Type 0 where
+  pub record HasHistory (old : ServiceState) (requests : List Request) (replies : List Reply) (new : ServiceState) : Type 0 where
     pub history : List Exchange
     pub asked : map (λ x. x.request) history ≡ requests
-    pub said : map (λ x. x.reply) history ≡ replies
+    pub expected : map (λ x. x.reply) history ≡ replies
     pub is : IsHistory reading old history new
 
   -- every run has a history with its requests and its replies
-  pub told : (old new : ServiceState) (requests : List Request) (replies : List Reply) → Run reading old requests replies new → Told old requests replies new
-  told old new [] [] h = record { history = []; asked = refl; said = refl; is = h }
-  told old new [] (y ∷ replies) h = absurd h
-  told old new (x ∷ requests) [] h = absurd h
-  told old new (x ∷ requests) (y ∷ replies) h =
-      let rest = told h.0 new requests replies h.2 in
+  pub history_of : (old new : ServiceState) (requests : List Request) (replies : List Reply) → Run reading old requests replies new → HasHistory old requests replies new
+  history_of old new [] [] h = record { history = []; asked = refl; expected = refl; is = h }
+  history_of old new [] (y ∷ replies) h = absurd h
+  history_of old new (x ∷ requests) [] h = absurd h
+  history_of old new (x ∷ requests) (y ∷ replies) h =
+      let rest = history_of h.0 new requests replies h.2 in
       record {
         history = record { request = x; reply = y } ∷ rest.history;
         asked = ap (λ qs. x ∷ qs) rest.asked;
-        said = ap (λ rs. y ∷ rs) rest.said;
+        expected = ap (λ rs. y ∷ rs) rest.expected;
         is = (h.0, h.1, rest.is);
       }
 

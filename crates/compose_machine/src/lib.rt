@@ -13,7 +13,7 @@
 #![tactic(auto)]
 
 ghost use Rattle.std.specs.Prelude.{◌≡◌, ◌++◌, List, ℕ, map};
-ghost use Rattle.compose_wire.specs.Messages.{Body, Answer, Request, Reply};
+ghost use Rattle.compose_wire.specs.Messages.{Body, ReplyBody, Request, Reply};
 ghost use Rattle.compose_machine.specs.Machine.{ServiceState, Reading, Run};
 ghost use Rattle.compose_machine.specs.Laws.{Exchange, IsHistory, Isolation, KeptTexts, LoadsTypeNothing, StandingPromise, TableStays};
 ghost use Rattle.compose_machine.specs.Late.{seen, AreKept, LateAnswers, IsLateHistory, Stands, SeenAtNodes, LateLoadsTypeNothing};
@@ -45,7 +45,7 @@ pub fn law_loads()
 /// whatever came before.
 pub fn law_late_service()
     ensures step { (reading : Reading) (old new : ServiceState) (n : ℕ) (body : Body)
-        (answer : Answer) → AreKept old.table old.sessions
+        (answer : ReplyBody) → AreKept old.table old.sessions
         → LateAnswers reading old n body answer new → Stands reading old n body answer new }
     ensures history { (reading : Reading) (old new : ServiceState) (h : List Exchange)
         → AreKept old.table old.sessions → IsLateHistory reading old h new

@@ -12,10 +12,10 @@ use Rattle.compose_model.proofs.Tests.{list_any-weaker}
 use Rattle.compose_model.proofs.NodeLemmas.{same_is, same_from, edge_extends, edge_listed}
 use Rattle.compose_fresh.proofs.Used.{same_test}
 use Rattle.compose_walk.proofs.Edges.{taken_more}
-use Rattle.compose_walk.proofs.Onward.{begins, first_key, goes_behind}
+use Rattle.compose_walk.proofs.Onward.{begins, first_key, goes_after}
 use Rattle.compose_make.specs.Least.{are_keys}
 use Rattle.compose_make.specs.Candidates.{spells, is_whole}
-use Rattle.compose_make.specs.Wanted.{WantedCharacter, AreLeast, offered, is_behind}
+use Rattle.compose_make.specs.Wanted.{WantedCharacter, AreLeast, offered_row, is_whole_after}
 use Rattle.compose_make.proofs.Reduction.{whole_parts, whole_from, ends}
 use Rattle.compose_make.proofs.Rows.{are_same, are_offered}
 use Rattle.keysym_core.specs.Names.{KeysymNames}
@@ -79,8 +79,8 @@ module _ (names : KeysymNames) (table : List Definition) (repertoire : Repertoir
   ]
 
   -- a node is not a sequence
-  pub by_node : (c k : ℕ) (v : List ℕ) → is_extended table (p ++ k ∷ []) ≡ true → is_behind table repertoire c (p ++ k ∷ []) v ≡ is_by c k v
-  by_node c k v x = same_test (is_behind table repertoire c (p ++ k ∷ []) v) (is_by c k v)
+  pub by_node : (c k : ℕ) (v : List ℕ) → is_extended table (p ++ k ∷ []) ≡ true → is_whole_after table repertoire c (p ++ k ∷ []) v ≡ is_by c k v
+  by_node c k v x = same_test (is_whole_after table repertoire c (p ++ k ∷ []) v) (is_by c k v)
       (λ h. (let parts = and_parts (is_proper_prefix (p ++ k ∷ []) v) (is_whole table repertoire c v) h in
       and_from (begins (p ++ k ∷ []) v) (is_whole table repertoire c v) (or_right (same (p ++ k ∷ []) v) (is_proper_prefix (p ++ k ∷ []) v) parts.0) parts.1))
       (λ h. (let parts = and_parts (begins (p ++ k ∷ []) v) (is_whole table repertoire c v) h in
@@ -117,8 +117,8 @@ module _ (names : KeysymNames) (table : List Definition) (repertoire : Repertoir
       ]))
 
   -- the keys of p lead to all that goes on from it
-  pub all_through : (c : ℕ) (v : List ℕ) → is_through table repertoire c p (edges table p) v ≡ is_behind table repertoire c p v
-  all_through c v = same_test (is_through table repertoire c p (edges table p) v) (is_behind table repertoire c p v)
+  pub all_through : (c : ℕ) (v : List ℕ) → is_through table repertoire c p (edges table p) v ≡ is_whole_after table repertoire c p v
+  all_through c v = same_test (is_through table repertoire c p (edges table p) v) (is_whole_after table repertoire c p v)
       (λ h. (let parts = and_parts (list_any (λ k. begins (p ++ k ∷ []) v) (edges table p)) (is_whole table repertoire c v) h in
       and_from (is_proper_prefix p v) (is_whole table repertoire c v) (some_by (edges table p) parts.0) parts.1))
       (λ h. (let parts = and_parts (is_proper_prefix p v) (is_whole table repertoire c v) h in
@@ -130,7 +130,7 @@ module _ (names : KeysymNames) (table : List Definition) (repertoire : Repertoir
     where
       some_by : (ks : List ℕ) → list_any (λ k. begins (p ++ k ∷ []) v) ks ≡ true → is_proper_prefix p v ≡ true
       some_by [] h = cc
-      some_by (k ∷ ks) h = elim (or_cases (begins (p ++ k ∷ []) v) (list_any (λ j. begins (p ++ j ∷ []) v) ks) h) [ inl e ↦ goes_behind p k v e | inr e ↦ some_by ks e ]
+      some_by (k ∷ ks) h = elim (or_cases (begins (p ++ k ∷ []) v) (list_any (λ j. begins (p ++ j ∷ []) v) ks) h) [ inl e ↦ goes_after p k v e | inr e ↦ some_by ks e ]
 
       edge_by : (k : ℕ) → is_sequence table v ≡ true → begins (p ++ k ∷ []) v ≡ true → has_edge table p k ≡ true
       edge_by k q h = edge_extends table p k ∙ elim (or_cases (same (p ++ k ∷ []) v) (is_proper_prefix (p ++ k ∷ []) v) h) [
@@ -159,9 +159,9 @@ module _ (names : KeysymNames) (table : List Definition) (repertoire : Repertoir
 
   -- after an edge to a node from which the rows have seen all sequences, they have seen one more edge
   pub seen_node : (es : List ℕ) (i k : ℕ) (before rows next : List WantedCharacter) → slice_get es i ≡ Some k → is_extended table (p ++ k ∷ []) ≡ true → HasSeen (take i es) before rows
-      → ((passes : ℕ → List ℕ → Bool) → AreLeast passes rows → AreLeast (λ c v. passes c v || is_behind table repertoire c (p ++ k ∷ []) v) next) → HasSeen (take (i + 1) es) before next
+      → ((passes : ℕ → List ℕ → Bool) → AreLeast passes rows → AreLeast (λ c v. passes c v || is_whole_after table repertoire c (p ++ k ∷ []) v) next) → HasSeen (take (i + 1) es) before next
   seen_node es i k before rows next at x h more passes a =
-      are_same (λ c v. (passes c v || is_through table repertoire c p (take i es) v) || is_behind table repertoire c (p ++ k ∷ []) v)
+      are_same (λ c v. (passes c v || is_through table repertoire c p (take i es) v) || is_whole_after table repertoire c (p ++ k ∷ []) v)
       (λ c v. passes c v || is_through table repertoire c p (take (i + 1) es) v)
       (λ c v. ap (λ b. (passes c v || is_through table repertoire c p (take i es) v) || b) (by_node c k v x) ∙ sym (next_through (passes c v) c es i k v at)) next
       (more (λ c v. passes c v || is_through table repertoire c p (take i es) v) (h passes a))
@@ -169,16 +169,16 @@ module _ (names : KeysymNames) (table : List Definition) (repertoire : Repertoir
   -- past an edge to a leaf, whose text and keys were offered to the rows, they have seen one edge more
   pub seen_leaf : (es : List ℕ) (i k : ℕ) (t : List ℕ) (before rows : List WantedCharacter) → slice_get es i ≡ Some k → is_sequence table (p ++ k ∷ []) ≡ true → text_at table (p ++ k ∷ []) ≡ Some t
       → are_keys repertoire (p ++ k ∷ []) ≡ true
-      → HasSeen (take i es) before rows → HasSeen (take (i + 1) es) before (map (offered t (p ++ k ∷ [])) rows)
+      → HasSeen (take i es) before rows → HasSeen (take (i + 1) es) before (map (offered_row t (p ++ k ∷ [])) rows)
   seen_leaf es i k t before rows at x text keys h passes a =
       are_same (λ c v. (passes c v || is_through table repertoire c p (take i es) v) || (spells c t && same v (p ++ k ∷ []))) (λ c v. passes c v || is_through table repertoire c p (take (i + 1) es) v)
       (λ c v. ap (λ b. (passes c v || is_through table repertoire c p (take i es) v) || b) (by_leaf c k t v x text keys) ∙ sym (next_through (passes c v) c es i k v at))
-      (map (offered t (p ++ k ∷ [])) rows)
+      (map (offered_row t (p ++ k ∷ [])) rows)
       (are_offered (λ c v. passes c v || is_through table repertoire c p (take i es) v) t (p ++ k ∷ []) rows (h passes a))
 
   -- past the last edge of a node, the rows have seen every whole sequence that goes on from it
   pub seen_all : (i : ℕ) (before rows : List WantedCharacter) → length (edges table p) ≤ i → HasSeen (take i (edges table p)) before rows
-      → (passes : ℕ → List ℕ → Bool) → AreLeast passes before → AreLeast (λ c v. passes c v || is_behind table repertoire c p v) rows
+      → (passes : ℕ → List ℕ → Bool) → AreLeast passes before → AreLeast (λ c v. passes c v || is_whole_after table repertoire c p v) rows
   seen_all i before rows over h passes a =
-      are_same (λ c v. passes c v || is_through table repertoire c p (take i (edges table p)) v) (λ c v. passes c v || is_behind table repertoire c p v)
+      are_same (λ c v. passes c v || is_through table repertoire c p (take i (edges table p)) v) (λ c v. passes c v || is_whole_after table repertoire c p v)
       (λ c v. ap (λ b. passes c v || b) (ap (λ ks. is_through table repertoire c p ks v) (take_all i (edges table p) over) ∙ all_through c v)) rows (h passes a)

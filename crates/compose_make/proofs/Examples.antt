@@ -59,7 +59,7 @@ of_sequences P (d ∷ table) v h a = elim (or_cases (same v d.sequence) (is_sequ
 
 acute_c_types : Types core ways (0xfe51 ∷ 0x63 ∷ []) 0xe9
 unfolding encode_utf8
-acute_c_types = record { texts = refl; rests = refl }
+acute_c_types = record { texts = refl; nothing_pending = refl }
 
 acute_c : is_candidate core ways (with_keys five_keys) 0xe9 (0xfe51 ∷ 0x63 ∷ []) ≡ true
 unfolding encode_utf8

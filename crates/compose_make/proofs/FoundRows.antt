@@ -11,7 +11,7 @@ use Rattle.compose_fresh.proofs.Positions.{rises_tail}
 use Rattle.compose_make.specs.Least.{IsLeastTyping, AreLeastTypings, IsUnreachable}
 use Rattle.compose_make.specs.Candidates.{is_plain, is_whole, IsLeastOf}
 use Rattle.compose_make.proofs.Reduction.{is_candidate, least_typing, untyped, whole_parts, nonempty}
-use Rattle.compose_make.specs.Wanted.{WantedCharacter, AreLeast, characters_of, typing_of, first_missing, is_behind, IsOfRows}
+use Rattle.compose_make.specs.Wanted.{WantedCharacter, AreLeast, characters_of, typing_of, first_missing, is_whole_after, IsOfRows}
 use Rattle.compose_make.specs.Found.{IsTypings}
 use Rattle.compose_make.specs.declared.typings.Typings.{Typings}
 use Rattle.compose_make.specs.declared.typings.Typings.TheVariants.{Found, Unreachable}
@@ -40,13 +40,13 @@ above x d (y ∷ xs) r h =
 
 module _ (names : KeysymNames) (table : List Definition) (repertoire : Repertoire) (s : IsSettled table) where
   -- the rows after the pass
-  pub all_looked_at : (rows : List WantedCharacter) → AreLeast (λ c v. is_plain names table repertoire c v || is_behind table repertoire c [] v) rows
+  pub all_visited : (rows : List WantedCharacter) → AreLeast (λ c v. is_plain names table repertoire c v || is_whole_after table repertoire c [] v) rows
       → AreLeast (is_candidate names table repertoire) rows
-  all_looked_at rows a =
-      are_same (λ c v. is_plain names table repertoire c v || is_behind table repertoire c [] v) (is_candidate names table repertoire)
+  all_visited rows a =
+      are_same (λ c v. is_plain names table repertoire c v || is_whole_after table repertoire c [] v) (is_candidate names table repertoire)
       (λ c v. ap (λ b. is_plain names table repertoire c v || b) (from_root c v)) rows a
     where
-      from_root : (c : ℕ) (v : List ℕ) → is_behind table repertoire c [] v ≡ is_whole table repertoire c v
+      from_root : (c : ℕ) (v : List ℕ) → is_whole_after table repertoire c [] v ≡ is_whole table repertoire c v
       from_root c (k ∷ v) = refl
       from_root c [] = go (is_whole table repertoire c []) refl
         where

@@ -108,9 +108,9 @@ are_untypable names table repertoire s rows rise e a = record {
     not_true true n = cc
 
 -- the result of the rows is the answer
-pub missing_told : {A E : Type 0} (characters : A → List ℕ) (names : KeysymNames) (table : List Definition) (repertoire : Repertoire) → IsSettled table → (rows : List WantedCharacter) (r : Result A E)
+pub missing_found : {A E : Type 0} (characters : A → List ℕ) (names : KeysymNames) (table : List Definition) (repertoire : Repertoire) → IsSettled table → (rows : List WantedCharacter) (r : Result A E)
     → keys_rise repertoire.characters ≡ true
     → characters_of rows ≡ repertoire.characters → AreLeast (is_candidate names table repertoire) rows → IfOk r (λ a. characters a ≡ all_missing rows)
     → IfOk r (λ a. AreUntypable names table repertoire (characters a))
-missing_told characters names table repertoire s rows (Ok a) rise e least h = subst (AreUntypable names table repertoire) (sym h) (are_untypable names table repertoire s rows rise e least)
-missing_told characters names table repertoire s rows (Err fault) rise e least h = tt
+missing_found characters names table repertoire s rows (Ok a) rise e least h = subst (AreUntypable names table repertoire) (sym h) (are_untypable names table repertoire s rows rise e least)
+missing_found characters names table repertoire s rows (Err fault) rise e least h = tt

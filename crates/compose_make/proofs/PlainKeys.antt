@@ -99,8 +99,8 @@ module _ (names : KeysymNames) (table : List Definition) (repertoire : Repertoir
       | inl e ↦ absurd (
           let le : k ≤ j = n.2 j b (plain_character j e) in
           let is : k ≡ j = omega arith in
-          let told : (is_key repertoire j && not (is_ignored j) && not (has_edge table [] j)) ≡ true =
+          let reported : (is_key repertoire j && not (is_ignored j) && not (has_edge table [] j)) ≡ true =
           (and_parts (is_key repertoire j && not (is_ignored j) && not (has_edge table [] j)) (spells c (text names j)) e).0 in
-          let clash : true ≡ false = sym told ∙ ap (λ i. is_key repertoire i && not (is_ignored i) && not (has_edge table [] i)) (sym is) ∙ h in cc)
+          let clash : true ≡ false = sym reported ∙ ap (λ i. is_key repertoire i && not (is_ignored i) && not (has_edge table [] i)) (sym is) ∙ h in cc)
     ]
   ]

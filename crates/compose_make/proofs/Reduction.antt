@@ -16,7 +16,7 @@ use Rattle.compose_model.specs.Follows.{Types}
 use Rattle.compose_model.specs.Nodes.{has_edge}
 use Rattle.compose_model.specs.Certificate.{Repertoire, is_key}
 use Rattle.compose_model.proofs.Tests.{both_at, list_any-weaker}
-use Rattle.compose_model.proofs.Steps.{effect_tells, effect_is, pending_from-append}
+use Rattle.compose_model.proofs.Steps.{effect_tests, effect_is, pending_from-append}
 use Rattle.compose_model.proofs.NodeLemmas.{same_is, same_from, edge_extends, extended_is_node}
 use Rattle.compose_model.proofs.Definitions.{sequence_fed}
 use Rattle.compose_model.proofs.Reached.{IsReached, node_reached, steps_from-append, root_reached}
@@ -144,7 +144,7 @@ module _ (names : KeysymNames) (table : List Definition) (repertoire : Repertoir
         ∙ ap (λ ts. ts ++ (step names table (pending table p) k).text ∷ []) (silent_texts (run names table p) (r.silent names))
         ∙ ap (λ n. replicate n [] ++ (step names table (pending table p) k).text ∷ []) (length_run names table [] p ∙ (let n = length_snoc p k in omega arith))
         ∙ ap (λ x. replicate (length (p ++ k ∷ []) - 1) [] ++ x ∷ []) (ap (λ u. (step names table u k).text) r.again ∙ t);
-    rests = pending_snoc table p k ∙ ap (λ u. pending_after table u k) r.again ∙ e;
+    nothing_pending = pending_snoc table p k ∙ ap (λ u. pending_after table u k) r.again ∙ e;
   }
 
   plain_types : (c k : ℕ) → is_plain_key names table repertoire c k ≡ true → (is_key repertoire k ≡ true) × Types names table (k ∷ []) c
@@ -245,7 +245,7 @@ module _ (names : KeysymNames) (table : List Definition) (repertoire : Repertoir
   -- from the last key of what types the character
   at_last : (c : ℕ) (p : List ℕ) (k : ℕ) → are_keys repertoire (p ++ k ∷ []) ≡ true → (step names table (pending table p) k).text ≡ encode_utf8 c → pending_after table (pending table p) k ≡ []
       → Reduces c (p ++ k ∷ [])
-  at_last c p k keys t rests = go (effect table (pending table p) k) refl
+  at_last c p k keys t nothing_pending = go (effect table (pending table p) k) refl
     where
       by : (are_keys repertoire p ≡ true) × (is_key repertoire k ≡ true)
       by = last_of (is_key repertoire) p k keys
@@ -279,19 +279,19 @@ module _ (names : KeysymNames) (table : List Definition) (repertoire : Repertoir
       go cancels e = absurd (silent cancels e refl)
       go completes e =
           let v : List ℕ = pending table p ++ k ∷ [] in
-          let told = effect_tells table (pending table p) k completes e in
+          let reported = effect_tests table (pending table p) k completes e in
           let text : text_at table v ≡ Some (encode_utf8 c) = known (text_at table v) (ap (λ y. text_by y names table (pending table p) k) (sym e) ∙ t) in
-          let whole = whole_from c v told.2 (with_last (is_key repertoire) (pending table p) k (pending_keys (is_key repertoire) table [] p refl by.0) by.1) text in
+          let whole = whole_from c v reported.2 (with_last (is_key repertoire) (pending table p) k (pending_keys (is_key repertoire) table [] p refl by.0) by.1) text in
           (v, or_right (is_plain names table repertoire c v) (is_whole table repertoire c v) whole, shorter (pending_kept table [] p))
       go passes e =
-          let told = effect_tells table (pending table p) k passes e in
-          let rest : pending table p ≡ [] = at_rest (pending table p) told.3 in
+          let reported = effect_tests table (pending table p) k passes e in
+          let rest : pending table p ≡ [] = at_rest (pending table p) reported.3 in
           let none : has_edge table [] k ≡ false =
           ap (λ u. has_edge table u k) (sym rest) ∙ edge_extends table (pending table p) k
-          ∙ or_from (is_extended table (pending table p ++ k ∷ [])) (is_sequence table (pending table p ++ k ∷ [])) told.1 told.2 in
+          ∙ or_from (is_extended table (pending table p ++ k ∷ [])) (is_sequence table (pending table p ++ k ∷ [])) reported.1 reported.2 in
           let spelled_so : spells c (text names k) ≡ true = same_from (encode_utf8 c) (text names k) (sym (ap (λ y. text_by y names table (pending table p) k) (sym e) ∙ t)) in
           let plain : is_plain_key names table repertoire c k ≡ true = and_from (is_key repertoire k && not (is_ignored k) && not (has_edge table [] k)) (spells c (text names k))
-          (and_from (is_key repertoire k && not (is_ignored k)) (not (has_edge table [] k)) (and_from (is_key repertoire k) (not (is_ignored k)) by.1 (not_from_false (is_ignored k) told.0))
+          (and_from (is_key repertoire k && not (is_ignored k)) (not (has_edge table [] k)) (and_from (is_key repertoire k) (not (is_ignored k)) by.1 (not_from_false (is_ignored k) reported.0))
           (not_from_false (has_edge table [] k) none)) spelled_so in
           (k ∷ [], or_left (is_plain names table repertoire c (k ∷ [])) (is_whole table repertoire c (k ∷ [])) plain, alone (pending table p) rest)
 
@@ -302,7 +302,7 @@ module _ (names : KeysymNames) (table : List Definition) (repertoire : Repertoir
       never : (xs ts : List (List ℕ)) → xs ≡ ts ++ encode_utf8 c ∷ [] → xs ≡ [] → ⊥
       never xs [] e n = cc
       never xs (y ∷ ts) e n = cc
-  reduced c (j ∷ w) keys t = subst (Reduces c) (sym r.is) (at_last c r.prefix r.last (ap (are_keys repertoire) (sym r.is) ∙ keys) commits rests)
+  reduced c (j ∷ w) keys t = subst (Reduces c) (sym r.is) (at_last c r.prefix r.last (ap (are_keys repertoire) (sym r.is) ∙ keys) commits nothing_pending)
     where
       r : Snoc (j ∷ w)
       r = snoc j w
@@ -314,8 +314,8 @@ module _ (names : KeysymNames) (table : List Definition) (repertoire : Repertoir
       commits =
           (same_from_push (map (λ (s : Step). s.text) (run names table r.prefix)) (replicate (length (j ∷ w) - 1) []) (step names table (pending table r.prefix) r.last).text (encode_utf8 c) all).1
 
-      rests : pending_after table (pending table r.prefix) r.last ≡ []
-      rests = sym (pending_snoc table r.prefix r.last) ∙ ap (pending table) (sym r.is) ∙ t.rests
+      nothing_pending : pending_after table (pending table r.prefix) r.last ≡ []
+      nothing_pending = sym (pending_snoc table r.prefix r.last) ∙ ap (pending table) (sym r.is) ∙ t.nothing_pending
 
   -- ---- so the least candidate is the least typing
 

@@ -9,7 +9,7 @@ use Rattle.compose_model.specs.Certificate.{keys_rise}
 use Rattle.compose_model.proofs.NodeLemmas.{same_is, same_from}
 use Rattle.compose_fresh.proofs.Positions.{rises_head, rises_tail, rises}
 use Rattle.compose_make.specs.Candidates.{spells, IsLeastOf}
-use Rattle.compose_make.specs.Wanted.{WantedCharacter, better, offered, characters_of, AreLeast}
+use Rattle.compose_make.specs.Wanted.{WantedCharacter, better, offered_row, characters_of, AreLeast}
 use Rattle.compose_make.proofs.Order.{least_same, least_more}
 
 -- ---- rising characters
@@ -36,7 +36,7 @@ encodes_one c d e = (encode_same c d [] [] (append-nil (encode_utf8 c) ∙ e ∙
 
 -- ---- offers
 
-passed_over : (t w : List ℕ) (rows : List WantedCharacter) → ((k : ℕ) → k < length rows → spells (get_or (characters_of rows) k 0) t ≡ false) → rows ≡ map (offered t w) rows
+passed_over : (t w : List ℕ) (rows : List WantedCharacter) → ((k : ℕ) → k < length rows → spells (get_or (characters_of rows) k 0) t ≡ false) → rows ≡ map (offered_row t w) rows
 passed_over t w [] n = refl
 passed_over t w (row ∷ rows) n = ap₂ (λ r rs. r ∷ rs) (go (spells row.character t) (n zero (omega arith))) (passed_over t w rows (λ k h. n (suc k) (omega arith)))
   where
@@ -45,7 +45,7 @@ passed_over t w (row ∷ rows) n = ap₂ (λ r rs. r ∷ rs) (go (spells row.cha
     go false e = refl
 
 -- a text that is not a character changes nothing
-pub no_character : (t w : List ℕ) (rows : List WantedCharacter) → ((c : ℕ) → t ≡ encode_utf8 c → ⊥) → rows ≡ map (offered t w) rows
+pub no_character : (t w : List ℕ) (rows : List WantedCharacter) → ((c : ℕ) → t ≡ encode_utf8 c → ⊥) → rows ≡ map (offered_row t w) rows
 no_character t w rows n = passed_over t w rows (λ k h. other (get_or (characters_of rows) k 0))
   where
     other : (c : ℕ) → spells c t ≡ false
@@ -55,13 +55,13 @@ spells_other : (c d : ℕ) (t : List ℕ) → t ≡ encode_utf8 d → (c ≡ d �
 spells_other c d t e n = elim (cases_Bool (spells c t)) [ inl h ↦ absurd (n (encodes_one c d (same_is (encode_utf8 c) t h ∙ e))) | inr h ↦ h ]
 
 -- a character that is not wanted changes nothing either
-pub not_wanted : (t w : List ℕ) (d : ℕ) (rows : List WantedCharacter) → t ≡ encode_utf8 d → ((k : ℕ) → k < length rows → get_or (characters_of rows) k 0 ≡ d → ⊥) → rows ≡ map (offered t w) rows
+pub not_wanted : (t w : List ℕ) (d : ℕ) (rows : List WantedCharacter) → t ≡ encode_utf8 d → ((k : ℕ) → k < length rows → get_or (characters_of rows) k 0 ≡ d → ⊥) → rows ≡ map (offered_row t w) rows
 not_wanted t w d rows e n = passed_over t w rows (λ k h. spells_other (get_or (characters_of rows) k 0) d t e (n k h))
 
 -- the row of a wanted character takes the keys
 pub taken : (t w : List ℕ) (d i : ℕ) (rows : List WantedCharacter) (row : WantedCharacter) → keys_rise (characters_of rows) ≡ true → t ≡ encode_utf8 d → i < length rows
     → get_or (characters_of rows) i 0 ≡ d
-    → row ≡ get_or rows i row → slice_set rows i (record row { keys = better row.keys w }) ≡ map (offered t w) rows
+    → row ≡ get_or rows i row → slice_set rows i (record row { keys = better row.keys w }) ≡ map (offered_row t w) rows
 taken t w d i [] row rise e h at is = absurd (omega arith)
 taken t w d zero (r ∷ rows) row rise e h at is =
     ap₂ (λ r rs. r ∷ rs) (ap (λ (x : WantedCharacter). record x { keys = better x.keys w }) is ∙ here (spells r.character t) (same_from (encode_utf8 r.character) t (ap encode_utf8 at ∙ sym e)))
@@ -88,7 +88,7 @@ taken t w d (suc i) (r ∷ rows) row rise e h at is =
     there false f = refl
 
 -- an offer changes no row's character
-pub offered_characters : (t w : List ℕ) (rows : List WantedCharacter) → characters_of (map (offered t w) rows) ≡ characters_of rows
+pub offered_characters : (t w : List ℕ) (rows : List WantedCharacter) → characters_of (map (offered_row t w) rows) ≡ characters_of rows
 offered_characters t w [] = refl
 offered_characters t w (row ∷ rows) = ap₂ (λ c cs. c ∷ cs) (go (spells row.character t)) (offered_characters t w rows)
   where
@@ -104,7 +104,7 @@ are_same p q alike [] a = tt
 are_same p q alike (row ∷ rows) a = (least_same (p row.character) (q row.character) (alike row.character) row.keys a.0, are_same p q alike rows a.1)
 
 -- after an offer the rows hold the least of what they held and of the offered keys, for the character that the text is
-pub are_offered : (p : ℕ → List ℕ → Bool) (t w : List ℕ) (rows : List WantedCharacter) → AreLeast p rows → AreLeast (λ c v. p c v || (spells c t && same v w)) (map (offered t w) rows)
+pub are_offered : (p : ℕ → List ℕ → Bool) (t w : List ℕ) (rows : List WantedCharacter) → AreLeast p rows → AreLeast (λ c v. p c v || (spells c t && same v w)) (map (offered_row t w) rows)
 are_offered p t w [] a = tt
 are_offered p t w (row ∷ rows) a = (go (spells row.character t) refl, are_offered p t w rows a.1)
   where

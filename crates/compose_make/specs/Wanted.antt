@@ -20,8 +20,8 @@ better None w = Some w
 better (Some v) w = if comes_first w v then Some w else Some v
 
 -- what is known once these keys, which give this text, were offered
-abbrev pub offered : List ℕ → List ℕ → WantedCharacter → WantedCharacter
-offered t w row = if spells row.character t then record row { keys = better row.keys w } else row
+abbrev pub offered_row : List ℕ → List ℕ → WantedCharacter → WantedCharacter
+offered_row t w row = if spells row.character t then record row { keys = better row.keys w } else row
 
 abbrev pub characters_of : List WantedCharacter → List ℕ
 characters_of rows = map (λ row. row.character) rows
@@ -33,8 +33,8 @@ AreLeast passes rows = AllByRecursion (λ row. IsLeastOf (passes row.character) 
 -- ---- what was offered
 
 -- v goes on from p to a whole sequence that types c
-abbrev pub is_behind : List Definition → Repertoire → ℕ → List ℕ → List ℕ → Bool
-is_behind table repertoire c p v = is_proper_prefix p v && is_whole table repertoire c v
+abbrev pub is_whole_after : List Definition → Repertoire → ℕ → List ℕ → List ℕ → Bool
+is_whole_after table repertoire c p v = is_proper_prefix p v && is_whole table repertoire c v
 
 -- ---- the answer of the rows
 

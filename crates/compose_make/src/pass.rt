@@ -5,7 +5,7 @@ ghost use Rattle.compose_model.specs.Nodes.{nodes};
 ghost use Rattle.compose_model.specs.Certificate.{keys_rise};
 ghost use Rattle.compose_read.specs.Settle.{IsSettled};
 ghost use Rattle.compose_make.specs.Least.{are_keys};
-ghost use Rattle.compose_make.specs.Wanted.{AreLeast, is_behind, characters_of};
+ghost use Rattle.compose_make.specs.Wanted.{AreLeast, is_whole_after, characters_of};
 
 use crate::wanted::{Wanted, offer_text, with_key};
 use compose_cert::Repertoire;
@@ -30,7 +30,7 @@ pub fn visit<U: ComposeTable>(
     ensures least { (passes : ℕ → List ℕ → Bool) → AreLeast passes rows.old
         → AreLeast
         (λ c v. passes c v
-        || is_behind (U.definitions new.now) repertoire.now c keys.now v) rows.new }
+        || is_whole_after (U.definitions new.now) repertoire.now c keys.now v) rows.new }
 {
     for index in 0..new.edge_count(node) {
         let (keysym, target) = new.edge(node, index);

@@ -3,7 +3,7 @@ ghost use Rattle.std.specs.Prelude.{◌≡◌, ◌<◌, ◌≤◌, ℕ, [], ◌�
 ghost use Rattle.std.specs.Option.{option_map};
 ghost use Rattle.compose_model.specs.Certificate.{keys_rise};
 ghost use Rattle.compose_walk.specs.Evidence.{comes_first};
-ghost use Rattle.compose_make.specs.Wanted.{better, offered, characters_of, typing_by};
+ghost use Rattle.compose_make.specs.Wanted.{better, offered_row, characters_of, typing_by};
 
 use arrayvec::ArrayVec;
 use compose_cert::Typing;
@@ -158,7 +158,7 @@ fn single_character(text: &str) -> Option<char>
 pub fn offer_text(rows: &mut [Wanted], text: &str, keys: &[Keysym])
     requires rise { IsTrue (keys_rise (characters_of rows.old)) }
     requires few { length keys.now ≤ 32 }
-    ensures { rows.new ≡ map (offered text.now keys.now) rows.old }
+    ensures { rows.new ≡ map (offered_row text.now keys.now) rows.old }
 {
     let Some(character) = single_character(text) else {
         return;

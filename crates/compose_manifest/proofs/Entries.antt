@@ -2,7 +2,7 @@
 use Rattle.std.proofs.Common.{◌≡◌, ◌≢◌, Bool, true, false, List, [], ◌∷◌, length, refl, ap, suc}
 use Rattle.std.specs.Prelude.{◌&&◌}
 use Rattle.compose_find.specs.Found.{FoundSource}
-use Rattle.compose_manifest.specs.Manifest.{Entry}
+use Rattle.compose_manifest.specs.Manifest.{ManifestEntry}
 use Rattle.compose_manifest.specs.Text.{is_entry, are_entries}
 
 not_both : (a b : Bool) → b ≡ false → a && b ≡ false
@@ -10,7 +10,7 @@ not_both true b e = e
 not_both false b e = refl
 
 -- entries whose number differs from that of the sources are not those of the sources
-pub other_count : (entries : List Entry) (sources : List FoundSource) → length entries ≢ length sources → are_entries entries sources ≡ false
+pub other_count : (entries : List ManifestEntry) (sources : List FoundSource) → length entries ≢ length sources → are_entries entries sources ≡ false
 other_count [] [] h = absurd (h refl)
 other_count [] (source ∷ sources) h = refl
 other_count (entry ∷ entries) [] h = refl

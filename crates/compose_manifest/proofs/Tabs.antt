@@ -4,7 +4,7 @@ use Rattle.std.specs.Prelude.{◌==◌, ◌&&◌}
 use Rattle.std.specs.List.{list_all}
 use Rattle.std.proofs.lemmas.Bool.{eqb-true}
 use Rattle.compose_text.specs.Bytes.{leading, behind}
-use Rattle.compose_manifest.specs.Manifest.{Entry, is_no_tab, are_parts, entry_of, entry_of_parts}
+use Rattle.compose_manifest.specs.Manifest.{ManifestEntry, is_no_tab, are_parts, entry_of, entry_of_parts}
 
 other_byte : (b : ℕ) → b ≢ 9 → is_no_tab b ≡ true
 other_byte b h = go (b == 9) refl
@@ -64,5 +64,5 @@ bad_entry text at tab name path n p bad = entry_by text at tab name path n p ∙
 
 -- a line whose name and path are not empty, and whose path has no other tab, is the entry of these two
 pub good_entry : (text : List ℕ) (at : ℕ) → TabAt text at → (name path : List ℕ) → name ≡ take at text → path ≡ drop (at + 1) text → are_parts name path ≡ true
-    → entry_of text ≡ Some (let e : Entry = record { name = name; path = path } in e)
+    → entry_of text ≡ Some (let e : ManifestEntry = record { name = name; path = path } in e)
 good_entry text at tab name path n p good = entry_by text at tab name path n p ∙ rw good refl

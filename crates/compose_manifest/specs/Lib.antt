@@ -1,4 +1,4 @@
 pub mod Manifest
-pub mod ManifestGives
+pub mod ManifestReturns
 pub mod Text
 pub mod Outside

@@ -12,7 +12,7 @@ use Rattle.compose_manifest.specs.declared.manifest.ManifestFault.{ManifestFault
 use Rattle.compose_manifest.specs.declared.manifest.ManifestFault.TheVariants.{BadLine, Empty}
 
 -- an entry: the name of a source, and the path of its file
-pub record Entry : Type 0 where
+pub record ManifestEntry : Type 0 where
   pub name : List ℕ
   pub path : List ℕ
 
@@ -21,7 +21,7 @@ pub record Entry : Type 0 where
 pub record Listing : Type 0 where
   pub rule : Option Rule
   pub paths_here : Bool
-  pub entries : List Entry
+  pub entries : List ManifestEntry
 
 -- ---- a line
 
@@ -46,20 +46,20 @@ is_no_tab b = not (b == 9)
 abbrev pub are_parts : List ℕ → List ℕ → Bool
 are_parts name path = not (length name == 0) && not (length path == 0) && list_all is_no_tab path
 
-abbrev pub entry_of_parts : List ℕ → List ℕ → Option Entry
+abbrev pub entry_of_parts : List ℕ → List ℕ → Option ManifestEntry
 entry_of_parts name [] = None
 entry_of_parts name (tab ∷ path) = if are_parts name path then Some (record { name = name; path = path }) else None
 
 -- a name, one tab and a path: the bytes before and after the first tab
-abbrev pub entry_of : List ℕ → Option Entry
+abbrev pub entry_of : List ℕ → Option ManifestEntry
 entry_of line = entry_of_parts (leading is_no_tab line) (behind is_no_tab line)
 
 abbrev pub rule_of : List ℕ → Option Rule
 rule_of line = if bytes_eq line (codes "overlap longest") then Some Longest else if bytes_eq line (codes "overlap refuse") then Some Refuse else None
 
 -- the line that makes paths relative to the manifest
-abbrev pub says_paths_here : List ℕ → Bool
-says_paths_here line = bytes_eq line (codes "paths here")
+abbrev pub is_paths_here : List ℕ → Bool
+is_paths_here line = bytes_eq line (codes "paths here")
 
 -- ---- all lines
 
@@ -71,7 +71,7 @@ with_rule n listing rule = if is_some listing.rule || nat_lt 0 (length listing.e
 abbrev pub with_paths_here : ℕ → Listing → Result Listing ManifestFault
 with_paths_here n listing = if listing.paths_here || nat_lt 0 (length listing.entries) then Err (BadLine n) else Ok (record listing { paths_here = true })
 
-abbrev pub with_entry : ℕ → Listing → Option Entry → Result Listing ManifestFault
+abbrev pub with_entry : ℕ → Listing → Option ManifestEntry → Result Listing ManifestFault
 with_entry n listing None = Err (BadLine n)
 with_entry n listing (Some entry) = Ok (record listing { entries = listing.entries ++ entry ∷ [] })
 
@@ -79,7 +79,7 @@ with_entry n listing (Some entry) = Ok (record listing { entries = listing.entri
 abbrev pub with_text : ℕ → Listing → List ℕ → Result Listing ManifestFault
 with_text n listing line =
     if is_skipped line then Ok listing else
-    if says_paths_here line then with_paths_here n listing else option_map_or (with_rule n listing) (rule_of line) (with_entry n listing (entry_of line))
+    if is_paths_here line then with_paths_here n listing else option_map_or (with_rule n listing) (rule_of line) (with_entry n listing (entry_of line))
 
 -- the listing with the content of line n, which has to be UTF-8
 abbrev pub with_line : ℕ → Listing → List ℕ → Result Listing ManifestFault

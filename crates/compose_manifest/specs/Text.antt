@@ -6,7 +6,7 @@ use Rattle.compose_model.specs.declared.Rule.{Rule}
 use Rattle.compose_model.specs.declared.Rule.TheVariants.{Refuse, Longest}
 use Rattle.compose_find.specs.Expand.{beside}
 use Rattle.compose_find.specs.Found.{FoundSource}
-use Rattle.compose_manifest.specs.Manifest.{Entry, Listing, listing_of}
+use Rattle.compose_manifest.specs.Manifest.{ManifestEntry, Listing, listing_of}
 use Rattle.compose_manifest.specs.declared.writing.WriteFault.{WriteFault}
 use Rattle.compose_manifest.specs.declared.writing.WriteFault.TheVariants.{Unwritable, NoMemory}
 
@@ -18,11 +18,11 @@ abbrev pub manifest_bytes : List FoundSource → List ℕ
 manifest_bytes sources = flat_map line_of sources
 
 -- the entry has the source's name and path
-abbrev pub is_entry : Entry → FoundSource → Bool
+abbrev pub is_entry : ManifestEntry → FoundSource → Bool
 is_entry entry source = bytes_eq entry.name source.name && bytes_eq entry.path source.path
 
 -- the entries are those of the sources, in order
-abbrev pub are_entries : List Entry → List FoundSource → Bool
+abbrev pub are_entries : List ManifestEntry → List FoundSource → Bool
 are_entries [] [] = true
 are_entries [] (source ∷ sources) = false
 are_entries (entry ∷ entries) [] = false

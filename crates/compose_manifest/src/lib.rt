@@ -17,6 +17,6 @@ mod manifest;
 mod outside;
 mod writing;
 
-pub use manifest::{Entry, Manifest, ManifestFault, file_path, read_manifest};
+pub use manifest::{Manifest, ManifestEntry, ManifestFault, file_path, read_manifest};
 pub use outside::outside_text;
 pub use writing::{WriteFault, manifest_text};

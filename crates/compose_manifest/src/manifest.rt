@@ -6,7 +6,7 @@ ghost use Rattle.compose_model.specs.declared.Rule.TheVariants.{Refuse, Longest}
 ghost use Rattle.compose_manifest.specs.Manifest as words;
 ghost use Rattle.compose_manifest.specs.Manifest.{listing_of, with_paths_here, with_rule, with_text};
 ghost use Rattle.compose_manifest.specs.Text as writing;
-ghost use Rattle.compose_manifest.specs.ManifestGives.{ManifestGives, LineGives, SaidGives, entry};
+ghost use Rattle.compose_manifest.specs.ManifestReturns.{ManifestReturns, LineReturns, AddReturns, entry};
 
 use compose_find::beside;
 use compose_model::Rule;
@@ -51,18 +51,18 @@ impl<T: Drop> From<AllocFailed<T>> for ManifestFault {
 
 /// An entry of a manifest: the name of a source, and the path of its file.
 #[derive(Drop)]
-pub struct Entry {
+pub struct ManifestEntry {
     /// The name of the source: the raw text of the includes that name it.
     pub name: String,
     /// The path of its file, as it is written in the manifest.
     pub path: String,
 }
 
-impl Model for Entry {
+impl Model for ManifestEntry {
     ghost use Rattle.std.specs.Prelude.{string_bytes};
     ghost use Rattle.compose_manifest.specs.Manifest as words;
 
-    ghost Value = { words.Entry };
+    ghost Value = { words.ManifestEntry };
 
     ghost view = { λ e. record { name = string_bytes e.name; path = string_bytes e.path } };
 }
@@ -73,7 +73,7 @@ impl Model for Entry {
 pub struct Manifest {
     rule: Option<Rule>,
     paths_here: bool,
-    entries: Vec<Entry>,
+    entries: Vec<ManifestEntry>,
 }
 
 impl Model for Manifest {
@@ -98,7 +98,7 @@ impl Manifest {
     }
 
     /// Returns the entries in order, the root first. O(1).
-    pub fn entries(&self) -> &[Entry]
+    pub fn entries(&self) -> &[ManifestEntry]
         ensures { result.now ≡ self.now.entries }
     {
         &self.entries
@@ -144,7 +144,7 @@ impl Manifest {
 ///
 /// Errors: `BadLine` for the first faulty line, `Empty` if there is no entry, or `NoMemory`.
 pub fn read_manifest(alloc: Global, bytes: &[u8]) -> Result<Manifest, ManifestFault>
-    ensures { ManifestGives result (listing_of bytes.now) }
+    ensures { ManifestReturns result (listing_of bytes.now) }
 {
     let mut manifest = Manifest {
         rule: None,
@@ -175,7 +175,7 @@ pub fn file_path(
     alloc: Global,
     manifest: &Manifest,
     at: &str,
-    entry: &Entry,
+    entry: &ManifestEntry,
 ) -> Result<String, AllocError>
     ensures { IfOk result
         (λ path. string_bytes path ≡ writing.file_path manifest.now at.now entry.now.path) }
@@ -189,7 +189,7 @@ pub fn file_path(
 impl Manifest {
     /// Adds the content of the line with this number.
     fn add_line(&mut self, alloc: Global, number: usize, line: &[u8]) -> Result<(), ManifestFault>
-        ensures { LineGives number self.old line.now result self.new }
+        ensures { LineReturns number self.old line.now result self.new }
     {
         match str::from_utf8(line) {
             Ok(text) => self.add_text(alloc, number, without_return(text)),
@@ -199,7 +199,7 @@ impl Manifest {
 
     /// Adds the content of a line's text.
     fn add_text(&mut self, alloc: Global, number: usize, text: &str) -> Result<(), ManifestFault>
-        ensures { SaidGives (with_text number self.old text.now) result self.new }
+        ensures { AddReturns (with_text number self.old text.now) result self.new }
     {
         if is_skipped(text) {
             return Ok(());
@@ -218,7 +218,7 @@ impl Manifest {
 
     /// Sets the rule. It comes before the entries, and at most once.
     fn set_rule(&mut self, number: usize, rule: Rule) -> Result<(), ManifestFault>
-        ensures { SaidGives (with_rule number self.old rule) result self.new }
+        ensures { AddReturns (with_rule number self.old rule) result self.new }
     {
         if self.rule.is_some() || !self.entries.is_empty() {
             return Err(ManifestFault::BadLine { line: number });
@@ -230,7 +230,7 @@ impl Manifest {
     /// Makes relative paths relative to the manifest's folder. The line for this comes before the
     /// entries, and at most once.
     fn set_paths_here(&mut self, number: usize) -> Result<(), ManifestFault>
-        ensures { SaidGives (with_paths_here number self.old) result self.new }
+        ensures { AddReturns (with_paths_here number self.old) result self.new }
     {
         if self.paths_here || !self.entries.is_empty() {
             return Err(ManifestFault::BadLine { line: number });
@@ -251,7 +251,7 @@ impl Manifest {
     {
         let name = String::from_str(alloc, name)?;
         let path = String::from_str(alloc, path)?;
-        self.entries.push(Entry { name, path })?;
+        self.entries.push(ManifestEntry { name, path })?;
         Ok(())
     }
 }

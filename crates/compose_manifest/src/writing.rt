@@ -3,7 +3,7 @@ ghost use Rattle.std.specs.Prelude.{◌≡◌, ◌++◌, ◌∷◌, [], IfOk, On
 ghost use Rattle.compose_manifest.specs.Text as text;
 ghost use Rattle.compose_manifest.specs.declared.writing.WriteFault.TheVariants.{NoMemory};
 
-use crate::manifest::{Entry, Manifest, ManifestFault, read_manifest};
+use crate::manifest::{Manifest, ManifestEntry, ManifestFault, read_manifest};
 use compose_find::FoundSource;
 use compose_model::Rule;
 use std::alloc::{AllocError, AllocFailed, Global};
@@ -85,7 +85,7 @@ fn lists(manifest: &Manifest, sources: &[FoundSource]) -> bool
 }
 
 /// Returns whether the entries are those of the sources, in order.
-fn are_entries(entries: &[Entry], sources: &[FoundSource]) -> bool
+fn are_entries(entries: &[ManifestEntry], sources: &[FoundSource]) -> bool
     ensures { result ≡ text.are_entries entries.now sources.now }
 {
     if entries.len() != sources.len() {
@@ -100,7 +100,7 @@ fn are_entries(entries: &[Entry], sources: &[FoundSource]) -> bool
 }
 
 /// Returns whether the entry is that of the source.
-fn is_entry(entry: &Entry, source: &FoundSource) -> bool
+fn is_entry(entry: &ManifestEntry, source: &FoundSource) -> bool
     ensures { result ≡ text.is_entry entry.now source.now }
 {
     entry.name == source.name && entry.path == source.path

@@ -8,7 +8,7 @@ use Rattle.compose_machine.specs.Machine.{ServiceState, Reading, Step}
 use Rattle.compose_machine.specs.Laws.{Exchange, IsHistory, is_load}
 use Rattle.compose_serve.specs.Ends.{max_frames, malformed_reply}
 use Rattle.compose_many.specs.Connection.{ConnectionState, Event, answers, refuses, Answers, AllHappen, piece_of, exchange_of, closed_of, sent_of, exchanges, loads, max_reply}
-use Rattle.compose_many.specs.Steps.{OneAnswered, NextSo, AnswersSo, AreAnswers, after_reply}
+use Rattle.compose_many.specs.Steps.{OneAnswered, NextAs, AnswersAs, AreAnswers, after_reply}
 use Rattle.compose_many.specs.Owners.{owners_when, owners_after, owners_by}
 use Rattle.compose_many.specs.declared.owners.Owner.{Owner}
 use Rattle.compose_many.specs.declared.connection.Stop.{Stop}
@@ -30,10 +30,10 @@ next_answered limit number owners owners' reading old new s held unsent q r b g 
 )
 
 -- the result after a reply shows that this request was answered
-pub next_told : (limit number : ℕ) (owners owners' : List Owner) (reading : Reading) (old new : ServiceState) (s now : ConnectionState) (b : Bool)
-    → OneAnswered limit number owners owners' reading old new s now b → NextSo limit number owners owners' reading old new s now (after_reply b)
-next_told limit number owners owners' reading old new s now true h = h
-next_told limit number owners owners' reading old new s now false h = h
+pub next_reported : (limit number : ℕ) (owners owners' : List Owner) (reading : Reading) (old new : ServiceState) (s now : ConnectionState) (b : Bool)
+    → OneAnswered limit number owners owners' reading old new s now b → NextAs limit number owners owners' reading old new s now (after_reply b)
+next_reported limit number owners owners' reading old new s now true h = h
+next_reported limit number owners owners' reading old new s now false h = h
 
 -- after a reply something is unsent
 pub reply_unsent : (limit : ℕ) (s now : ConnectionState) (x : Exchange) → Answers limit s x now → now.unsent ≢ []
@@ -78,7 +78,7 @@ module _ (limit : ℕ) (reading : Reading) (old : ServiceState) (before : Connec
 
       -- if nothing further is answered, for any reason, these are all answers up to this stop; a load comes last among
       -- them
-      pub answers_stop : (stop : Stop) → loads events ≡ 0 → NextSo limit number owners owners' reading mid new s now (Err stop) → AnswersSo limit number first owners' reading old new before now stop
+      pub answers_stop : (stop : Stop) → loads events ≡ 0 → NextAs limit number owners owners' reading mid new s now (Err stop) → AnswersAs limit number first owners' reading old new before now stop
       answers_stop Loaded none n = (
         events ++ answers n.0 ∷ [],
         now,

@@ -7,7 +7,7 @@ use Rattle.compose_wire.specs.Messages.{Reply}
 use Rattle.compose_wire.specs.Frames.{reply_bytes, fault_at}
 use Rattle.compose_machine.specs.Laws.{Exchange}
 use Rattle.compose_serve.specs.Ends.{replies_bytes, malformed_reply, EndsWrite}
-use Rattle.compose_serve.specs.declared.ends.Ended.TheVariants.{InputEnd, Malformed}
+use Rattle.compose_serve.specs.declared.ends.StreamEnd.TheVariants.{InputEnd, Malformed}
 use Rattle.compose_serve.specs.declared.ends.ServeFault.TheVariants.{Read, Write, Cut, TooManyFrames, NoMemory}
 use Rattle.compose_many.specs.Connection.{ConnectionState, new_connection, Event, receives, answers, refuses, sends, closes, Answers, Refuses, Sends, Closes, Happens, AllHappen, replies, sent, refusal, HasItsOwn}
 use Rattle.compose_many.specs.Ends.{IsQuiet, served, EndsAsStream, EndsAtWrite, EndsAtWriteAsStream}

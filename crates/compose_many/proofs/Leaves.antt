@@ -4,7 +4,7 @@ use Rattle.std.specs.Prelude.{◌==◌, ◌||◌, ◌⊎◌, not, Option, Some, 
 use Rattle.std.specs.List.{list_any}
 use Rattle.std.proofs.lemmas.List.Folds.{list_any-append}
 use Rattle.compose_model.specs.Session.{Session, rest, fed as session_fed, loaded as session_loaded}
-use Rattle.compose_wire.specs.Messages.{Body, open_session, key, reset, close, load, ask, session_taken, no_session, full, bad_keysym, bad_bundle, table_refused, certificate_refused, verdict_no, no_memory, Answer, opened, fed, was_reset, closed, loaded, state, refused}
+use Rattle.compose_wire.specs.Messages.{Body, open_session, key, reset, close, load, ask, session_taken, no_session, full, bad_keysym, bad_bundle, table_refused, certificate_refused, verdict_no, no_memory, ReplyBody, opened, fed, was_reset, closed, loaded, state, refused}
 use Rattle.compose_machine.specs.Machine.{ServiceState, Reading, Row, Answers, session_of}
 use Rattle.compose_machine.specs.Laws.{Exchange, IsHistory}
 use Rattle.compose_machine.proofs.Rows.{session_of-with, session_of-append, session_of-without, session_of-loaded}
@@ -79,7 +79,7 @@ module _ (s : ℕ) where
     on_refused false e none p = elim (f p) [ inl a ↦ inl a | inr o ↦ inr (owned_without n owners e o) ]
 
     -- a session that is open after an answer was open before all, or is owned
-    step_owned : (b : Body) (a : Answer) → Answers reading old n b a new → there new ≡ true → A ⊎ (owned (owners_when c n owners b a) ≡ true)
+    step_owned : (b : Body) (a : ReplyBody) → Answers reading old n b a new → there new ≡ true → A ⊎ (owned (owners_when c n owners b a) ≡ true)
     step_owned open_session opened h p =
         on_opened (n == s) refl (sym (ap is_some (ap (λ (t : ServiceState). session_of t.sessions s) h.2 ∙ session_of-append old.sessions n s rest h.0)) ∙ p)
     step_owned open_session (refused session_taken) h p = f (same_there old new h.1 p)

@@ -2,7 +2,7 @@
 use Rattle.std.proofs.Common.{◌≡◌, ℕ, List, [], ◌∷◌, ◌++◌, Bool, true, false, cond, map, refl, sym, ◌∙◌, ap, subst}
 use Rattle.std.specs.Prelude.{◌==◌, not, Option, Some, None, fold, filter}
 use Rattle.std.proofs.lemmas.List.Sums.{fold-append}
-use Rattle.compose_wire.specs.Messages.{Body, open_session, key, reset, close, load, ask, Answer, opened, fed, was_reset, closed, loaded, state, refused}
+use Rattle.compose_wire.specs.Messages.{Body, open_session, key, reset, close, load, ask, ReplyBody, opened, fed, was_reset, closed, loaded, state, refused}
 use Rattle.compose_machine.specs.Laws.{Exchange}
 use Rattle.compose_many.specs.Connection.{Event, closes, exchange_of}
 use Rattle.compose_many.specs.Service.{NumberedEvent, events_of, numbered}
@@ -33,7 +33,7 @@ module _ (c : ℕ) where
       let p = not_own (o.connection == c) o.session (first_own c owners) h in
       ap (λ (b : Bool). cond b (Some o.session) (first_own c (owners ++ record { session = n; connection = d } ∷ []))) p.0 ∙ none_with d n owners e p.1
 
-  none_when : (d n : ℕ) (owners : List Owner) (b : Body) (a : Answer) → d == c ≡ false → first_own c owners ≡ None → first_own c (owners_when d n owners b a) ≡ None
+  none_when : (d n : ℕ) (owners : List Owner) (b : Body) (a : ReplyBody) → d == c ≡ false → first_own c owners ≡ None → first_own c (owners_when d n owners b a) ≡ None
   none_when d n owners open_session opened e h = none_with d n (without n owners) e (none_without n owners h)
   none_when d n owners open_session (fed s t u) e h = h
   none_when d n owners open_session was_reset e h = h

@@ -1,13 +1,13 @@
 -- The owners of the open sessions.
 use Rattle.std.proofs.Common.{◌≡◌, ℕ, ◌+◌, ◌<◌, ◌≤◌, List, [], ◌∷◌, ◌++◌, Bool, true, false, cond, length, map, refl, sym, ◌∙◌, ap, subst, append-nil, append_assoc, eq-eqb, arith}
 use Rattle.std.specs.Prelude.{not, Option, Some, None}
-use Rattle.compose_wire.specs.Messages.{Body, close, Answer, opened, fed, was_reset, closed, loaded, state, refused}
+use Rattle.compose_wire.specs.Messages.{Body, close, ReplyBody, opened, fed, was_reset, closed, loaded, state, refused}
 use Rattle.compose_wire.specs.Requests.{body_of}
-use Rattle.compose_wire.specs.Replies.{SaysAnswer}
+use Rattle.compose_wire.specs.Replies.{HasAnswerValue}
 use Rattle.compose_wire.specs.declared.request.Body.{Body as ProgramBody}
 use Rattle.compose_wire.specs.declared.request.Body.TheVariants.{Open, Key, Reset, Close, Load, LoadLongest, Ask}
-use Rattle.compose_wire.specs.declared.reply.Answer.{Answer as ProgramAnswer}
-use Rattle.compose_wire.specs.declared.reply.Answer.TheVariants.{Opened, Fed, WasReset, Closed, Loaded, State, Refused}
+use Rattle.compose_wire.specs.declared.reply.ReplyBody.{ReplyBody as ProgramAnswer}
+use Rattle.compose_wire.specs.declared.reply.ReplyBody.TheVariants.{Opened, Fed, WasReset, Closed, Loaded, State, Refused}
 use Rattle.std.specs.Prelude.{◌==◌, fold}
 use Rattle.std.specs.Io.KnownBytes.{Consumes, Appends}
 use Rattle.std.proofs.KnownBytes.{Consumes-nil, Appends-nil}
@@ -17,13 +17,13 @@ use Rattle.compose_machine.specs.Laws.{Exchange, IsHistory}
 use Rattle.compose_many.specs.Connection.{ConnectionState, Event, closes, AllHappen, exchange_of, closed_of, received, exchanges, closings, sent}
 use Rattle.compose_many.specs.Service.{NumberedEvent, events_of, numbered}
 use Rattle.compose_many.specs.Turns.{IsTurn}
-use Rattle.compose_many.specs.Owners.{owners_noted, owners_when, owners_after, owners_by, owners_of, without, first_own, ClosesOwn, ClosesSo, EndedWithItsSessions, ClosedNone, ClosedAtEnd}
+use Rattle.compose_many.specs.Owners.{owners_noted, owners_when, owners_after, owners_by, owners_of, without, first_own, ClosesOwn, ClosesAs, EndedWithItsSessions, ClosedNone, ClosedAtEnd}
 use Rattle.compose_many.specs.declared.owners.Owner.{Owner}
 use Rattle.compose_many.proofs.Happening.{flat-both, map-both, history-both}
 use Rattle.compose_many.proofs.Serving.{those_of, none_of, events_of-both}
 
 -- what is noted for the program's reply is what is noted for its meaning
-opened_is : (c n : ℕ) (owners : List Owner) (a : ProgramAnswer) (v : Answer) → SaysAnswer a v → owners_noted c n owners Open a ≡ owners_when c n owners (body_of Open) v
+opened_is : (c n : ℕ) (owners : List Owner) (a : ProgramAnswer) (v : ReplyBody) → HasAnswerValue a v → owners_noted c n owners Open a ≡ owners_when c n owners (body_of Open) v
 opened_is c n owners Opened opened h = refl
 opened_is c n owners (Fed s a t) (fed s' a' t') h = refl
 opened_is c n owners WasReset was_reset h = refl
@@ -33,7 +33,7 @@ opened_is c n owners (State s p) (state s' p') h = refl
 opened_is c n owners (Refused m) (refused m') h = refl
 opened_is c n owners _ _ h = absurd h
 
-pub noted_is : (c n : ℕ) (owners : List Owner) (b : ProgramBody) (a : ProgramAnswer) (v : Answer) → SaysAnswer a v → owners_noted c n owners b a ≡ owners_when c n owners (body_of b) v
+pub noted_is : (c n : ℕ) (owners : List Owner) (b : ProgramBody) (a : ProgramAnswer) (v : ReplyBody) → HasAnswerValue a v → owners_noted c n owners b a ≡ owners_when c n owners (body_of b) v
 noted_is c n owners Open a v h = opened_is c n owners a v h
 noted_is c n owners (Key k) a v h = refl
 noted_is c n owners Reset a v h = refl
@@ -178,7 +178,7 @@ module _ (c : ℕ) (reading : Reading) (old now new : ServiceState) (first owner
       }
 
   -- no session is left
-  pub closed_all : first_own c owners ≡ None → ClosesSo c first owners reading old now
+  pub closed_all : first_own c owners ≡ None → ClosesAs c first owners reading old now
   closed_all none = (s.closed, subst (λ (h : List Exchange). ClosesOwn c first h) (append-nil s.closed) (s.each [] none), s.run, s.owners_are)
 
 fewer : (n : ℕ) (owners : List Owner) → length (without n owners) ≤ length owners

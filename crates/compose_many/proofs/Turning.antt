@@ -5,12 +5,12 @@ use Rattle.std.specs.Io.KnownBytes.{Consumes, Appends}
 use Rattle.std.proofs.KnownBytes.{Consumes-nil, Consumes-trans, Appends-nil, Appends-trans}
 use Rattle.compose_wire.specs.Frames.{frame, IsBegun}
 use Rattle.compose_machine.specs.Machine.{ServiceState, Reading}
-use Rattle.compose_serve.specs.declared.ends.Ended.TheVariants.{InputEnd}
+use Rattle.compose_serve.specs.declared.ends.StreamEnd.TheVariants.{InputEnd}
 use Rattle.compose_serve.specs.declared.ends.ServeFault.TheVariants.{Read, Write, Cut, NoMemory as EndsNoMemory}
 use Rattle.compose_many.specs.Connection.{ConnectionState, Event, receives, answers, refuses, sends, closes, AllHappen, max_piece, loads, closings, exchanges, closed_of, exchange_of, Receives, Sends, piece_of, sent_of, received, sent}
 use Rattle.compose_many.specs.Ends.{IsQuiet}
-use Rattle.compose_many.specs.Steps.{StopsSo, KeptSo, loads_before, AreAnswers, SendsSo, IsRoomFor, ReadsSo, behind_answers}
-use Rattle.compose_many.specs.Turns.{IsTurn, Moves, IsIdle, FollowsSo, IsShort, loads_in}
+use Rattle.compose_many.specs.Steps.{StopsAs, KeptAs, loads_before, AreAnswers, SendsAs, IsRoomFor, ReadsAs, behind_answers}
+use Rattle.compose_many.specs.Turns.{IsTurn, Moves, IsIdle, FollowsAs, IsShort, loads_in}
 use Rattle.compose_many.specs.declared.connection.Stop.{Stop}
 use Rattle.compose_many.specs.declared.connection.Stop.TheVariants.{Loaded, NeedsBytes, Full, Refused, NoMemory, TooManyFrames}
 use Rattle.compose_many.specs.Streams.{is_failed}
@@ -112,7 +112,7 @@ read_holds_little most held piece (inr r) h =
 
 -- what follows a turn in which bytes were sent and nothing else happened, by how sending ended
 pub follows_sent : (most : ℕ) (turn : Turn) (before now : ConnectionState) (bytes : List ℕ) (left' : Option (List ℕ)) (read_mark write_mark : Option TryError)
-    → SendsSo (Some turn) bytes now write_mark → FollowsSo most turn before (sends bytes ∷ []) now now left' read_mark write_mark
+    → SendsAs (Some turn) bytes now write_mark → FollowsAs most turn before (sends bytes ∷ []) now now left' read_mark write_mark
 follows_sent most GoesOn before now bytes left' rf wf h = (refl, inl (λ e. h (sym (append-nil bytes) ∙ e)))
 follows_sent most Waits before now bytes left' rf wf h = (refl, inl h)
 follows_sent most (Ends (Err Write)) before now bytes left' rf wf h = (ap is_failed h.0, h.1)
@@ -133,7 +133,7 @@ loads_behind NoMemory = refl
 loads_behind TooManyFrames = refl
 
 pub follows_answers : (most : ℕ) (stop : Stop) (before after now : ConnectionState) (events : List Event) (left' : Option (List ℕ)) (read_mark write_mark : Option TryError) → now ≡ after
-    → Moves before events after → FollowsSo most (behind_answers stop) before events after now left' read_mark write_mark
+    → Moves before events after → FollowsAs most (behind_answers stop) before events after now left' read_mark write_mark
 follows_answers most Loaded before after now events left' read_mark write_mark e m = (e, m)
 follows_answers most NeedsBytes before after now events left' read_mark write_mark e m = (e, m)
 follows_answers most Full before after now events left' read_mark write_mark e m = (e, m)
@@ -142,7 +142,7 @@ follows_answers most NoMemory before after now events left' read_mark write_mark
 follows_answers most TooManyFrames before after now events left' read_mark write_mark e m = (e, m)
 
 -- if something is unsent, no frame was dropped
-pub is_kept : (stop : Stop) (after now : ConnectionState) → KeptSo stop after now → now.unsent ≢ [] → now ≡ after
+pub is_kept : (stop : Stop) (after now : ConnectionState) → KeptAs stop after now → now.unsent ≢ [] → now ≡ after
 is_kept TooManyFrames after now k n = absurd (n k)
 is_kept Loaded after now k n = k
 is_kept NeedsBytes after now k n = k
@@ -170,8 +170,8 @@ module _ (most : ℕ) (s now : ConnectionState) (piece : List ℕ) (left' : Opti
   begun_then e = subst IsBegun (sym (held_is e)) begun
 
   -- what follows a turn whose last event is the piece that came, by how reading ended
-  pub follows_read : (turn : Turn) (before : ConnectionState) (events : List Event) → ReadsSo most turn s piece now left' read_mark
-      → FollowsSo most turn before (events ++ receives piece ∷ []) with_piece now left' read_mark write_mark
+  pub follows_read : (turn : Turn) (before : ConnectionState) (events : List Event) → ReadsAs most turn s piece now left' read_mark
+      → FollowsAs most turn before (events ++ receives piece ∷ []) with_piece now left' read_mark write_mark
   follows_read GoesOn before events h = (h.1, inr (inl (λ e. h.0 (behind_nothing (received events) piece (sym (flat-more piece_of events (receives piece)) ∙ e)))))
   follows_read LoadedThen before events h = absurd h
   follows_read Waits before events h = (h.2 ∙ nothing_came h.1, inr (h.0, idle h.2))
@@ -218,7 +218,7 @@ module _ (turn : Turn) (bytes : List ℕ) where
     }
 
 -- sending answers no load
-pub sent_loads : (turn : Turn) (bytes : List ℕ) (now : ConnectionState) (mark : Option TryError) → SendsSo (Some turn) bytes now mark → loads_in turn ≡ 0
+pub sent_loads : (turn : Turn) (bytes : List ℕ) (now : ConnectionState) (mark : Option TryError) → SendsAs (Some turn) bytes now mark → loads_in turn ≡ 0
 sent_loads LoadedThen bytes now mark h = absurd h
 sent_loads GoesOn bytes now mark h = refl
 sent_loads Waits bytes now mark h = refl
@@ -230,7 +230,7 @@ pub exchanges_read : (events : List Event) (piece : List ℕ) → exchanges (eve
 exchanges_read events piece = flat-more exchange_of events (receives piece) ∙ append-nil (exchanges events)
 
 -- reading answers no load
-pub read_loads : (turn : Turn) (most : ℕ) (s s' : ConnectionState) (piece : List ℕ) (left' : Option (List ℕ)) (mark : Option TryError) → ReadsSo most turn s piece s' left' mark → loads_in turn ≡ 0
+pub read_loads : (turn : Turn) (most : ℕ) (s s' : ConnectionState) (piece : List ℕ) (left' : Option (List ℕ)) (mark : Option TryError) → ReadsAs most turn s piece s' left' mark → loads_in turn ≡ 0
 read_loads LoadedThen most s s' piece left' mark h = absurd h
 read_loads GoesOn most s s' piece left' mark h = refl
 read_loads Waits most s s' piece left' mark h = refl
@@ -251,7 +251,7 @@ pub some_left : (xs ys : List ℕ) (b : Bool) → b ≡ false → b ≡ (length 
 some_left xs ys b t e x n = let z : false ≡ true = sym t ∙ e ∙ eq-eqb (length xs) 0 (ap length (x ∙ n)) in cc
 
 -- if nothing is unsent, the limit isn't reached, and the last step neither refused a faulty frame nor answered a load
-pub not_full : (limit : ℕ) (stop : Stop) (after now : ConnectionState) → 0 < limit → (stop ≡ Full) ⊎ ((stop ≡ Refused) ⊎ (stop ≡ Loaded)) → StopsSo limit stop after → KeptSo stop after now → now.unsent ≡ [] → ⊥
+pub not_full : (limit : ℕ) (stop : Stop) (after now : ConnectionState) → 0 < limit → (stop ≡ Full) ⊎ ((stop ≡ Refused) ⊎ (stop ≡ Loaded)) → StopsAs limit stop after → KeptAs stop after now → now.unsent ≡ [] → ⊥
 not_full limit Full after now some is (inl s) k u =
     let none : length after.unsent ≡ 0 = ap (λ (t : ConnectionState). length t.unsent) (sym k) ∙ ap length u in
     absurd (omega arith)

@@ -1,10 +1,10 @@
 -- The owners of the open sessions, and which sessions are closed when a connection ends (this project's profile).
 use Rattle.std.specs.Prelude.{◌≡◌, ◌⊎◌, ℕ, ◌==◌, Bool, true, false, not, if◌then◌else◌, List, [], ◌∷◌, ◌++◌, map, filter, fold, Option, Some, None, IsSome}
-use Rattle.compose_wire.specs.Messages.{Body, open_session, close, Answer, opened}
+use Rattle.compose_wire.specs.Messages.{Body, open_session, close, ReplyBody, opened}
 use Rattle.compose_wire.specs.declared.request.Body.{Body as ProgramBody}
 use Rattle.compose_wire.specs.declared.request.Body.TheVariants.{Open, Close}
-use Rattle.compose_wire.specs.declared.reply.Answer.{Answer as ProgramAnswer}
-use Rattle.compose_wire.specs.declared.reply.Answer.TheVariants.{Opened}
+use Rattle.compose_wire.specs.declared.reply.ReplyBody.{ReplyBody as ProgramAnswer}
+use Rattle.compose_wire.specs.declared.reply.ReplyBody.TheVariants.{Opened}
 use Rattle.compose_machine.specs.Machine.{ServiceState, Reading, session_of}
 use Rattle.compose_machine.specs.Laws.{Exchange, IsHistory}
 use Rattle.compose_many.specs.Connection.{Event, closes, exchange_of, exchanges, closings}
@@ -23,7 +23,7 @@ with_owner n c owners = without n owners ++ record { session = n; connection = c
 
 -- the owners after this answer to a request for the session n on the connection c: a session that was opened is owned
 -- by c, and one for which a Close was answered has no owner, whoever opened it
-abbrev pub owners_when : ℕ → ℕ → List Owner → Body → Answer → List Owner
+abbrev pub owners_when : ℕ → ℕ → List Owner → Body → ReplyBody → List Owner
 owners_when c n owners open_session opened = with_owner n c owners
 owners_when c n owners close answer = without n owners
 owners_when c n owners _ _ = owners
@@ -58,8 +58,8 @@ ClosesOwn c owners [] = first_own c owners ≡ None
 ClosesOwn c owners (x ∷ h) = (first_own c owners ≡ Some x.request.session) × (x.request.body ≡ close) × ClosesOwn c (owners_after c owners x) h
 
 -- a Close was answered for each session of the connection c, and nothing else happened
-abbrev pub ClosesSo : ℕ → List Owner → List Owner → Reading → ServiceState → ServiceState → Type 0
-ClosesSo c owners owners' reading old new = (h : List Exchange) × ClosesOwn c owners h × IsHistory reading old h new × (owners' ≡ owners_by c owners h)
+abbrev pub ClosesAs : ℕ → List Owner → List Owner → Reading → ServiceState → ServiceState → Type 0
+ClosesAs c owners owners' reading old new = (h : List Exchange) × ClosesOwn c owners h × IsHistory reading old h new × (owners' ≡ owners_by c owners h)
 
 -- the connection c ended, and then a Close was answered for each of its open sessions, in the order in which they were
 -- opened; no session was closed for it before, and nothing happened on it later

@@ -5,13 +5,13 @@ use Rattle.compose_wire.specs.Frames.{IsBegun}
 use Rattle.compose_machine.specs.Machine.{ServiceState, Reading}
 use Rattle.compose_machine.specs.Laws.{IsHistory}
 use Rattle.compose_many.specs.Connection.{ConnectionState, Event, AllHappen, received, exchanges, closings, sent, loads, max_piece}
-use Rattle.compose_many.specs.Ends.{IsQuiet, EndsSo}
+use Rattle.compose_many.specs.Ends.{IsQuiet, EndsAs}
 use Rattle.compose_many.specs.Streams.{is_failed}
 use Rattle.compose_many.specs.Owners.{owners_by}
 use Rattle.compose_many.specs.declared.owners.Owner.{Owner}
 use Rattle.compose_many.specs.declared.streams.TryError.{TryError}
 use Rattle.compose_many.specs.declared.streams.TryError.TheVariants.{WouldBlock}
-use Rattle.compose_many.specs.declared.turn.Limits.{Limits}
+use Rattle.compose_many.specs.declared.turn.TurnLimits.{TurnLimits}
 use Rattle.compose_many.specs.declared.turn.Turn.{Turn}
 use Rattle.compose_many.specs.declared.turn.Turn.TheVariants.{GoesOn, Loaded, Waits, NeedsRoom, Ends}
 
@@ -34,13 +34,13 @@ IsIdle now = IsBegun now.held × IsQuiet now
 -- what follows a turn: unless it ends, the connection is as the events leave it. If it goes on, there was something to
 -- do. If it waits, the writer takes nothing for now, or the reader has no bytes and there is nothing else to do. If it
 -- needs room, the limit of held bytes is reached and there is nothing else to do. Or it ends, in this way
-abbrev pub FollowsSo : ℕ → Turn → ConnectionState → List Event → ConnectionState → ConnectionState → Option (List ℕ) → Option TryError → Option TryError → Type 0
-FollowsSo most GoesOn before events after now left' read_mark write_mark = (now ≡ after) × Moves before events after
-FollowsSo most Loaded before events after now left' read_mark write_mark = (now ≡ after) × Moves before events after
-FollowsSo most Waits before events after now left' read_mark write_mark =
+abbrev pub FollowsAs : ℕ → Turn → ConnectionState → List Event → ConnectionState → ConnectionState → Option (List ℕ) → Option TryError → Option TryError → Type 0
+FollowsAs most GoesOn before events after now left' read_mark write_mark = (now ≡ after) × Moves before events after
+FollowsAs most Loaded before events after now left' read_mark write_mark = (now ≡ after) × Moves before events after
+FollowsAs most Waits before events after now left' read_mark write_mark =
     (now ≡ after) × (((write_mark ≡ Some WouldBlock) × (now.unsent ≢ [])) ⊎ ((read_mark ≡ Some WouldBlock) × IsIdle now))
-FollowsSo most NeedsRoom before events after now left' read_mark write_mark = (now ≡ after) × (most ≤ length now.held) × IsIdle now
-FollowsSo most (Ends end) before events after now left' read_mark write_mark = EndsSo end left' (is_failed read_mark) (is_failed write_mark) after
+FollowsAs most NeedsRoom before events after now left' read_mark write_mark = (now ≡ after) × (most ≤ length now.held) × IsIdle now
+FollowsAs most (Ends end) before events after now left' read_mark write_mark = EndsAs end left' (is_failed read_mark) (is_failed write_mark) after
 
 -- the number of loads that a turn answers
 abbrev pub loads_in : Turn → ℕ
@@ -56,9 +56,9 @@ pub record IsShort (turn : Turn) (events : List Event) : Type 0 where
 
 -- a turn is a list of events of the connection with this number, where the limit 0 counts as 1. The number of held
 -- bytes stays bounded if it was, and the sessions have the owners that follow from these events
-abbrev pub TurnSo : Limits → Reading → Turn → ServiceState → ServiceState → ConnectionState → ConnectionState
+abbrev pub TurnAs : TurnLimits → Reading → Turn → ServiceState → ServiceState → ConnectionState → ConnectionState
     → Option (List ℕ) → Option (List ℕ) → Option (List ℕ) → Option (List ℕ) → Option TryError → Option TryError → ℕ → List Owner → List Owner → Type 0
-TurnSo limits reading turn old new before now left left' written written' read_mark write_mark number owners owners' =
+TurnAs limits reading turn old new before now left left' written written' read_mark write_mark number owners owners' =
     (events : List Event) × (after : ConnectionState) × IsTurn (max limits.unsent 1) reading old new before after left left' written written' events
     × IsShort turn events × (length before.held < limits.held + max_piece → length after.held < limits.held + max_piece)
-    × FollowsSo limits.held turn before events after now left' read_mark write_mark × (owners' ≡ owners_by number owners (exchanges events))
+    × FollowsAs limits.held turn before events after now left' read_mark write_mark × (owners' ≡ owners_by number owners (exchanges events))

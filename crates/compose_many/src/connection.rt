@@ -4,10 +4,10 @@ ghost use Rattle.std.specs.Prelude.{◌≡◌, ◌≢◌, ◌+◌, ◌<◌, ◌�
 ghost use Rattle.compose_wire.specs.Requests.{request_of};
 ghost use Rattle.compose_machine.specs.Laws.{is_load};
 ghost use Rattle.compose_many.specs.Connection.{Sends, max_reply};
-ghost use Rattle.compose_many.specs.Steps.{ComesSo, HasRoom, HasSpace, NextSo, AnswersSo, after_reply};
+ghost use Rattle.compose_many.specs.Steps.{IsNextRequest, HasRoom, HasSpace, NextAs, AnswersAs, after_reply};
 
 use crate::owners::{Owner, note};
-use compose_serve::Answer;
+use compose_serve::Responder;
 use compose_wire::{Body, Feeder, Request, WireFault, put_reply};
 use std::alloc::Global;
 use std::marker::Model;
@@ -120,7 +120,7 @@ impl Connection {
     /// Memory for the reply and for the owner of a session is reserved first, so that no request is
     /// answered whose reply or owner can't be kept. `number` is the number of this connection: a
     /// session that is opened is owned by it.
-    fn answer_next<S: Answer>(
+    fn answer_next<S: Responder>(
         &mut self,
         service: &mut S,
         owners: &mut Vec<Owner>,
@@ -129,7 +129,7 @@ impl Connection {
         number: u64,
     ) -> Result<(), Stop>
         requires { self.old.refused ≡ false }
-        ensures { NextSo limit number owners.old.items owners.new.items S.reading
+        ensures { NextAs limit number owners.old.items owners.new.items S.reading
             (S.state service.old) (S.state service.new) self.old self.new result }
     {
         if self.unsent.len() >= limit {
@@ -160,7 +160,7 @@ impl Connection {
 
     /// Answers the requests that are held, in order, until one load is answered or the limit of
     /// unsent bytes is reached. Returns why it stopped.
-    pub(crate) fn answer_held<S: Answer>(
+    pub(crate) fn answer_held<S: Responder>(
         &mut self,
         service: &mut S,
         owners: &mut Vec<Owner>,
@@ -169,7 +169,7 @@ impl Connection {
         number: u64,
     ) -> Stop
         requires { self.old.refused ≡ false }
-        ensures { AnswersSo limit number owners.old.items owners.new.items S.reading
+        ensures { AnswersAs limit number owners.old.items owners.new.items S.reading
             (S.state service.old) (S.state service.new) self.old self.new result }
     {
         'answers: loop {
@@ -199,7 +199,7 @@ fn first_request(
     owners: &mut Vec<Owner>,
     alloc: Global,
 ) -> Result<Request, Stop>
-    ensures so { ComesSo result feeder.old feeder.new }
+    ensures so { IsNextRequest result feeder.old feeder.new }
     ensures items { unsent.new.items ≡ unsent.old.items }
     ensures room { HasRoom result (vec_len unsent.new) (vec_capacity unsent.new) }
     ensures owners { owners.new.items ≡ owners.old.items }

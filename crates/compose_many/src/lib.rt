@@ -36,4 +36,4 @@ pub use numbered::{Streams, law_streams};
 pub use owners::{Owner, close_own};
 pub use streams::{TryError, TryPull, TryPush};
 pub use table::StreamTable;
-pub use turn::{Limits, Turn, turn_on};
+pub use turn::{Turn, TurnLimits, turn_on};

@@ -3,10 +3,10 @@ ghost use Rattle.std.specs.Prelude.{◌≡◌, ◌<◌, ◌≤◌, not, ◌==◌
 ghost use Rattle.compose_wire.specs.Messages.{close};
 ghost use Rattle.compose_machine.specs.Machine.{Step};
 ghost use Rattle.compose_machine.specs.Laws.{Exchange};
-ghost use Rattle.compose_many.specs.Owners.{without, with_owner, owners_noted, first_own, ClosesSo};
+ghost use Rattle.compose_many.specs.Owners.{without, with_owner, owners_noted, first_own, ClosesAs};
 
-use compose_serve::Answer;
-use compose_wire::{Answer as Answered, Body, Reply, Request};
+use compose_serve::Responder;
+use compose_wire::{Body, Reply, ReplyBody as Answered, Request};
 use std::alloc::Global;
 
 /// An open session, and the connection on which it was opened.
@@ -87,8 +87,8 @@ fn first_own(owners: &[Owner], number: u64) -> Option<u32>
 ///
 /// Afterwards the connection owns no session. O(sessions of the connection × owners), plus the cost
 /// of the answers.
-pub fn close_own<A: Answer>(owners: &mut Vec<Owner>, service: &mut A, alloc: Global, number: u64)
-    ensures { ClosesSo number owners.old.items owners.new.items A.reading (A.state service.old) (A.state service.new) }
+pub fn close_own<A: Responder>(owners: &mut Vec<Owner>, service: &mut A, alloc: Global, number: u64)
+    ensures { ClosesAs number owners.old.items owners.new.items A.reading (A.state service.old) (A.state service.new) }
 {
     'sessions: loop {
         let Some(session) = first_own(owners.as_slice(), number) else {
@@ -99,7 +99,7 @@ pub fn close_own<A: Answer>(owners: &mut Vec<Owner>, service: &mut A, alloc: Glo
 }
 
 /// Answers a Close of this session, and drops the reply.
-fn close<A: Answer>(owners: &mut Vec<Owner>, service: &mut A, alloc: Global, session: u32)
+fn close<A: Responder>(owners: &mut Vec<Owner>, service: &mut A, alloc: Global, session: u32)
     ensures so { (x : Exchange) × (x.request.session ≡ session) × (x.request.body ≡ close)
         × Step A.reading (A.state service.old) x.request x.reply (A.state service.new) }
     ensures owners { owners.new.items ≡ without session owners.old.items }

@@ -2,15 +2,15 @@
 ghost use Rattle.std.specs.Prelude.{◌≡◌, ◌≢◌, ◌+◌, ◌<◌, ◌≤◌, ℕ, List, [], false, length, max, Err, Some};
 ghost use Rattle.std.specs.Io.KnownBytes.{Consumes, Appends};
 ghost use Rattle.compose_many.specs.Connection.{Sends};
-ghost use Rattle.compose_many.specs.Steps.{SendsSo, EndsAt, IsRoomFor, ReadsSo, behind_answers};
-ghost use Rattle.compose_many.specs.Turns.{TurnSo};
+ghost use Rattle.compose_many.specs.Steps.{SendsAs, EndsAt, IsRoomFor, ReadsAs, behind_answers};
+ghost use Rattle.compose_many.specs.Turns.{TurnAs};
 ghost use Rattle.compose_many.specs.Numbered.{OthersStay, ReaderStays, WriterStays};
 
 use crate::connection::{Connection, Stop};
 use crate::numbered::Streams;
 use crate::owners::Owner;
 use crate::streams::TryError;
-use compose_serve::{Answer, Ended, ServeFault};
+use compose_serve::{Responder, ServeFault, StreamEnd};
 use std::alloc::Global;
 
 /// The most bytes that are read at once.
@@ -18,7 +18,7 @@ const PIECE: usize = 4096;
 
 /// The limits of what is kept of a connection, in bytes.
 #[derive(Clone, Copy, Debug, PartialEq, Eq, Drop)]
-pub struct Limits {
+pub struct TurnLimits {
     /// No request is answered while this many bytes or more are unsent. 0 counts as 1: then a
     /// request is answered only if nothing is unsent.
     pub unsent: usize,
@@ -38,7 +38,7 @@ pub enum Turn {
     /// The limit of held bytes is reached, and they are less than a frame: nothing was read.
     NeedsRoom,
     /// The connection has ended, in this way.
-    Ends(Result<Ended, ServeFault>),
+    Ends(Result<StreamEnd, ServeFault>),
 }
 
 /// Sends what is unsent, answers what is held up to one load, and reads a piece if all is answered
@@ -63,16 +63,16 @@ pub enum Turn {
 ///
 /// A turn costs as much as its answers, and is linear in the bytes that it moves; an Open or a
 /// Close costs O(owners) on top of that.
-pub fn turn_on<M: Streams, A: Answer>(
+pub fn turn_on<M: Streams, A: Responder>(
     streams: &mut M,
     connection: &mut Connection,
     service: &mut A,
     owners: &mut Vec<Owner>,
     alloc: Global,
-    limits: Limits,
+    limits: TurnLimits,
     number: u64,
 ) -> Turn
-    ensures turn { TurnSo limits A.reading result (A.state service.old)
+    ensures turn { TurnAs limits A.reading result (A.state service.old)
         (A.state service.new) connection.old connection.new (M.stream streams.old number).left
         (M.stream streams.new number).left (M.stream streams.old number).written
         (M.stream streams.new number).written (M.stream streams.new number).read_mark
@@ -87,7 +87,7 @@ pub fn turn_on<M: Streams, A: Answer>(
         return turn;
     }
     if connection.is_refused() {
-        return Turn::Ends(Ok(Ended::Malformed));
+        return Turn::Ends(Ok(StreamEnd::Malformed));
     }
     let stop = connection.answer_held(service, owners, alloc, limits.unsent.max(1), number);
     if !connection.unsent().is_empty() {
@@ -115,7 +115,7 @@ fn behind_answers(stop: Stop) -> Turn
 fn send_on<M: Streams>(connection: &mut Connection, streams: &mut M, number: u64) -> Option<Turn>
     ensures so { (bytes : List ℕ) × Sends connection.old bytes connection.new
         × Appends (M.stream streams.old number).written (M.stream streams.new number).written bytes
-        × SendsSo result bytes connection.new (M.stream streams.new number).write_mark }
+        × SendsAs result bytes connection.new (M.stream streams.new number).write_mark }
     ensures mark { result ≢ Some Turn.Waits → result ≢ Some (Turn.Ends (Err ServeFault.Write))
         → (M.stream streams.new number).write_mark ≡ (M.stream streams.old number).write_mark }
     ensures stays { ReaderStays (M.stream streams.old number) (M.stream streams.new number) }
@@ -145,7 +145,7 @@ fn read_on<M: Streams>(
     ensures so { (piece : List ℕ)
         × Consumes (M.stream streams.old number).left (M.stream streams.new number).left piece
         × IsRoomFor most connection.old.held piece
-        × ReadsSo most result connection.old piece connection.new
+        × ReadsAs most result connection.old piece connection.new
         (M.stream streams.new number).left (M.stream streams.new number).read_mark }
     ensures mark { result ≢ Turn.Waits → result ≢ Turn.Ends (Err ServeFault.Read)
         → (M.stream streams.new number).read_mark ≡ (M.stream streams.old number).read_mark }
@@ -168,11 +168,11 @@ fn read_on<M: Streams>(
 }
 
 /// Returns how a connection ends at its stream's end, if `held` bytes are held.
-fn at_end(held: usize) -> Result<Ended, ServeFault>
+fn at_end(held: usize) -> Result<StreamEnd, ServeFault>
     ensures { EndsAt held result }
 {
     if held == 0 {
-        Ok(Ended::InputEnd)
+        Ok(StreamEnd::InputEnd)
     } else {
         Err(ServeFault::Cut)
     }

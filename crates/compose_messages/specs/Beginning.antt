@@ -8,13 +8,13 @@ use Rattle.compose_lex.specs.declared.LexFault.{LexFault}
 use Rattle.compose_messages.specs.Places.{text_or_nothing}
 
 -- the line is a production or an include; none for a blank line or a comment
-abbrev pub says_table : Result Reading LexFault → Option Bool
-says_table (Ok blank) = None
-says_table (Ok reading) = Some true
-says_table (Err fault) = Some false
+abbrev pub is_table_reading : Result Reading LexFault → Option Bool
+is_table_reading (Ok blank) = None
+is_table_reading (Ok reading) = Some true
+is_table_reading (Err fault) = Some false
 
 abbrev pub line_of_table : List ℕ → Option Bool
-line_of_table line = says_table (reading_of (text_or_nothing line))
+line_of_table line = is_table_reading (reading_of (text_or_nothing line))
 
 -- the first of the lines that is not blank and not a comment is a line of a Compose file
 abbrev pub begin_as_table : List (List ℕ) → Bool

@@ -55,27 +55,27 @@ position_text (Some p) = 58 ∷ (decimal p.line ++ 58 ∷ decimal p.column)
 
 -- the path, the position and the message
 abbrev pub file_text : FileMessage → List ℕ
-file_text told = codes "composecheck: " ++ shown_text told.path.now ++ position_text told.position ++ codes ": " ++ message_text told.message
+file_text reported = codes "composecheck: " ++ shown_text reported.path.now ++ position_text reported.position ++ codes ": " ++ message_text reported.message
 
 -- ---- the message for a fault of a source
 
-abbrev pub lex_said : List ℕ → LexFault → List ℕ
-lex_said line (BadToken at) = expecting (expected_after (take at line)) (found_at line at)
-lex_said line (ModifierList at) = if is_modifier (found_at line at) then codes "a modifier list stands here, which is not supported" else expecting (expected_after (take at line)) (found_at line at)
-lex_said line (UnclosedString at) = codes "the string is not closed"
-lex_said line (UnknownEscape at) = codes "the backslash begins no escape"
-lex_said line (BadCode at) = codes "the code is that of no byte from 1 to 255"
-lex_said line NoResult = codes "neither a string nor the name of a keysym follows the colon"
-lex_said line TooManyKeysyms = codes "a sequence has at most 32 keysyms"
-lex_said line EmptyText = codes "the string is empty"
-lex_said line TextTooLong = codes "the string has more than 255 bytes"
-lex_said line TextNotUtf8 = codes "the string is not UTF-8"
-lex_said line fault = codes "out of memory"
+abbrev pub lex_message_text : List ℕ → LexFault → List ℕ
+lex_message_text line (BadToken at) = expecting (expected_after (take at line)) (found_at line at)
+lex_message_text line (ModifierList at) = if is_modifier (found_at line at) then codes "a modifier list stands here, which is not supported" else expecting (expected_after (take at line)) (found_at line at)
+lex_message_text line (UnclosedString at) = codes "the string is not closed"
+lex_message_text line (UnknownEscape at) = codes "the backslash begins no escape"
+lex_message_text line (BadCode at) = codes "the code is that of no byte from 1 to 255"
+lex_message_text line NoResult = codes "neither a string nor the name of a keysym follows the colon"
+lex_message_text line TooManyKeysyms = codes "a sequence has at most 32 keysyms"
+lex_message_text line EmptyText = codes "the string is empty"
+lex_message_text line TextTooLong = codes "the string has more than 255 bytes"
+lex_message_text line TextNotUtf8 = codes "the string is not UTF-8"
+lex_message_text line fault = codes "out of memory"
 
 -- more than eight includes lead to the file of this name, and the last of them is in the file `own`, in a table with
 -- this number of files: with at most nine files, one of the ten files on that way occurs twice
-abbrev pub depth_said : ℕ → List ℕ → List ℕ → List ℕ
-depth_said count own name =
+abbrev pub depth_message_text : ℕ → List ℕ → List ℕ → List ℕ
+depth_message_text count own name =
     if bytes_eq own name then quoting (codes "the includes go in a circle: this file includes itself, as ") name else
     if nat_le count 9 then quoting (codes "the includes go in a circle: more than eight lead to the file ") name else
     quoting (codes "more than eight includes lead to the file ") name
@@ -85,21 +85,21 @@ abbrev pub name_of : List Source → ℕ → List ℕ
 name_of sources source = option_map_or (λ (s : Source). s.name) (slice_get sources source) []
 
 -- for a fault in this line
-abbrev pub line_said : List ℕ → ReadFault → List ℕ
-line_said line MissingRoot = codes "the manifest lists no file"
-line_said line (NotUtf8 s l) = codes "the line is not UTF-8"
-line_said line (Lex s l fault) = lex_said line fault
-line_said line (UnknownKeysym s l index) = naming (codes "no keysym has the name ") (named line index)
-line_said line (IgnoredKeysym s l index) = naming (codes "a sequence can't have an ignored keysym, as ") (named line index)
-line_said line (MissingInclude s l) = quoting (codes "the manifest does not list the included file ") (named line 0)
-line_said line (TooManyLines s l) = codes "more than 1,000,000 lines are read"
-line_said line (TooManyDefinitions s l) = codes "more than 100,000 sequences are defined"
-line_said line fault = codes "out of memory"
+abbrev pub line_message : List ℕ → ReadFault → List ℕ
+line_message line MissingRoot = codes "the manifest lists no file"
+line_message line (NotUtf8 s l) = codes "the line is not UTF-8"
+line_message line (Lex s l fault) = lex_message_text line fault
+line_message line (UnknownKeysym s l index) = naming (codes "no keysym has the name ") (named line index)
+line_message line (IgnoredKeysym s l index) = naming (codes "a sequence can't have an ignored keysym, as ") (named line index)
+line_message line (MissingInclude s l) = quoting (codes "the manifest does not list the included file ") (named line 0)
+line_message line (TooManyLines s l) = codes "more than 1,000,000 lines are read"
+line_message line (TooManyDefinitions s l) = codes "more than 100,000 sequences are defined"
+line_message line fault = codes "out of memory"
 
 -- the line that has a fault, or nothing
 abbrev pub fault_line : List Source → ReadFault → List ℕ
 fault_line sources fault = option_map_or (λ at. line_at sources at.0 at.1) (line_of fault) []
 
-abbrev pub read_said : List Source → ReadFault → List ℕ
-read_said sources (IncludeDepth s l) = depth_said (length sources) (name_of sources s) (named (line_at sources s l) 0)
-read_said sources fault = line_said (fault_line sources fault) fault
+abbrev pub read_message_text : List Source → ReadFault → List ℕ
+read_message_text sources (IncludeDepth s l) = depth_message_text (length sources) (name_of sources s) (named (line_at sources s l) 0)
+read_message_text sources fault = line_message (fault_line sources fault) fault

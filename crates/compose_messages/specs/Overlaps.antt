@@ -10,5 +10,5 @@ event names k = 32 ∷ 60 ∷ (printed names k ++ 62 ∷ [])
 abbrev pub events : KeysymNames → List ℕ → List ℕ
 events names sequence = flat_map (event names) sequence
 
-abbrev pub overlap_said : KeysymNames → List ℕ → List ℕ → List ℕ
-overlap_said names short long = codes "the sequence" ++ events names short ++ codes " is a prefix of the sequence" ++ events names long
+abbrev pub overlap_message : KeysymNames → List ℕ → List ℕ → List ℕ
+overlap_message names short long = codes "the sequence" ++ events names short ++ codes " is a prefix of the sequence" ++ events names long

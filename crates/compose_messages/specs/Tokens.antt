@@ -41,9 +41,9 @@ abbrev pub expected_after_string : List ℕ → List ℕ
 expected_after_string before = if begins_production before then codes "the name of a keysym or the end of the line" else codes "the end of the line"
 
 -- after the token that ends with this byte: `<`, `>`, `:`, a quote (codes 60, 62, 58 and 34), or a byte of a name
-abbrev pub expected_behind : List ℕ → Option ℕ → List ℕ
-expected_behind before None = codes "\"<\" or the word include"
-expected_behind before (Some b) =
+abbrev pub expected_after_token : List ℕ → Option ℕ → List ℕ
+expected_after_token before None = codes "\"<\" or the word include"
+expected_after_token before (Some b) =
     if b == 60 then codes "the name of a keysym" else
     if b == 62 then codes "\":\" or \"<\"" else
     if b == 58 then codes "a string or the name of a keysym" else
@@ -51,7 +51,7 @@ expected_behind before (Some b) =
 
 -- what may follow these bytes of a line
 abbrev pub expected_after : List ℕ → List ℕ
-expected_after before = expected_behind before (last_solid None before)
+expected_after before = expected_after_token before (last_solid None before)
 
 -- ---- what is found
 

@@ -4,7 +4,7 @@ ghost use Rattle.compose_messages.specs.Beginning as words;
 
 use crate::lines::text_or_nothing;
 use arrayvec::ArrayVec;
-use compose_lex::{Said, lex_line_into};
+use compose_lex::{LineContent, lex_line_into};
 use compose_text::first_line;
 
 /// Whether the first line that is not blank and not a comment is a production or an include.
@@ -28,7 +28,7 @@ fn line_of_table(line: &[u8]) -> Option<bool>
 {
     let mut events = ArrayVec::new();
     match lex_line_into(text_or_nothing(line), &mut events) {
-        Ok(Said::Blank) => None,
+        Ok(LineContent::Blank) => None,
         Ok(_) => Some(true),
         Err(_) => Some(false),
     }

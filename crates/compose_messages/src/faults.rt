@@ -21,7 +21,7 @@ pub struct FaultWords {
 /// Returns the message for a fault of a header of names.
 pub fn name_words(fault: &NameFault) -> FaultWords
     ensures line { result.line ≡ faults.name_line fault.now }
-    ensures words { result.words.now ≡ faults.name_said fault.now }
+    ensures words { result.words.now ≡ faults.name_message fault.now }
 {
     let (line, words) = match fault {
         NameFault::NotUtf8 { line } => (Some(*line), "the line is not UTF-8"),
@@ -45,7 +45,7 @@ pub fn name_words(fault: &NameFault) -> FaultWords
 /// Returns the message for a fault of a certificate's text.
 pub fn certificate_words(fault: &CertFault) -> FaultWords
     ensures line { result.line ≡ faults.certificate_line fault.now }
-    ensures words { result.words.now ≡ faults.certificate_said fault.now }
+    ensures words { result.words.now ≡ faults.certificate_message fault.now }
 {
     let (line, words) = match fault {
         CertFault::NotText { line } => (
@@ -61,7 +61,7 @@ pub fn certificate_words(fault: &CertFault) -> FaultWords
 /// Returns the message for a fault of a repertoire.
 pub fn repertoire_words(fault: &RepertoireFault) -> FaultWords
     ensures line { result.line ≡ faults.repertoire_line fault.now }
-    ensures words { result.words.now ≡ faults.repertoire_said fault.now }
+    ensures words { result.words.now ≡ faults.repertoire_message fault.now }
 {
     let (line, words) = match fault {
         RepertoireFault::BadLine { line } => (
@@ -80,7 +80,7 @@ pub fn repertoire_words(fault: &RepertoireFault) -> FaultWords
 /// Returns the message for a fault of a manifest.
 pub fn manifest_words(fault: &ManifestFault) -> FaultWords
     ensures line { result.line ≡ faults.manifest_line fault.now }
-    ensures words { result.words.now ≡ faults.manifest_said fault.now }
+    ensures words { result.words.now ≡ faults.manifest_message fault.now }
 {
     let (line, words) = match fault {
         ManifestFault::BadLine { line } => (
@@ -96,7 +96,7 @@ pub fn manifest_words(fault: &ManifestFault) -> FaultWords
 /// Returns the message for a file that a manifest lists, but that is not among the sources of its
 /// table.
 pub fn source_words(fault: SourceFault) -> &'static str
-    ensures { result.now ≡ faults.source_said fault }
+    ensures { result.now ≡ faults.source_message fault }
 {
     match fault {
         SourceFault::NameTaken => "two entries have the same name",
@@ -107,7 +107,7 @@ pub fn source_words(fault: SourceFault) -> &'static str
 
 /// Returns the message for a file that can't be opened.
 pub fn open_words(kind: io::ErrorKind) -> &'static str
-    ensures { result.now ≡ faults.open_said kind }
+    ensures { result.now ≡ faults.open_message kind }
 {
     match kind {
         io::ErrorKind::NotFound => "no such file",
@@ -119,7 +119,7 @@ pub fn open_words(kind: io::ErrorKind) -> &'static str
 
 /// Returns the message for a socket that can't be used.
 pub fn socket_words(kind: io::ErrorKind) -> &'static str
-    ensures { result.now ≡ faults.socket_said kind }
+    ensures { result.now ≡ faults.socket_message kind }
 {
     match kind {
         io::ErrorKind::NotFound => "no such file",

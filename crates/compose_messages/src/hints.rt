@@ -9,7 +9,7 @@ use crate::lines::{nth_line, source_line, text_or_nothing};
 use crate::tokens::{contains, is_blank, named};
 use arrayvec::ArrayVec;
 use compose_cert::{CertFault, RepertoireFault};
-use compose_lex::{LexFault, Said, lex_line_into};
+use compose_lex::{LexFault, LineContent, lex_line_into};
 use compose_manifest::ManifestFault;
 use compose_read::{ReadFault, SettleFault, Sources};
 use compose_shown::Shown;
@@ -352,7 +352,7 @@ fn is_table_line(line: &[u8]) -> bool
 {
     let mut events = ArrayVec::new();
     match lex_line_into(text_or_nothing(line), &mut events) {
-        Ok(Said::Production { .. } | Said::Include(_)) => true,
+        Ok(LineContent::Production { .. } | LineContent::Include(_)) => true,
         _ => false,
     }
 }

@@ -110,7 +110,7 @@ impl fmt::Display for FileMessage<'_> {
     ghost use Rattle.std.specs.Prelude.{Some};
     ghost use Rattle.compose_messages.specs.Messages.{file_text};
 
-    ghost output = { λ told. Some (file_text told) };
+    ghost output = { λ reported. Some (file_text reported) };
 
     fn fmt<W: fmt::Write>(&self, f: &mut fmt::Formatter<W>) -> fmt::Result {
         let (path, message) = (Shown(self.path), self.message);

@@ -5,7 +5,7 @@ ghost use Rattle.compose_messages.specs.Places as places;
 
 use crate::lines::text_or_nothing;
 use arrayvec::ArrayVec;
-use compose_lex::{LexFault, Said, lex_line_into};
+use compose_lex::{LexFault, LineContent, lex_line_into};
 use compose_read::ReadFault;
 use compose_text::blank_len;
 
@@ -83,8 +83,8 @@ fn keysym_offset(line: &[u8], index: usize) -> usize
 {
     let mut events = ArrayVec::new();
     match lex_line_into(text_or_nothing(line), &mut events) {
-        Ok(Said::Production { .. }) if index < events.len() => nth_of(b'<', index, line),
-        Ok(Said::Production { raw_text, .. }) => result_offset(line, raw_text),
+        Ok(LineContent::Production { .. }) if index < events.len() => nth_of(b'<', index, line),
+        Ok(LineContent::Production { raw_text, .. }) => result_offset(line, raw_text),
         _ => 0,
     }
 }

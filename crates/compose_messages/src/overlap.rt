@@ -15,7 +15,7 @@ pub fn overlap_words(
     long: &[Keysym],
 ) -> Result<String, AllocError>
     ensures { IfOk result
-        (λ text. string_bytes text ≡ overlaps.overlap_said names.now short.now long.now) }
+        (λ text. string_bytes text ≡ overlaps.overlap_message names.now short.now long.now) }
 {
     let mut text = String::from_str(alloc, "the sequence")?;
     push_events(alloc, &mut text, names, short)?;

@@ -1,7 +1,7 @@
 //! Messages for the faults of sources.
 ghost use Rattle.std.specs.Prelude.{◌≡◌, take};
 ghost use Rattle.compose_messages.specs.Messages as messages;
-ghost use Rattle.compose_messages.specs.Messages.{message_text, lex_said, read_said, fault_line, expecting};
+ghost use Rattle.compose_messages.specs.Messages.{message_text, lex_message_text, read_message_text, fault_line, expecting};
 ghost use Rattle.compose_messages.specs.Tokens as tokens;
 ghost use Rattle.compose_messages.specs.Tokens.{expected_after};
 
@@ -15,7 +15,7 @@ use compose_read::{ReadFault, Sources};
 /// Returns the message for a fault of these sources: what is wrong, or what was expected and what
 /// was found. O(bytes of its source).
 pub fn read_message<'a>(sources: &'a Sources, fault: &ReadFault) -> Message<'a>
-    ensures { message_text result ≡ read_said sources.now fault.now }
+    ensures { message_text result ≡ read_message_text sources.now fault.now }
 {
     let line = fault_line(sources, fault);
     match fault {
@@ -57,7 +57,7 @@ fn name_of(sources: &Sources, source: usize) -> &str
 /// is in the file `own`. `count` is the number of files of the table. Such a chain has ten files,
 /// so with nine or fewer one of them occurs twice.
 fn depth_message<'a>(count: usize, own: &str, name: &'a str) -> Message<'a>
-    ensures { message_text result ≡ messages.depth_said count own.now name.now }
+    ensures { message_text result ≡ messages.depth_message_text count own.now name.now }
 {
     if own == name {
         Message::Quoting(
@@ -97,7 +97,7 @@ fn token_message(line: &[u8], at: usize) -> Message<'_>
 
 /// Returns the message for the fault of a line.
 fn lex_message<'a>(line: &'a [u8], fault: &LexFault) -> Message<'a>
-    ensures { message_text result ≡ lex_said line.now fault.now }
+    ensures { message_text result ≡ lex_message_text line.now fault.now }
 {
     match fault {
         LexFault::BadToken { at } => token_message(line, *at),

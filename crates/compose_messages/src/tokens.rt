@@ -9,7 +9,7 @@ ghost use Rattle.compose_messages.specs.Tokens as tokens;
 use crate::lines::text_or_nothing;
 use crate::offsets::begins_character;
 use arrayvec::ArrayVec;
-use compose_lex::{Said, lex_line_into};
+use compose_lex::{LineContent, lex_line_into};
 use compose_text::{blank_len, name_len};
 
 /// Returns the name of the event with this index, or of the result keysym; for an include, the raw
@@ -19,8 +19,8 @@ pub(crate) fn named(line: &[u8], index: usize) -> &str
 {
     let mut events = ArrayVec::new();
     match lex_line_into(text_or_nothing(line), &mut events) {
-        Ok(Said::Include(raw)) => raw,
-        Ok(Said::Production { result_name, .. }) => {
+        Ok(LineContent::Include(raw)) => raw,
+        Ok(LineContent::Production { result_name, .. }) => {
             if index < events.len() {
                 events[index]
             } else {

@@ -9,17 +9,17 @@ use Rattle.keysym_core.specs.declared.fault.NameFault.TheVariants as name_faults
 use Rattle.compose_model.specs.Table.{Definition}
 use Rattle.compose_migration.specs.Keys.{keys_of}
 use Rattle.compose_migration.specs.Migration.{GivenMigration, NamedParts, Parts, NoMigration, no_names, no_key, or_because, named, migration_of, table_of_side}
-use Rattle.compose_migration.specs.MigrationGives.{MigrationRefused, MigrationGives}
+use Rattle.compose_migration.specs.MigrationReturns.{MigrationRefused, MigrationReturns}
 use Rattle.compose_migration.specs.declared.fault.Side.TheVariants as sides
 use Rattle.compose_migration.specs.declared.fault.MigrationFault.{MigrationFault}
 use Rattle.compose_migration.specs.declared.fault.MigrationFault.TheVariants as faults
 
 -- this is read
 abbrev pub IsRead : {A : Type 0} → Result A NoMigration → A → Type 0
-IsRead {A} said x = (a : A) × (said ≡ Ok a) × (a ≡ x)
+IsRead {A} expected x = (a : A) × (expected ≡ Ok a) × (a ≡ x)
 
-is_read : {A : Type 0} (said : Result A NoMigration) (x : A) → IsRead said x → said ≡ Ok x
-is_read said x h = h.1 ∙ ap (λ a. Ok a) h.2
+is_read : {A : Type 0} (expected : Result A NoMigration) (x : A) → IsRead expected x → expected ≡ Ok x
+is_read expected x h = h.1 ∙ ap (λ a. Ok a) h.2
 
 -- a fault of one step is the fault of the whole
 step_refused : {A B : Type 0} (fault : MigrationFault) (r : Result A NoMigration) (f : A → Result B NoMigration) → MigrationRefused fault r → MigrationRefused fault (r >>= f)
@@ -34,10 +34,10 @@ step_refused (faults.Table side fault) r f h = (h.0, ap (λ r. r >>= f) h.1, h.2
 step_refused faults.NoMemory r f h = tt
 
 -- a result that is this fault has the properties of the fault
-pub fault_gives : {P A : Type 0} (reads : P → A → Type 0) (r : Result A MigrationFault) (fault : MigrationFault) (said : Result P NoMigration) → IsErrAnd r (λ e. e ≡ fault)
-    → MigrationRefused fault said → MigrationGives reads r said
-fault_gives reads (Ok x) fault said h g = absurd h
-fault_gives reads (Err e) fault said h g = subst (λ (x : MigrationFault). MigrationRefused x said) (sym h) g
+pub fault_gives : {P A : Type 0} (reads : P → A → Type 0) (r : Result A MigrationFault) (fault : MigrationFault) (expected : Result P NoMigration) → IsErrAnd r (λ e. e ≡ fault)
+    → MigrationRefused fault expected → MigrationReturns reads r expected
+fault_gives reads (Ok x) fault expected h g = absurd h
+fault_gives reads (Err e) fault expected h g = subst (λ (x : MigrationFault). MigrationRefused x expected) (sym h) g
 
 -- ---- names and keysyms
 

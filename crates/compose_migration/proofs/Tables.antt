@@ -5,15 +5,15 @@ use Rattle.compose_model.specs.Table.{Definition}
 use Rattle.compose_read.specs.declared.ReadFault.{ReadFault}
 use Rattle.compose_read.specs.declared.ReadFault.TheVariants as read_faults
 use Rattle.compose_read.specs.declared.settling.SettleFault.TheVariants as settle_faults
-use Rattle.compose_tree.specs.TableGives.{NoTable, ReadSaid, TableGives}
+use Rattle.compose_tree.specs.TableReturns.{NoTable, IsReadFault, TableReturns}
 use Rattle.compose_tree.specs.declared.reading.TableFault.{TableFault}
 use Rattle.compose_tree.specs.declared.reading.TableFault.TheVariants as table_faults
 use Rattle.compose_tree.specs.declared.table.BuildFault.TheVariants as build_faults
 use Rattle.compose_migration.specs.declared.fault.Side.{Side}
 use Rattle.compose_migration.specs.Migration.{no_table, or_because}
-use Rattle.compose_migration.specs.MigrationGives.{TableFails}
+use Rattle.compose_migration.specs.MigrationReturns.{TableFails}
 
-read_at_all : (fault : ReadFault) (table : List Definition) → ReadSaid fault (Ok table) → ⊥
+read_at_all : (fault : ReadFault) (table : List Definition) → IsReadFault fault (Ok table) → ⊥
 read_at_all read_faults.MissingRoot table h = cc
 read_at_all (read_faults.NotUtf8 s l) table h = cc
 read_at_all (read_faults.Lex s l f) table h = cc
@@ -35,11 +35,11 @@ is_read (table_faults.Build build_faults.NoMemory) table h = h
 is_read table_faults.NoMemory table h = h
 
 -- the reason why there is no table, which the fault names
-pub why_none : (fault : TableFault) (said : Result (List Definition) NoTable) → TableFails fault said → (why : NoTable) × (said ≡ Err why) × TableFails fault (Err why)
+pub why_none : (fault : TableFault) (expected : Result (List Definition) NoTable) → TableFails fault expected → (why : NoTable) × (expected ≡ Err why) × TableFails fault (Err why)
 why_none fault (Ok table) h = absurd (is_read fault table h)
 why_none fault (Err why) h = (why, refl, h)
 
 -- the same for a side
-pub side_refused : (side : Side) (fault : TableFault) (said : Result (List Definition) NoTable) → TableFails fault said
-    → (why : NoTable) × (or_because (no_table side) said ≡ Err (no_table side why)) × TableFails fault (Err why)
-side_refused side fault said h = let none = why_none fault said h in (none.0, ap (or_because (no_table side)) none.1, none.2)
+pub side_refused : (side : Side) (fault : TableFault) (expected : Result (List Definition) NoTable) → TableFails fault expected
+    → (why : NoTable) × (or_because (no_table side) expected ≡ Err (no_table side why)) × TableFails fault (Err why)
+side_refused side fault expected h = let none = why_none fault expected h in (none.0, ap (or_because (no_table side)) none.1, none.2)

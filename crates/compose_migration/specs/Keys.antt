@@ -18,6 +18,6 @@ keys_of names key_names = all_there (map (value names) key_names)
 
 -- the specified keysyms or fault, unless memory runs out
 abbrev pub KeysGive : Result (Vec ℕ Global) KeyFault → Result (List ℕ) ℕ → Type 0
-KeysGive (Ok keys) said = said ≡ Ok keys.items
-KeysGive (Err (Unknown index)) said = said ≡ Err index
-KeysGive (Err NoMemory) said = Unit {0}
+KeysGive (Ok keys) expected = expected ≡ Ok keys.items
+KeysGive (Err (Unknown index)) expected = expected ≡ Err index
+KeysGive (Err NoMemory) expected = Unit {0}

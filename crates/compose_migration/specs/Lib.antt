@@ -1,3 +1,3 @@
 pub mod Keys
 pub mod Migration
-pub mod MigrationGives
+pub mod MigrationReturns

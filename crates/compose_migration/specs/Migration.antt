@@ -7,7 +7,7 @@ use Rattle.keysym_core.specs.declared.fault.NameFault.{NameFault}
 use Rattle.compose_model.specs.Table.{Definition}
 use Rattle.compose_model.specs.declared.Rule.{Rule}
 use Rattle.compose_read.specs.Lines.{Source}
-use Rattle.compose_tree.specs.TableGives.{NoTable, first_table}
+use Rattle.compose_tree.specs.TableReturns.{NoTable, first_table}
 use Rattle.compose_migration.specs.Keys.{keys_of}
 use Rattle.compose_migration.specs.declared.fault.Side.{Side}
 use Rattle.compose_migration.specs.declared.fault.Side.TheVariants.{Old, New}

@@ -1,10 +1,10 @@
 //! A migration: keysym names, keysyms, and an old and a new table.
 ghost use Rattle.std.specs.Prelude.{◌≡◌, map};
 ghost use Rattle.keysym_core.specs.Header.{names_of};
-ghost use Rattle.compose_tree.specs.TableGives.{first_table};
+ghost use Rattle.compose_tree.specs.TableReturns.{first_table};
 ghost use Rattle.compose_migration.specs.Keys.{keys_of};
 ghost use Rattle.compose_migration.specs.Migration.{no_names, no_key, no_table, or_because, named, migration_of};
-ghost use Rattle.compose_migration.specs.MigrationGives.{MigrationGives, given_of, named_parts, parts};
+ghost use Rattle.compose_migration.specs.MigrationReturns.{MigrationReturns, given_of, named_parts, parts};
 
 use crate::fault::{MigrationFault, Side};
 use crate::keys::{KeyFault, look_up_keys};
@@ -52,7 +52,7 @@ impl Named {
     /// Errors: `Names` for a fault of the header, or else `Key` for the first key name that names
     /// no keysym; or `NoMemory`.
     pub fn read(alloc: Global, header: &[u8], key_names: &[&str]) -> Result<Named, MigrationFault>
-        ensures { MigrationGives (λ said read. said ≡ named_parts read) result
+        ensures { MigrationReturns (λ expected read. expected ≡ named_parts read) result
             (named header.now (map (λ key_name. key_name.now) key_names.now)) }
     {
         let names = read_names(alloc, header)?;
@@ -84,7 +84,7 @@ impl<T: ComposeTable> Migration<T> {
         alloc: Global,
         input: &MigrationInput<'_, '_>,
     ) -> Result<Migration<T>, MigrationFault>
-        ensures { MigrationGives (λ said read. said ≡ parts T.definitions read) result
+        ensures { MigrationReturns (λ expected read. expected ≡ parts T.definitions read) result
             (migration_of (given_of input.entry.now)) }
     {
         let named = Named::read(alloc, input.header, input.key_names)?;
@@ -101,7 +101,7 @@ impl<T: ComposeTable> Migration<T> {
 
 /// Reads the names of a header.
 fn read_names(alloc: Global, header: &[u8]) -> Result<Names, MigrationFault>
-    ensures { MigrationGives (λ said names. said ≡ names) result
+    ensures { MigrationReturns (λ expected names. expected ≡ names) result
         (or_because no_names (names_of header.now)) }
 {
     match Names::read(alloc, header) {
@@ -117,7 +117,7 @@ fn read_keys(
     names: &Names,
     key_names: &[&str],
 ) -> Result<Vec<Keysym>, MigrationFault>
-    ensures { MigrationGives (λ said keys. said ≡ keys.items) result
+    ensures { MigrationReturns (λ expected keys. expected ≡ keys.items) result
         (or_because no_key (keys_of names.now (map (λ key_name. key_name.now) key_names.now))) }
 {
     match look_up_keys(alloc, names, key_names) {
@@ -134,7 +134,7 @@ fn read_side<T: ComposeTable>(
     side: Side,
     input: &TableInput<'_>,
 ) -> Result<T, MigrationFault>
-    ensures { MigrationGives (λ said table. said ≡ T.definitions table) result
+    ensures { MigrationReturns (λ expected table. expected ≡ T.definitions table) result
         (or_because (no_table side)
         (first_table names.now input.entry.now.sources.now input.entry.now.rule)) }
 {

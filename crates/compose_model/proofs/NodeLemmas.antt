@@ -9,7 +9,7 @@ use Rattle.compose_model.specs.Table.{Definition, same, is_proper_prefix, is_seq
 use Rattle.compose_model.specs.Step.{Effect, ignores, extends, completes, passes, cancels, effect, pending_by, pending_after, pending_from}
 use Rattle.compose_model.specs.Nodes.{put, rising_lists, proper_prefixes, nodes, is_node, node, number_of, has_edge, keysyms, edges}
 use Rattle.compose_model.proofs.Tests.{list_any-map, list_any-flat_map, list_any-filter, list_any-weaker, list_any-same, list_any-and, list_any-rising}
-use Rattle.compose_model.proofs.Steps.{effect_tells}
+use Rattle.compose_model.proofs.Steps.{effect_tests}
 
 -- lists that are the same by the test are equal
 pub same_is : (s t : List ℕ) → same s t ≡ true → s ≡ t
@@ -48,7 +48,7 @@ step_lands table u k h = go (effect table u k) refl
   where
     go : (x : Effect) → effect table u k ≡ x → is_node table (pending_by x u k) ≡ true
     go ignores e = h
-    go extends e = extended_is_node table (u ++ k ∷ []) (effect_tells table u k extends e).1
+    go extends e = extended_is_node table (u ++ k ∷ []) (effect_tests table u k extends e).1
     go completes e = root_is_node table
     go passes e = root_is_node table
     go cancels e = root_is_node table

@@ -7,7 +7,7 @@ use Rattle.std.proofs.lemmas.List.Sorted.{IsPermutation-refl, IsPermutation-cons
 use Rattle.compose_compare.specs.declared.Change.{Change}
 use Rattle.compose_compare.specs.declared.Change.TheVariants.{Kept, Changed, Waiting, Removed, Added, NewStart}
 use Rattle.compose_diff.specs.Counts.{is_same}
-use Rattle.compose_diff.specs.Folds.{told}
+use Rattle.compose_diff.specs.Folds.{reported}
 use Rattle.compose_diff.specs.Line.{is_loss}
 use Rattle.compose_diff.specs.declared.row.DiffRow.{DiffRow}
 use Rattle.compose_page.specs.Sections.{rows_of_all}
@@ -41,6 +41,6 @@ row_more Added typed x all lost otherwise starts additions same =
     (IsPermutation-trans _ _ _ (IsPermutation-cons x _ _ (subst (λ xs. IsPermutation all xs) (sym (append_assoc lost otherwise (starts ++ additions)) ∙ sym (append_assoc (lost ++ otherwise) starts additions)) same))
     (behind x ((lost ++ otherwise) ++ starts) additions)))
 
-pub each_in_one : (rows : List DiffRow) → IsPermutation (told rows) (rows_of_all rows)
+pub each_in_one : (rows : List DiffRow) → IsPermutation (reported rows) (rows_of_all rows)
 each_in_one [] = IsPermutation-refl []
 each_in_one (row ∷ rows) = row_more row.change (is_some row.typing) row _ _ _ _ _ (each_in_one rows)

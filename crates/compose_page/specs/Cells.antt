@@ -6,7 +6,7 @@ use Rattle.compose_compare.specs.declared.Change.{Change}
 use Rattle.compose_compare.specs.declared.Change.TheVariants.{Changed, Waiting, Removed}
 use Rattle.compose_diff.specs.Line.{is_loss}
 use Rattle.compose_diff.specs.Order.{first_entry}
-use Rattle.compose_diff.specs.declared.row.Entry.{Entry}
+use Rattle.compose_diff.specs.declared.row.TextPlace.{TextPlace}
 use Rattle.compose_diff.specs.declared.row.DiffRow.{DiffRow}
 use Rattle.compose_diff.specs.declared.row.NewSequence.{NewSequence}
 use Rattle.compose_page.specs.Keys.{Keys, keys_part, old_keys, new_keys}
@@ -65,12 +65,12 @@ abbrev pub keys_cells : Markup → DiffRow → List ℕ
 keys_cells markup row = keys_cells_by markup row.keys.now (now_typed row)
 
 -- the text that a table has, and the numbers of its characters
-abbrev pub entry_text : Markup → Option Entry → List ℕ
+abbrev pub entry_text : Markup → Option TextPlace → List ℕ
 entry_text markup None = []
 entry_text markup (Some entry) = bold_part markup entry.text.now ++ numbers_part entry.text.now
 
 -- the text that the new table has
-abbrev pub changed_to : Markup → Option Entry → List ℕ
+abbrev pub changed_to : Markup → Option TextPlace → List ℕ
 changed_to markup entry = codes " changed to" ++ entry_text markup entry
 
 abbrev pub sequence_keys : Markup → Option NewSequence → List ℕ
@@ -98,7 +98,7 @@ happens_cell markup row = if is_loss row.change then cell markup (happens markup
 abbrev pub place_part : Markup → List ℕ → ℕ → List ℕ
 place_part markup path line = codes " " ++ (escaped markup path ++ (codes ":" ++ decimal line))
 
-abbrev pub entry_place : Markup → Option Entry → List ℕ
+abbrev pub entry_place : Markup → Option TextPlace → List ℕ
 entry_place markup None = []
 entry_place markup (Some entry) = place_part markup entry.path.now entry.line
 

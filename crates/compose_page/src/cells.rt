@@ -5,7 +5,7 @@ ghost use Rattle.compose_page.specs.Cells as words;
 use crate::keys::{push_keys, push_new_keys, push_old_keys};
 use crate::markup::{Markup, push_escaped, push_numbers};
 use compose_compare::Change;
-use compose_diff::{DiffRow, Entry, NewSequence, is_loss};
+use compose_diff::{DiffRow, NewSequence, TextPlace, is_loss};
 use std::alloc::AllocError;
 use std::fmt::Write;
 
@@ -169,7 +169,11 @@ fn push_happens(text: &mut String, markup: Markup, row: &DiffRow) -> Result<(), 
 }
 
 /// Appends the text that the new table has for a sequence to the text.
-fn push_new_text(text: &mut String, markup: Markup, entry: &Option<Entry>) -> Result<(), AllocError>
+fn push_new_text(
+    text: &mut String,
+    markup: Markup,
+    entry: &Option<TextPlace>,
+) -> Result<(), AllocError>
     ensures { OnOk result
         (string_bytes text.new ≡ string_bytes text.old ++ words.changed_to markup entry.now) }
 {
@@ -181,7 +185,7 @@ fn push_new_text(text: &mut String, markup: Markup, entry: &Option<Entry>) -> Re
 fn push_entry_text(
     text: &mut String,
     markup: Markup,
-    entry: &Option<Entry>,
+    entry: &Option<TextPlace>,
 ) -> Result<(), AllocError>
     ensures { OnOk result
         (string_bytes text.new ≡ string_bytes text.old ++ words.entry_text markup entry.now) }
@@ -239,7 +243,7 @@ fn push_places_cell(text: &mut String, markup: Markup, row: &DiffRow) -> Result<
 fn push_entry_place(
     text: &mut String,
     markup: Markup,
-    entry: &Option<Entry>,
+    entry: &Option<TextPlace>,
 ) -> Result<(), AllocError>
     ensures { OnOk result
         (string_bytes text.new ≡ string_bytes text.old ++ words.entry_place markup entry.now) }

@@ -10,7 +10,7 @@
 ghost use Rattle.std.specs.Prelude.{List};
 ghost use Rattle.std.specs.List.Sorted.{IsPermutation};
 ghost use Rattle.compose_diff.specs.declared.row.DiffRow.{DiffRow};
-ghost use Rattle.compose_diff.specs.Folds.{told};
+ghost use Rattle.compose_diff.specs.Folds.{reported};
 ghost use Rattle.compose_page.specs.Sections.{rows_of_all};
 
 mod cells;
@@ -25,5 +25,5 @@ pub use section::Section;
 
 /// Each row that is not kept is in exactly one part of the page: none is omitted or repeated.
 pub fn law_sections()
-    ensures { (rows : List DiffRow) → IsPermutation (told rows) (rows_of_all rows) }
+    ensures { (rows : List DiffRow) → IsPermutation (reported rows) (rows_of_all rows) }
 {}

@@ -13,13 +13,13 @@ use Rattle.compose_lex.specs.Line.{Reading, blank, include, production}
 use Rattle.compose_lex.specs.Fault.{skip_blanks, string_at, byte_at, event_at, events_at, event_fault, result_at, end_at, production_at, include_at, reading_at, reading_of}
 use Rattle.compose_lex.specs.declared.LexFault.{LexFault}
 use Rattle.compose_read.specs.Lines.{Source, Visit, source_named, visits}
-use Rattle.compose_read.specs.Read.{at_line, said, line_gives, read_on, definitions_of, max_lines}
+use Rattle.compose_read.specs.Read.{at_line, reading_result, line_result, read_on, definitions_of, max_lines}
 use Rattle.compose_read.specs.Kept.{are_faultless}
 use Rattle.compose_read.specs.declared.ReadFault.TheVariants as faults
 use Rattle.compose_read.proofs.Faultless.{read_to_end}
-use Rattle.compose_places.specs.Places.{is_production, says_definition, definition_lines}
+use Rattle.compose_places.specs.Places.{is_production, is_definition_line, definition_lines}
 use Rattle.compose_places.specs.Counting.{begins_definition, begun_lines}
-use Rattle.compose_places.proofs.Told.{few}
+use Rattle.compose_places.proofs.Decided.{few}
 
 -- ---- one line
 
@@ -98,11 +98,11 @@ by_rest n (b ∷ rest) h = by_first (b == 35) refl (starts_with nat_eq (b ∷ re
     by_first false e false f ends h = by_event (b == 60) refl h
 
 -- of a line that has no fault
-begins_as_said : (names : KeysymNames) (sources : List Source) (v : Visit) → is_ok (line_gives names sources v) ≡ true → begins_definition v.bytes ≡ says_definition v.bytes
-begins_as_said names sources v h = by_text (is_utf8 v.bytes) (reading_of v.bytes) (by_rest (length v.bytes) (skip_blanks v.bytes)) h
+begins_as_definition : (names : KeysymNames) (sources : List Source) (v : Visit) → is_ok (line_result names sources v) ≡ true → begins_definition v.bytes ≡ is_definition_line v.bytes
+begins_as_definition names sources v h = by_text (is_utf8 v.bytes) (reading_of v.bytes) (by_rest (length v.bytes) (skip_blanks v.bytes)) h
   where
     by_text : (text : Bool) (r : Result Reading LexFault) → (is_ok r ≡ true → begins_definition v.bytes ≡ is_production r)
-        → is_ok (cond text (at_line v r >>= said names sources v) (Err (faults.NotUtf8 v.source v.line))) ≡ true → begins_definition v.bytes ≡ text && is_production r
+        → is_ok (cond text (at_line v r >>= reading_result names sources v) (Err (faults.NotUtf8 v.source v.line))) ≡ true → begins_definition v.bytes ≡ text && is_production r
     by_text false r f h = cc
     by_text true (Ok x) f h = f refl
     by_text true (Err e) f h = cc
@@ -110,22 +110,22 @@ begins_as_said names sources v h = by_text (is_utf8 v.bytes) (reading_of v.bytes
 -- ---- all lines
 
 module _ (names : KeysymNames) (sources : List Source) where
-  same_lines : (vs : List Visit) → are_faultless names sources vs ≡ true → filter (λ (v : Visit). begins_definition v.bytes) vs ≡ filter (λ (v : Visit). says_definition v.bytes) vs
+  same_lines : (vs : List Visit) → are_faultless names sources vs ≡ true → filter (λ (v : Visit). begins_definition v.bytes) vs ≡ filter (λ (v : Visit). is_definition_line v.bytes) vs
   same_lines [] h = refl
   same_lines (v ∷ vs) h =
-      let parts = and_parts (is_ok (line_gives names sources v)) (are_faultless names sources vs) h in
-      ap₂ (λ b ws. cond b (v ∷ ws) ws) (begins_as_said names sources v parts.0) (same_lines vs parts.1)
+      let parts = and_parts (is_ok (line_result names sources v)) (are_faultless names sources vs) h in
+      ap₂ (λ b ws. cond b (v ∷ ws) ws) (begins_as_definition names sources v parts.0) (same_lines vs parts.1)
 
   -- if the definitions are read without a fault, the lines that begin like definitions are theirs
-  pub begun_told : (root : List ℕ) (table : List Definition) → definitions_of names sources root ≡ Ok table → begun_lines sources root ≡ definition_lines sources root
-  begun_told root table h = go (nat_lt (source_named sources root) (length sources)) h
+  pub begun_lines_exact : (root : List ℕ) (table : List Definition) → definitions_of names sources root ≡ Ok table → begun_lines sources root ≡ definition_lines sources root
+  begun_lines_exact root table h = go (nat_lt (source_named sources root) (length sources)) h
     where
       all : List Visit
       all = visits sources (source_named sources root)
 
       go : (there : Bool) → cond there (read_on names sources 0 0 all) (Err faults.MissingRoot) ≡ Ok table
-          → filter (λ (v : Visit). begins_definition v.bytes) (cond there (take max_lines all) []) ≡ cond there (filter (λ (v : Visit). says_definition v.bytes) (take max_lines all)) []
+          → filter (λ (v : Visit). begins_definition v.bytes) (cond there (take max_lines all) []) ≡ cond there (filter (λ (v : Visit). is_definition_line v.bytes) (take max_lines all)) []
       go false h = refl
       go true h =
           let read = read_to_end names sources all 0 0 table h in let no_more = few names sources all 0 0 table h (omega arith) in let whole = take_all max_lines all (omega (arith, no_more)) in
-          ap (λ vs. filter (λ (v : Visit). begins_definition v.bytes) vs) whole ∙ same_lines all read.0 ∙ sym (ap (λ vs. filter (λ (v : Visit). says_definition v.bytes) vs) whole)
+          ap (λ vs. filter (λ (v : Visit). begins_definition v.bytes) vs) whole ∙ same_lines all read.0 ∙ sym (ap (λ vs. filter (λ (v : Visit). is_definition_line v.bytes) vs) whole)

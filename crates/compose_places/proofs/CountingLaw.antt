@@ -18,18 +18,18 @@ use Rattle.compose_lex.specs.Line.{Reading, blank, include, production}
 use Rattle.compose_lex.specs.Fault.{reading_of}
 use Rattle.compose_lex.specs.declared.LexFault.{LexFault}
 use Rattle.compose_read.specs.Lines.{Source, Visit, source_named, visits, max_depth}
-use Rattle.compose_read.specs.Read.{at_line, said, line_gives, event_keysym, sequence_of, string_text, result_text, definitions_of, max_lines}
+use Rattle.compose_read.specs.Read.{at_line, reading_result, line_result, event_keysym, sequence_of, string_text, result_text, definitions_of, max_lines}
 use Rattle.compose_read.specs.Settle.{row, in_order, settled, overlap, or_overlap, Overlap}
 use Rattle.compose_read.specs.declared.ReadFault.{ReadFault}
 use Rattle.compose_read.specs.declared.ReadFault.TheVariants as faults
-use Rattle.compose_tree.specs.TableGives.{too_many_nodes, bounded, settled_by, table_of}
+use Rattle.compose_tree.specs.TableReturns.{too_many_nodes, bounded, settled_by, table_of}
 use Rattle.compose_tree.specs.Targets.{max_nodes}
 use Rattle.compose_tree.proofs.Steps.{leaf_means}
 use Rattle.compose_places.specs.Events.{line_events, events_of}
-use Rattle.compose_places.specs.Places.{is_production, says_definition, definition_lines}
+use Rattle.compose_places.specs.Places.{is_production, is_definition_line, definition_lines}
 use Rattle.compose_places.specs.Counting.{WrittenLine, sequence_named, defined_sequence, defines, begun_lines, written_line, read_lines, counting_line, AreLines}
-use Rattle.compose_places.proofs.Told.{lines_told}
-use Rattle.compose_places.proofs.BegunLines.{begun_told}
+use Rattle.compose_places.proofs.Decided.{definition_lines_exact}
+use Rattle.compose_places.proofs.BegunLines.{begun_lines_exact}
 
 same_Ok : {A E : Type 0} (x y : A) → (let r : Result A E = Ok x in r) ≡ Ok y → x ≡ y
 same_Ok x y h = cc
@@ -89,7 +89,7 @@ module _ (names : KeysymNames) (sources : List Source) where
       by_sequence (Err f) e h = cc
       by_sequence (Ok s) e h = sequence_read v 0 events s e ∙ ap Some (by_string s (string_text v raw) h)
 
-    by_text : (text : Bool) (r : Result Reading LexFault) → cond text (at_line v r >>= said names sources v) (Err (faults.NotUtf8 v.source v.line)) ≡ Ok (Some d)
+    by_text : (text : Bool) (r : Result Reading LexFault) → cond text (at_line v r >>= reading_result names sources v) (Err (faults.NotUtf8 v.source v.line)) ≡ Ok (Some d)
         → option_and_then (sequence_named names) (cond text (events_of r) None) ≡ Some d.sequence
     by_text false r h = cc
     by_text true (Err e) h = cc
@@ -98,7 +98,7 @@ module _ (names : KeysymNames) (sources : List Source) where
     by_text true (Ok (production events raw name)) h = by_sequence events raw name (sequence_of names v 0 events) refl h
 
     -- the keys written on it are its sequence
-    gives_sequence : line_gives names sources v ≡ Ok (Some d) → option_and_then (sequence_named names) (line_events v.bytes) ≡ Some d.sequence
+    gives_sequence : line_result names sources v ≡ Ok (Some d) → option_and_then (sequence_named names) (line_events v.bytes) ≡ Some d.sequence
     gives_sequence h = by_text (is_utf8 v.bytes) (reading_of v.bytes) h
 
   -- ---- lines
@@ -109,18 +109,18 @@ module _ (names : KeysymNames) (sources : List Source) where
   heads : {X : Type 0} (x y : X) (xs ys : List X) → x ∷ xs ≡ y ∷ ys → (x ≡ y) × (xs ≡ ys)
   heads x y xs ys h = (cc, cc)
 
-  defines_as : (v : Visit) (d : Definition) → line_gives names sources v ≡ Ok (Some d) → (s : List ℕ) → defines names s v.bytes ≡ same s d.sequence
+  defines_as : (v : Visit) (d : Definition) → line_result names sources v ≡ Ok (Some d) → (s : List ℕ) → defines names s v.bytes ≡ same s d.sequence
   defines_as v d h s = ap (λ o. option_map_or (same s) o false) (gives_sequence v d h)
 
   -- of lines that each give a definition, one counts for each of their sequences
-  some_line : (vs : List Visit) (ds : List Definition) → map (line_gives names sources) vs ≡ each ds → (s : List ℕ) → is_sequence ds s ≡ true → is_some (counting_line names vs s) ≡ true
+  some_line : (vs : List Visit) (ds : List Definition) → map (line_result names sources) vs ≡ each ds → (s : List ℕ) → is_sequence ds s ≡ true → is_some (counting_line names vs s) ≡ true
   some_line [] [] h s e = cc
   some_line [] (d ∷ ds) h s e = cc
   some_line (v ∷ vs) [] h s e = cc
   some_line (v ∷ vs) (d ∷ ds) h s e = go (counting_line names vs s) (λ f. some_line vs ds parts.1 s f) (or_cases (same s d.sequence) (is_sequence ds s) e)
     where
-      parts : (line_gives names sources v ≡ Ok (Some d)) × (map (line_gives names sources) vs ≡ each ds)
-      parts = heads (line_gives names sources v) (Ok (Some d)) (map (line_gives names sources) vs) (each ds) h
+      parts : (line_result names sources v ≡ Ok (Some d)) × (map (line_result names sources) vs ≡ each ds)
+      parts = heads (line_result names sources v) (Ok (Some d)) (map (line_result names sources) vs) (each ds) h
 
       here : same s d.sequence ≡ true → cond (defines names s v.bytes) (Some (written_line v)) None ≡ Some (written_line v)
       here f = ap (λ b. cond b (Some (written_line v)) None) (defines_as v d parts.0 s ∙ f)
@@ -152,8 +152,8 @@ module _ (names : KeysymNames) (sources : List Source) where
         go None later false e h = cc
 
     -- lines that define nothing count for nothing
-    not_said : (bytes : List ℕ) → says_definition bytes ≡ false → defines names s bytes ≡ false
-    not_said bytes h = go (is_utf8 bytes) (reading_of bytes) h
+    not_definition : (bytes : List ℕ) → is_definition_line bytes ≡ false → defines names s bytes ≡ false
+    not_definition bytes h = go (is_utf8 bytes) (reading_of bytes) h
       where
         go : (text : Bool) (r : Result Reading LexFault) → text && is_production r ≡ false
             → option_map_or (same s) (option_and_then (sequence_named names) (cond text (events_of r) None)) false ≡ false
@@ -167,16 +167,16 @@ module _ (names : KeysymNames) (sources : List Source) where
     nothing_else None = refl
     nothing_else (Some l) = refl
 
-    said_alone : (vs : List Visit) → counting_line names (filter (λ v. says_definition v.bytes) vs) s ≡ counting_line names vs s
-    said_alone [] = refl
-    said_alone (v ∷ vs) = go (says_definition v.bytes) refl (said_alone vs)
+    definitions_alone : (vs : List Visit) → counting_line names (filter (λ v. is_definition_line v.bytes) vs) s ≡ counting_line names vs s
+    definitions_alone [] = refl
+    definitions_alone (v ∷ vs) = go (is_definition_line v.bytes) refl (definitions_alone vs)
       where
-        go : (says : Bool) → says_definition v.bytes ≡ says → counting_line names (filter (λ v. says_definition v.bytes) vs) s ≡ counting_line names vs s
-            → counting_line names (cond says (v ∷ filter (λ v. says_definition v.bytes) vs) (filter (λ v. says_definition v.bytes) vs)) s ≡ counting_line names (v ∷ vs) s
+        go : (says : Bool) → is_definition_line v.bytes ≡ says → counting_line names (filter (λ v. is_definition_line v.bytes) vs) s ≡ counting_line names vs s
+            → counting_line names (cond says (v ∷ filter (λ v. is_definition_line v.bytes) vs) (filter (λ v. is_definition_line v.bytes) vs)) s ≡ counting_line names (v ∷ vs) s
         go true e h = ap (λ o. option_or o (cond (defines names s v.bytes) (Some (written_line v)) None)) h
         go false e h =
             h ∙ sym (nothing_else (counting_line names vs s))
-            ∙ ap (λ b. option_or (counting_line names vs s) (cond b (Some (written_line v)) None)) (sym (not_said v.bytes e))
+            ∙ ap (λ b. option_or (counting_line names vs s) (cond b (Some (written_line v)) None)) (sym (not_definition v.bytes e))
 
   -- of the lines that are read, the definitions alone count
   same_lines : (root s : List ℕ) → counting_line names (definition_lines sources root) s ≡ counting_line names (read_lines sources root) s
@@ -185,8 +185,8 @@ module _ (names : KeysymNames) (sources : List Source) where
       all : List Visit
       all = take max_lines (visits sources (source_named sources root))
 
-      go : (there : Bool) → counting_line names (cond there (filter (λ v. says_definition v.bytes) all) []) s ≡ counting_line names (cond there all []) s
-      go true = said_alone s all
+      go : (there : Bool) → counting_line names (cond there (filter (λ v. is_definition_line v.bytes) all) []) s ≡ counting_line names (cond there all []) s
+      go true = definitions_alone s all
       go false = refl
 
   -- ---- settling
@@ -226,7 +226,7 @@ module _ (names : KeysymNames) (sources : List Source) where
             → is_some (counting_line names (definition_lines sources root) s) ≡ true
         by_size ds rows e f false h = cc
         by_size ds rows e f true h =
-            some_line (definition_lines sources root) ds (lines_told names sources root ds e) s
+            some_line (definition_lines sources root) ds (definition_lines_exact names sources root ds e) s
             (settled_from rule ds rows s f (ap (λ (t : List Definition). is_sequence t s) (same_Ok rows table h) ∙ there))
 
         by_rows : (ds : List Definition) → definitions_of names sources root ≡ Ok ds → (r : Result (List Definition) Overlap) → settled rule ds ≡ r → bounded r ≡ Ok table
@@ -239,8 +239,8 @@ module _ (names : KeysymNames) (sources : List Source) where
         by_definitions (Err f) e h = cc
         by_definitions (Ok ds) e h = by_rows ds e (settled rule ds) refl h
 
-    told_line : option_and_then (λ (line : WrittenLine). sequence_named names line.keys) (counting_line names (read_lines sources root) s) ≡ Some s
-    told_line = go (counting_line names (read_lines sources root) s) refl (ap (λ o. is_some o) (sym (same_lines root s)) ∙ counts)
+    counting_line_keys : option_and_then (λ (line : WrittenLine). sequence_named names line.keys) (counting_line names (read_lines sources root) s) ≡ Some s
+    counting_line_keys = go (counting_line names (read_lines sources root) s) refl (ap (λ o. is_some o) (sym (same_lines root s)) ∙ counts)
       where
         go : (o : Option WrittenLine) → counting_line names (read_lines sources root) s ≡ o → is_some o ≡ true → option_and_then (λ (line : WrittenLine). sequence_named names line.keys) o ≡ Some s
         go None e h = cc
@@ -249,7 +249,7 @@ module _ (names : KeysymNames) (sources : List Source) where
   -- each sequence of a table that is read has a line that counts, whose keys it is
   pub are_lines : (root : List ℕ) (rule : Rule) (table : List Definition) → table_of names sources root rule ≡ Ok table
       → AreLines names table (map (counting_line names (read_lines sources root)) (leaves table))
-  are_lines root rule table read = go (leaves table) (λ s h. told_line root rule table read s (sym (leaf_means table s) ∙ h))
+  are_lines root rule table read = go (leaves table) (λ s h. counting_line_keys root rule table read s (sym (leaf_means table s) ∙ h))
     where
       go : (xs : List (List ℕ))
           → ((s : List ℕ) → list_any (same s) xs ≡ true → option_and_then (λ (line : WrittenLine). sequence_named names line.keys) (counting_line names (read_lines sources root) s) ≡ Some s)
@@ -263,19 +263,19 @@ module _ (names : KeysymNames) (sources : List Source) where
     -- they define the sequences that are read, each one
     pub sequences_defined : map (λ (d : Definition). Some d.sequence) ds ≡ map (λ (v : Visit). defined_sequence names v.bytes) (begun_lines sources root)
     sequences_defined =
-        go (definition_lines sources root) ds (lines_told names sources root ds read)
-        ∙ ap (map (λ (v : Visit). defined_sequence names v.bytes)) (sym (begun_told names sources root ds read))
+        go (definition_lines sources root) ds (definition_lines_exact names sources root ds read)
+        ∙ ap (map (λ (v : Visit). defined_sequence names v.bytes)) (sym (begun_lines_exact names sources root ds read))
       where
-        go : (vs : List Visit) (es : List Definition) → map (line_gives names sources) vs ≡ each es
+        go : (vs : List Visit) (es : List Definition) → map (line_result names sources) vs ≡ each es
             → map (λ (d : Definition). Some d.sequence) es ≡ map (λ (v : Visit). defined_sequence names v.bytes) vs
         go [] [] h = refl
         go [] (e ∷ es) h = cc
         go (v ∷ vs) [] h = cc
         go (v ∷ vs) (e ∷ es) h =
-            let parts = heads (line_gives names sources v) (Ok (Some e)) (map (line_gives names sources) vs) (each es) h in
+            let parts = heads (line_result names sources v) (Ok (Some e)) (map (line_result names sources) vs) (each es) h in
             ap₂ (λ y ys. y ∷ ys) (sym (gives_sequence v e parts.0)) (go vs es parts.1)
 
     -- and count alone
     pub begun_count : (xs : List (List ℕ)) → map (counting_line names (begun_lines sources root)) xs ≡ map (counting_line names (read_lines sources root)) xs
     begun_count [] = refl
-    begun_count (x ∷ xs) = ap₂ (λ y ys. y ∷ ys) (ap (λ vs. counting_line names vs x) (begun_told names sources root ds read) ∙ same_lines root x) (begun_count xs)
+    begun_count (x ∷ xs) = ap₂ (λ y ys. y ∷ ys) (ap (λ vs. counting_line names vs x) (begun_lines_exact names sources root ds read) ∙ same_lines root x) (begun_count xs)

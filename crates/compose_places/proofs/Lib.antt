@@ -1,4 +1,4 @@
-pub mod Told
+pub mod Decided
 pub mod FlatSequences
 pub mod LastOnes
 pub mod Walks

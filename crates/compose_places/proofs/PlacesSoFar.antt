@@ -3,14 +3,14 @@ use Rattle.std.proofs.Common.{◌≡◌, ℕ, suc, List, [], ◌∷◌, ◌++◌
 use Rattle.std.specs.Prelude.{filter}
 use Rattle.std.proofs.lemmas.List.{append-nil}
 
-module _ {X Y : Type 0} (test : X → Bool) (view : X → Y) (found whole : List Y) (left : List X) (n : ℕ) (told : found ++ map view (filter test (take n left)) ≡ whole) where
+module _ {X Y : Type 0} (test : X → Bool) (view : X → Y) (found whole : List Y) (left : List X) (n : ℕ) (decided : found ++ map view (filter test (take n left)) ≡ whole) where
   -- no line is left, or none is to be read
   pub all_found : map view (filter test (take n left)) ≡ [] → found ≡ whole
-  all_found h = sym (append-nil found) ∙ ap (λ ys. found ++ ys) (sym h) ∙ told
+  all_found h = sym (append-nil found) ∙ ap (λ ys. found ++ ys) (sym h) ∙ decided
 
   module _ (v : X) (others : List X) (m : ℕ) (is : left ≡ v ∷ others) (one : n ≡ suc m) where
     opened : found ++ map view (cond (test v) (v ∷ filter test (take m others)) (filter test (take m others))) ≡ whole
-    opened = sym (ap₂ (λ k xs. found ++ map view (filter test (take k xs))) one is) ∙ told
+    opened = sym (ap₂ (λ k xs. found ++ map view (filter test (take k xs))) one is) ∙ decided
 
     -- past a line that does not pass, what is found and what is still to come are the whole
     pub nothing_more : test v ≡ false → found ++ map view (filter test (take m others)) ≡ whole

@@ -15,14 +15,14 @@ use Rattle.compose_lex.specs.Line.{Reading, blank, include, production}
 use Rattle.compose_lex.specs.Fault.{reading_of}
 use Rattle.compose_lex.specs.declared.LexFault.{LexFault}
 use Rattle.compose_read.specs.Lines.{Source, Visit, source_lines, source_named, included_by, included, numbered, own_lines, visits_below, visits, max_depth}
-use Rattle.compose_read.specs.Read.{at_line, said, event_keysym, sequence_of, string_text, result_text, definition_of, line_gives, definitions_of, max_lines}
+use Rattle.compose_read.specs.Read.{at_line, reading_result, event_keysym, sequence_of, string_text, result_text, definition_of, line_result, definitions_of, max_lines}
 use Rattle.compose_read.specs.declared.ReadFault.{ReadFault}
 use Rattle.compose_read.specs.declared.ReadFault.TheVariants as faults
-use Rattle.compose_places.specs.Places.{says_definition, definition_lines, place_of, definition_places}
+use Rattle.compose_places.specs.Places.{is_definition_line, definition_lines, place_of, definition_places}
 use Rattle.compose_places.specs.declared.places.DefinitionPlace.{DefinitionPlace}
 use Rattle.compose_places.specs.Events.{line_at, events_of, line_events, written_events}
 use Rattle.compose_places.proofs.NumberedLines.{found_line}
-use Rattle.compose_places.proofs.Told.{lines_told}
+use Rattle.compose_places.proofs.Decided.{definition_lines_exact}
 
 -- ---- the line at the place of a visit
 
@@ -32,18 +32,18 @@ module _ (sources : List Source) where
 
   module _ (source depth : ℕ) (bytes : List ℕ) (is : option_map (λ (s : Source). s.bytes) (slice_get sources source) ≡ Some bytes) where
     -- lines of the source that are numbered on from this number
-    numbered_stand : (number : ℕ) (lines : List (List ℕ)) → ((i : ℕ) → slice_get (source_lines bytes) (number + i) ≡ slice_get lines i) → All Stands (numbered source depth (1 + number) lines)
-    numbered_stand number [] h = All-nil Stands
-    numbered_stand number (line ∷ lines) h =
+    numbered_placed : (number : ℕ) (lines : List (List ℕ)) → ((i : ℕ) → slice_get (source_lines bytes) (number + i) ≡ slice_get lines i) → All Stands (numbered source depth (1 + number) lines)
+    numbered_placed number [] h = All-nil Stands
+    numbered_placed number (line ∷ lines) h =
         let v : Visit = record { source = source; line = 1 + number; bytes = line; depth = depth } in
         let same : 1 + number - 1 ≡ number + 0 = omega arith in
         All-cons Stands v (numbered source depth (1 + (1 + number)) lines) (sym (found_line sources (place_of v) bytes is (omega arith)) ∙ ap (slice_get (source_lines bytes)) same ∙ h 0)
-        (numbered_stand (1 + number) lines (λ i. let one : 1 + number + i ≡ number + suc i = omega arith in ap (slice_get (source_lines bytes)) one ∙ h (suc i)))
+        (numbered_placed (1 + number) lines (λ i. let one : 1 + number + i ≡ number + suc i = omega arith in ap (slice_get (source_lines bytes)) one ∙ h (suc i)))
 
-  own_stand : (source depth : ℕ) → source < length sources → All Stands (own_lines sources source depth)
-  own_stand source depth within =
+  own_placed : (source depth : ℕ) → source < length sources → All Stands (own_lines sources source depth)
+  own_placed source depth within =
       let nothing : Source = record { name = []; bytes = [] } in let bytes = (get_or sources source nothing).bytes in
-      numbered_stand source depth bytes (ap (option_map (λ (s : Source). s.bytes)) (slice_get-get_or sources source nothing within)) 0 (source_lines bytes)
+      numbered_placed source depth bytes (ap (option_map (λ (s : Source). s.bytes)) (slice_get-get_or sources source nothing within)) 0 (source_lines bytes)
       (λ i. let none : 0 + i ≡ i = omega arith in ap (slice_get (source_lines bytes)) none)
 
   included_within : (bytes : List ℕ) (source : ℕ) → included sources bytes ≡ Some source → source < length sources
@@ -60,9 +60,9 @@ module _ (sources : List Source) where
       go true (Ok (production events raw name)) h = cc
       go true (Ok (include name)) h = by_name (source_named sources name) (nat_lt (source_named sources name) (length sources)) refl h
 
-  stand_below : (left source : ℕ) → source < length sources → All Stands (visits_below sources left source)
-  stand_below zero source within = own_stand source max_depth within
-  stand_below (suc left) source within = go (λ s h. stand_below left s h) (own_lines sources source (max_depth - suc left)) (own_stand source (max_depth - suc left) within)
+  below_placed : (left source : ℕ) → source < length sources → All Stands (visits_below sources left source)
+  below_placed zero source within = own_placed source max_depth within
+  below_placed (suc left) source within = go (λ s h. below_placed left s h) (own_lines sources source (max_depth - suc left)) (own_placed source (max_depth - suc left) within)
     where
       by_include : ((s : ℕ) → s < length sources → All Stands (visits_below sources left s)) → (bytes : List ℕ) (o : Option ℕ) → included sources bytes ≡ o
           → All Stands (option_map_or (visits_below sources left) o [])
@@ -77,17 +77,17 @@ module _ (sources : List Source) where
           All-append Stands (v ∷ below) (flat_map (λ v. v ∷ option_map_or (visits_below sources left) (included sources v.bytes) []) vs)
           (All-cons Stands v below (All-head Stands v vs h) (by_include others v.bytes (included sources v.bytes) refl)) (go others vs (All-tail Stands v vs h))
 
-  definitions_stand : (root : List ℕ) → All Stands (definition_lines sources root)
-  definitions_stand root = go (nat_lt (source_named sources root) (length sources)) refl
+  definitions_placed : (root : List ℕ) → All Stands (definition_lines sources root)
+  definitions_placed root = go (nat_lt (source_named sources root) (length sources)) refl
     where
       all : List Visit
       all = visits sources (source_named sources root)
 
-      go : (there : Bool) → nat_lt (source_named sources root) (length sources) ≡ there → All Stands (cond there (filter (λ (v : Visit). says_definition v.bytes) (take max_lines all)) [])
+      go : (there : Bool) → nat_lt (source_named sources root) (length sources) ≡ there → All Stands (cond there (filter (λ (v : Visit). is_definition_line v.bytes) (take max_lines all)) [])
       go false e = All-nil Stands
       go true e =
-          All-filter (λ (v : Visit). says_definition v.bytes) Stands (take max_lines all)
-          (All-take Stands max_lines all (stand_below max_depth (source_named sources root) (ltb-true (source_named sources root) (length sources) e)))
+          All-filter (λ (v : Visit). is_definition_line v.bytes) Stands (take max_lines all)
+          (All-take Stands max_lines all (below_placed max_depth (source_named sources root) (ltb-true (source_named sources root) (length sources) e)))
 
 -- ---- the events of a line that gives a definition
 
@@ -147,7 +147,7 @@ module _ (names : KeysymNames) where
         by_sequence (Err f) e h = cc
         by_sequence (Ok sequence) e h = sequence_values v 0 events sequence e ∙ ap all_some (by_text sequence (string_text v raw) (result_text names v (length events) name) h)
 
-    line_values : (sources : List Source) → line_gives names sources v ≡ Ok (Some d) → option_map keysyms_of (line_events v.bytes) ≡ Some (all_some d.sequence)
+    line_values : (sources : List Source) → line_result names sources v ≡ Ok (Some d) → option_map keysyms_of (line_events v.bytes) ≡ Some (all_some d.sequence)
     line_values sources = go (is_utf8 v.bytes) (reading_of v.bytes)
       where
         given : Result (Option Definition) ReadFault → Result Definition ReadFault
@@ -167,7 +167,7 @@ module _ (names : KeysymNames) where
         by_include false true h = cc
         by_include false false h = cc
 
-        go : (text : Bool) (r : Result Reading LexFault) → cond text (at_line v r >>= said names sources v) (Err (faults.NotUtf8 v.source v.line)) ≡ Ok (Some d)
+        go : (text : Bool) (r : Result Reading LexFault) → cond text (at_line v r >>= reading_result names sources v) (Err (faults.NotUtf8 v.source v.line)) ≡ Ok (Some d)
             → option_map keysyms_of (let o : Option (List (List ℕ)) = cond text (events_of r) None in o) ≡ Some (all_some d.sequence)
         go false r h = cc
         go true (Err f) h = cc
@@ -182,7 +182,7 @@ module _ (names : KeysymNames) (sources : List Source) where
   abbrev keysyms_at : DefinitionPlace → Option (List (Option ℕ))
   keysyms_at place = option_map (keysyms_of names) (written_events sources place)
 
-  each_values : (vs : List Visit) (table : List Definition) → All (Stands sources) vs → map (line_gives names sources) vs ≡ map (λ d. Ok (Some d)) table
+  each_values : (vs : List Visit) (table : List Definition) → All (Stands sources) vs → map (line_result names sources) vs ≡ map (λ d. Ok (Some d)) table
       → map keysyms_at (map place_of vs) ≡ map (λ (d : Definition). Some (all_some names d.sequence)) table
   each_values [] [] a h = refl
   each_values [] (d ∷ table) a h = cc
@@ -197,4 +197,4 @@ module _ (names : KeysymNames) (sources : List Source) where
   pub events_written : (root : List ℕ) (table : List Definition) → definitions_of names sources root ≡ Ok table
       → map (λ place. option_map (λ events. map (value names) events) (written_events sources place)) (definition_places sources root)
       ≡ map (λ (d : Definition). Some (map (λ k. Some k) d.sequence)) table
-  events_written root table h = each_values (definition_lines sources root) table (definitions_stand sources root) (lines_told names sources root table h)
+  events_written root table h = each_values (definition_lines sources root) table (definitions_placed sources root) (definition_lines_exact names sources root table h)

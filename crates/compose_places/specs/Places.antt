@@ -13,13 +13,13 @@ is_production (Ok (production events raw name)) = true
 is_production _ = false
 
 -- the line is a definition, or would be if its names were known and its text valid
-abbrev pub says_definition : List ℕ → Bool
-says_definition bytes = is_utf8 bytes && is_production (reading_of bytes)
+abbrev pub is_definition_line : List ℕ → Bool
+is_definition_line bytes = is_utf8 bytes && is_production (reading_of bytes)
 
 -- the lines that give definitions, in reading order
 abbrev pub definition_lines : List Source → List ℕ → List Visit
 definition_lines sources root =
-    if nat_lt (source_named sources root) (length sources) then filter (λ v. says_definition v.bytes) (take max_lines (visits sources (source_named sources root))) else []
+    if nat_lt (source_named sources root) (length sources) then filter (λ v. is_definition_line v.bytes) (take max_lines (visits sources (source_named sources root))) else []
 
 -- the place of a line
 abbrev pub place_of : Visit → DefinitionPlace

@@ -7,7 +7,7 @@ ghost use Rattle.compose_places.specs.Events.{line_at, line_events, written_even
 
 use crate::places::DefinitionPlace;
 use arrayvec::ArrayVec;
-use compose_lex::{Said, lex_line_into};
+use compose_lex::{LineContent, lex_line_into};
 use compose_read::Sources;
 use compose_text::first_line;
 
@@ -33,7 +33,7 @@ pub(crate) fn line_events(line: &[u8]) -> Option<Events<'_>>
     };
     let mut events = ArrayVec::new();
     match lex_line_into(text, &mut events) {
-        Ok(Said::Production { .. }) => Some(events),
+        Ok(LineContent::Production { .. }) => Some(events),
         _ => None,
     }
 }

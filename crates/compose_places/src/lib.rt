@@ -21,8 +21,8 @@ ghost use Rattle.compose_model.specs.Table.{Definition};
 ghost use Rattle.compose_model.specs.Nodes.{leaves};
 ghost use Rattle.compose_model.specs.declared.Rule.{Rule};
 ghost use Rattle.compose_read.specs.Lines.{Source};
-ghost use Rattle.compose_read.specs.Read.{line_gives, definitions_of};
-ghost use Rattle.compose_tree.specs.TableGives.{table_of};
+ghost use Rattle.compose_read.specs.Read.{line_result, definitions_of};
+ghost use Rattle.compose_tree.specs.TableReturns.{table_of};
 ghost use Rattle.compose_places.specs.Counting.{counting_line, read_lines, AreLines};
 ghost use Rattle.compose_places.specs.Places.{definition_lines, definition_places};
 ghost use Rattle.compose_places.specs.Events.{written_events};
@@ -46,7 +46,7 @@ pub use places::{DefinitionPlace, definition_places};
 pub fn law_places()
     ensures lines { (names : KeysymNames) (sources : List Source) (root : List ℕ)
         (table : List Definition) → definitions_of names sources root ≡ Ok table
-        → map (line_gives names sources) (definition_lines sources root)
+        → map (line_result names sources) (definition_lines sources root)
         ≡ map (λ d. Ok (Some d)) table }
     ensures as_many { (names : KeysymNames) (sources : List Source) (root : List ℕ)
         (table : List Definition) → definitions_of names sources root ≡ Ok table

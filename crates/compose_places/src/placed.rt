@@ -3,7 +3,7 @@ ghost use Rattle.std.specs.Prelude.{◌≡◌, map, IfOk};
 ghost use Rattle.compose_model.specs.Nodes.{leaves};
 ghost use Rattle.compose_places.specs.Counting.{counting_line, read_lines};
 ghost use Rattle.compose_places.specs.Overlaps.{overlap_count};
-ghost use Rattle.compose_tree.specs.TableGives.{TableGives, table_of};
+ghost use Rattle.compose_tree.specs.TableReturns.{TableReturns, table_of};
 
 use crate::counting::{CountingLine, begun_lines, last_lines};
 use crate::overlaps::count_distinct;
@@ -39,7 +39,7 @@ pub fn read_placed_table<'a, T: ComposeTable>(
     root: &str,
     rule: Rule,
 ) -> Result<PlacedTable<'a, T>, TableFault>
-    ensures table { TableGives (λ placed. T.definitions placed.table) result
+    ensures table { TableReturns (λ placed. T.definitions placed.table) result
         (table_of names.now sources.now root.now rule) }
     ensures lines { IfOk result
         (λ placed. placed.lines.items

@@ -1,10 +1,10 @@
 //! The places of the definitions of a table.
 ghost use Rattle.std.specs.Prelude.{◌≡◌, map, filter, take, IfOk};
 ghost use Rattle.compose_read.specs.Read.{max_lines};
-ghost use Rattle.compose_places.specs.Places.{says_definition, place_of, definition_places};
+ghost use Rattle.compose_places.specs.Places.{is_definition_line, place_of, definition_places};
 
 use arrayvec::ArrayVec;
-use compose_lex::{Said, lex_line_into};
+use compose_lex::{LineContent, lex_line_into};
 use compose_read::{Sources, Visits};
 use std::alloc::{AllocError, Global};
 
@@ -41,7 +41,7 @@ pub fn definition_places(
 fn places_in(alloc: Global, mut visits: Visits<'_>) -> Result<Vec<DefinitionPlace>, AllocError>
     ensures { IfOk result
         (λ places. places.items
-        ≡ map place_of (filter (λ v. says_definition v.bytes) (take max_lines visits.entry))) }
+        ≡ map place_of (filter (λ v. is_definition_line v.bytes) (take max_lines visits.entry))) }
 {
     let mut places = Vec::new(alloc);
     let mut lines = 0;
@@ -50,7 +50,7 @@ fn places_in(alloc: Global, mut visits: Visits<'_>) -> Result<Vec<DefinitionPlac
             return Ok(places);
         };
         lines += 1;
-        if says_definition(line.bytes) {
+        if is_definition_line(line.bytes) {
             places.push(DefinitionPlace {
                 source: line.source,
                 line: line.line,
@@ -62,8 +62,8 @@ fn places_in(alloc: Global, mut visits: Visits<'_>) -> Result<Vec<DefinitionPlac
 
 /// Whether the line is a definition, or would be if its names were known and its text valid.
 /// O(bytes).
-fn says_definition(bytes: &[u8]) -> bool
-    ensures { result ≡ says_definition bytes.now }
+fn is_definition_line(bytes: &[u8]) -> bool
+    ensures { result ≡ is_definition_line bytes.now }
 {
     let Ok(text) = str::from_utf8(bytes) else {
         return false;
@@ -71,6 +71,6 @@ fn says_definition(bytes: &[u8]) -> bool
     let mut events = ArrayVec::new();
     matches!(
         lex_line_into(text, &mut events),
-        Ok(Said::Production { .. })
+        Ok(LineContent::Production { .. })
     )
 }

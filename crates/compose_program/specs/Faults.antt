@@ -9,8 +9,8 @@ use Rattle.compose_arguments.specs.declared.given_tables.TypeTable.{TypeTable}
 use Rattle.compose_arguments.specs.declared.given_tables.TypeTable.TheVariants.{Manifest as OneManifest, File}
 use Rattle.compose_arguments.specs.declared.question.Question.{Question}
 use Rattle.compose_arguments.specs.declared.question.Question.TheVariants.{Keys, Check, Explain, Diff, How, List as ListTable, Lint, Make}
-use Rattle.compose_arguments.specs.declared.request.Request.{Request}
-use Rattle.compose_arguments.specs.declared.request.Request.TheVariants.{Answer, Update, Serve, Load, Session}
+use Rattle.compose_arguments.specs.declared.request.CommandRequest.{CommandRequest}
+use Rattle.compose_arguments.specs.declared.request.CommandRequest.TheVariants.{Answer, Update, Serve, Load, Session}
 use Rattle.compose_arguments.specs.declared.serve_arguments.Served.{Served}
 use Rattle.compose_arguments.specs.declared.serve_arguments.Served.TheVariants.{Files as FilesServed, State}
 use Rattle.compose_input.specs.declared.fault.Fault.{Fault}
@@ -32,7 +32,7 @@ is_json_answer (ListTable arguments) = arguments.json
 is_json_answer (Lint arguments) = arguments.json
 is_json_answer _ = false
 
-abbrev pub is_json : Request → Bool
+abbrev pub is_json : CommandRequest → Bool
 is_json (Answer question) = is_json_answer question
 is_json _ = false
 
@@ -57,7 +57,7 @@ abbrev pub is_served_file : Served → Bool
 is_served_file (FilesServed table repertoire certificate) = is_file table
 is_served_file (State folder) = false
 
-abbrev pub is_of_files : Request → Bool
+abbrev pub is_of_files : CommandRequest → Bool
 is_of_files (Answer question) = is_answer_on_files question
 is_of_files (Update arguments fresh) = true
 is_of_files (Serve arguments fresh) = is_served_file arguments.served
@@ -68,7 +68,7 @@ is_of_files (Session arguments) = arguments.files
 
 -- details if the answer is in JSON, words if the command is given Compose files, and otherwise the
 -- line, with the details if `verbose`
-abbrev pub fault_form : Bool → Request → FaultForm
+abbrev pub fault_form : Bool → CommandRequest → FaultForm
 fault_form verbose request = if is_json request then Details else if is_of_files request then Words else if verbose then Details else Line
 
 -- the outcome of a run whose input can't be read or is refused, in this form

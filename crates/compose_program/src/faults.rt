@@ -1,9 +1,9 @@
 //! The form in which a run prints why its input can't be read or is refused.
 ghost use Rattle.std.specs.Prelude.{◌≡◌, IfOk};
-ghost use Rattle.compose_program.specs.Faults as said;
+ghost use Rattle.compose_program.specs.Faults as spec;
 ghost use Rattle.compose_program.specs.Faults.{IsFaultInForm};
 
-use compose_arguments::{BothTables, DiffForm, Question, Request, Served, TypeTable};
+use compose_arguments::{BothTables, CommandRequest, DiffForm, Question, Served, TypeTable};
 use compose_input::Fault;
 use compose_report::{Outcome, fault_outcome, fault_worded};
 use std::alloc::{AllocError, Global};
@@ -22,8 +22,8 @@ pub enum FaultForm {
 
 /// Returns the form for this request: details if the answer is in JSON, words if the command is
 /// given Compose files, and otherwise the line, with the details if `verbose`. O(1).
-pub fn fault_form(verbose: bool, request: &Request<'_>) -> FaultForm
-    ensures { result ≡ said.fault_form verbose request.now }
+pub fn fault_form(verbose: bool, request: &CommandRequest<'_>) -> FaultForm
+    ensures { result ≡ spec.fault_form verbose request.now }
 {
     if is_json(request) {
         return FaultForm::Details;
@@ -52,20 +52,21 @@ pub fn fault_in_form(alloc: Global, form: FaultForm, fault: &Fault) -> Result<Ou
 }
 
 /// Returns whether the answer is to be in JSON.
-fn is_json(request: &Request<'_>) -> bool
-    ensures { result ≡ said.is_json request.now }
+fn is_json(request: &CommandRequest<'_>) -> bool
+    ensures { result ≡ spec.is_json request.now }
 {
     match request {
-        Request::Answer(question) => is_json_answer(question),
-        Request::Update { .. } | Request::Serve { .. } | Request::Load(_) | Request::Session(_) => {
-            false
-        }
+        CommandRequest::Answer(question) => is_json_answer(question),
+        CommandRequest::Update { .. }
+        | CommandRequest::Serve { .. }
+        | CommandRequest::Load(_)
+        | CommandRequest::Session(_) => { false }
     }
 }
 
 /// Returns whether the answer to this question is to be in JSON.
 fn is_json_answer(question: &Question<'_>) -> bool
-    ensures { result ≡ said.is_json_answer question.now }
+    ensures { result ≡ spec.is_json_answer question.now }
 {
     match question {
         Question::Diff { arguments, .. } => is_json_form(arguments.form),
@@ -82,7 +83,7 @@ fn is_json_answer(question: &Question<'_>) -> bool
 
 /// Returns whether this form of `diff` is JSON.
 fn is_json_form(form: DiffForm) -> bool
-    ensures { result ≡ said.is_json_form form }
+    ensures { result ≡ spec.is_json_form form }
 {
     match form {
         DiffForm::Json => true,
@@ -91,21 +92,21 @@ fn is_json_form(form: DiffForm) -> bool
 }
 
 /// Returns whether the command is given Compose files instead of manifests.
-fn is_of_files(request: &Request<'_>) -> bool
-    ensures { result ≡ said.is_of_files request.now }
+fn is_of_files(request: &CommandRequest<'_>) -> bool
+    ensures { result ≡ spec.is_of_files request.now }
 {
     match request {
-        Request::Answer(question) => is_answer_on_files(question),
-        Request::Update { .. } => true,
-        Request::Serve { arguments, .. } => is_served_file(&arguments.served),
-        Request::Load(arguments) => is_file(&arguments.new),
-        Request::Session(arguments) => arguments.files,
+        CommandRequest::Answer(question) => is_answer_on_files(question),
+        CommandRequest::Update { .. } => true,
+        CommandRequest::Serve { arguments, .. } => is_served_file(&arguments.served),
+        CommandRequest::Load(arguments) => is_file(&arguments.new),
+        CommandRequest::Session(arguments) => arguments.files,
     }
 }
 
 /// Returns whether a Compose file is served.
 fn is_served_file(served: &Served<'_>) -> bool
-    ensures { result ≡ said.is_served_file served.now }
+    ensures { result ≡ spec.is_served_file served.now }
 {
     match served {
         Served::Files { table, .. } => is_file(table),
@@ -115,7 +116,7 @@ fn is_served_file(served: &Served<'_>) -> bool
 
 /// Returns whether this question is about Compose files.
 fn is_answer_on_files(question: &Question<'_>) -> bool
-    ensures { result ≡ said.is_answer_on_files question.now }
+    ensures { result ≡ spec.is_answer_on_files question.now }
 {
     match question {
         Question::Keys { table, .. } => is_file(table),
@@ -132,7 +133,7 @@ fn is_answer_on_files(question: &Question<'_>) -> bool
 
 /// Returns whether a table is given as its Compose file.
 fn is_file(table: &TypeTable<'_>) -> bool
-    ensures { result ≡ said.is_file table.now }
+    ensures { result ≡ spec.is_file table.now }
 {
     match table {
         TypeTable::Manifest(_) => false,
@@ -142,7 +143,7 @@ fn is_file(table: &TypeTable<'_>) -> bool
 
 /// Returns whether two tables are given as their Compose files.
 fn are_files(tables: &BothTables<'_>) -> bool
-    ensures { result ≡ said.are_files tables.now }
+    ensures { result ≡ spec.are_files tables.now }
 {
     match tables {
         BothTables::Manifests(_) => false,

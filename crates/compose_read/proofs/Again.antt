@@ -15,7 +15,7 @@ use Rattle.compose_lex.specs.Fault.{reading_of}
 use Rattle.compose_lex.specs.Escape.{text_of}
 use Rattle.compose_lex.specs.declared.LexFault.{LexFault}
 use Rattle.compose_read.specs.Lines.{Source, Visit, included, included_by, source_named, numbered, own_lines, source_lines, visits_below}
-use Rattle.compose_read.specs.Read.{at_line, event_keysym, sequence_of, string_text, result_text, definition_of, include_fault, said, line_gives}
+use Rattle.compose_read.specs.Read.{at_line, event_keysym, sequence_of, string_text, result_text, definition_of, include_fault, reading_result, line_result}
 use Rattle.compose_read.specs.Kept.{definitions_in, given, are_faultless}
 use Rattle.compose_read.specs.Visits.{below}
 use Rattle.compose_read.proofs.ReadLines.{plain_line, lines_below}
@@ -100,29 +100,29 @@ module _ (names : KeysymNames) (sources : List Source) (v w : Visit) where
         go true false b h = tt
         go true true b h = ap (λ b. let r : Result (Option Definition) ReadFault = cond b (Ok None) (Err (faults.IncludeDepth w.source w.line)) in r) (h refl)
 
-    said_again : (reading : Reading) → Follows (said names sources v reading) (said names sources w reading)
-    said_again blank = refl
-    said_again (include name) = include_again name
-    said_again (production events raw name) =
+    expected_again : (reading : Reading) → Follows (reading_result names sources v reading) (reading_result names sources w reading)
+    expected_again blank = refl
+    expected_again (include name) = include_again name
+    expected_again (production events raw name) =
         follows_then (definition_of names v events raw name) (definition_of names w events raw name) (λ d. Ok (Some d)) (λ d. Ok (Some d)) (definition_again events raw name) (λ _. refl)
 
     -- a line without a fault has the same result again if no more includes lead to it
-    pub line_again : (bytes : List ℕ) → v.bytes ≡ bytes → w.bytes ≡ bytes → is_ok (line_gives names sources v) ≡ true → line_gives names sources w ≡ line_gives names sources v
+    pub line_again : (bytes : List ℕ) → v.bytes ≡ bytes → w.bytes ≡ bytes → is_ok (line_result names sources v) ≡ true → line_result names sources w ≡ line_result names sources v
     line_again bytes a b =
-        same_then (line_gives names sources v) (line_gives names sources w)
-        (subst (λ bs. Follows (line_of v bs) (line_gives names sources w)) (sym a) (subst (λ bs. Follows (line_of v bytes) (line_of w bs)) (sym b) (by_utf8 (is_utf8 bytes))))
+        same_then (line_result names sources v) (line_result names sources w)
+        (subst (λ bs. Follows (line_of v bs) (line_result names sources w)) (sym a) (subst (λ bs. Follows (line_of v bytes) (line_of w bs)) (sym b) (by_utf8 (is_utf8 bytes))))
       where
         line_of : Visit → List ℕ → Result (Option Definition) ReadFault
-        line_of u bs = cond (is_utf8 bs) (at_line u (reading_of bs) >>= said names sources u) (Err (faults.NotUtf8 u.source u.line))
+        line_of u bs = cond (is_utf8 bs) (at_line u (reading_of bs) >>= reading_result names sources u) (Err (faults.NotUtf8 u.source u.line))
 
         by_utf8 : (u : Bool)
-            → Follows {A = Option Definition} (cond u (at_line v (reading_of bytes) >>= said names sources v) (Err (faults.NotUtf8 v.source v.line)))
-            (cond u (at_line w (reading_of bytes) >>= said names sources w) (Err (faults.NotUtf8 w.source w.line)))
+            → Follows {A = Option Definition} (cond u (at_line v (reading_of bytes) >>= reading_result names sources v) (Err (faults.NotUtf8 v.source v.line)))
+            (cond u (at_line w (reading_of bytes) >>= reading_result names sources w) (Err (faults.NotUtf8 w.source w.line)))
         by_utf8 false = tt
-        by_utf8 true = follows_then (at_line v (reading_of bytes)) (at_line w (reading_of bytes)) (said names sources v) (said names sources w) (part_again (reading_of bytes)) said_again
+        by_utf8 true = follows_then (at_line v (reading_of bytes)) (at_line w (reading_of bytes)) (reading_result names sources v) (reading_result names sources w) (part_again (reading_of bytes)) expected_again
 
 -- if no level is left, a line without a fault includes nothing
-none_included : (names : KeysymNames) (sources : List Source) (v : Visit) → v.depth ≡ 8 → is_ok (line_gives names sources v) ≡ true → included sources v.bytes ≡ None
+none_included : (names : KeysymNames) (sources : List Source) (v : Visit) → v.depth ≡ 8 → is_ok (line_result names sources v) ≡ true → included sources v.bytes ≡ None
 none_included names sources v deep h = by_utf8 (is_utf8 v.bytes) h
   where
     by_known : (name : List ℕ) (known inside : Bool) → inside ≡ false
@@ -133,13 +133,13 @@ none_included names sources v deep h = by_utf8 (is_utf8 v.bytes) h
     by_known name true true e h = cc
     by_known name true false e h = cc
 
-    by_reading : (r : Result Reading LexFault) → is_ok (at_line v r >>= said names sources v) ≡ true → included_by sources r ≡ None
+    by_reading : (r : Result Reading LexFault) → is_ok (at_line v r >>= reading_result names sources v) ≡ true → included_by sources r ≡ None
     by_reading (Err fault) h = refl
     by_reading (Ok blank) h = refl
     by_reading (Ok (production events raw name)) h = refl
     by_reading (Ok (include name)) h = by_known name (nat_lt (source_named sources name) (length sources)) (nat_lt v.depth 8) (ap (λ n. nat_lt n 8) deep) h
 
-    by_utf8 : (u : Bool) → is_ok (cond u (at_line v (reading_of v.bytes) >>= said names sources v) (Err (faults.NotUtf8 v.source v.line))) ≡ true
+    by_utf8 : (u : Bool) → is_ok (cond u (at_line v (reading_of v.bytes) >>= reading_result names sources v) (Err (faults.NotUtf8 v.source v.line))) ≡ true
         → (let o : Option ℕ = cond u (included_by sources (reading_of v.bytes)) None in o) ≡ None
     by_utf8 false h = refl
     by_utf8 true h = by_reading (reading_of v.bytes) h
@@ -161,18 +161,18 @@ module _ (names : KeysymNames) (sources : List Source) where
 
   behind : (us vs xs ys : List Visit) → Again us vs → Again xs ys → Again (us ++ xs) (vs ++ ys)
   behind us vs xs ys a b h =
-      let parts = and_parts (are_faultless names sources us) (are_faultless names sources xs) (sym (list_all-append (λ v. is_ok (line_gives names sources v)) us xs) ∙ h) in
+      let parts = and_parts (are_faultless names sources us) (are_faultless names sources xs) (sym (list_all-append (λ v. is_ok (line_result names sources v)) us xs) ∙ h) in
       let f = a parts.0 in let g = b parts.1 in record {
-        faultless = list_all-append (λ v. is_ok (line_gives names sources v)) vs ys ∙ and_from (are_faultless names sources vs) (are_faultless names sources ys) f.faultless g.faultless;
+        faultless = list_all-append (λ v. is_ok (line_result names sources v)) vs ys ∙ and_from (are_faultless names sources vs) (are_faultless names sources ys) f.faultless g.faultless;
         given =
-            flat_map-append (λ v. definitions_in (line_gives names sources v)) vs ys
-            ∙ ap₂ (λ t u. t ++ u) f.given g.given ∙ sym (flat_map-append (λ v. definitions_in (line_gives names sources v)) us xs);
+            flat_map-append (λ v. definitions_in (line_result names sources v)) vs ys
+            ∙ ap₂ (λ t u. t ++ u) f.given g.given ∙ sym (flat_map-append (λ v. definitions_in (line_result names sources v)) us xs);
         many = (let n = length-append us xs in let m = length-append vs ys in let i = f.many in let j = g.many in omega arith);
       }
 
   alone_again : (v w : Visit) → w.depth ≤ v.depth → w.bytes ≡ v.bytes → Again (v ∷ []) (w ∷ [])
   alone_again v w d b h =
-      let same = line_again names sources v w d v.bytes refl b (and_parts (is_ok (line_gives names sources v)) true h).0 in record {
+      let same = line_again names sources v w d v.bytes refl b (and_parts (is_ok (line_result names sources v)) true h).0 in record {
         faultless = ap (λ r. is_ok r && true) same ∙ h;
         given = ap (λ r. definitions_in r ++ []) same;
         many = refl;
@@ -190,7 +190,7 @@ module _ (names : KeysymNames) (sources : List Source) where
   -- a line and what it includes
   deepest_again : (left : ℕ) (v w : Visit) → v.depth ≡ 8 → w.depth ≤ v.depth → w.bytes ≡ v.bytes → Again (below sources zero v) (below sources left w)
   deepest_again left v w deep d b h =
-      let none = none_included names sources v deep (and_parts (is_ok (line_gives names sources v)) true h).0 in
+      let none = none_included names sources v deep (and_parts (is_ok (line_result names sources v)) true h).0 in
       subst (IsAgain (v ∷ [])) (sym (plain_line sources left w (ap (included sources) b ∙ none))) (alone_again v w d b h)
 
   line_below_again : (left other : ℕ) (v w : Visit) → w.depth ≤ v.depth → w.bytes ≡ v.bytes → ((source : ℕ) → Again (visits_below sources left source) (visits_below sources other source))

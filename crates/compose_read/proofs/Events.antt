@@ -18,8 +18,8 @@ put_prefix ks (Ok more) = Ok (ks ++ more)
 put_prefix ks (Err e) = Err e
 
 -- the keysyms of the events from this index on, after these
-abbrev pub sequence_behind : KeysymNames → Visit → List (Bor (List ℕ)) → List ℕ → ℕ → Result (List ℕ) ReadFault
-sequence_behind names v events ks index = put_prefix ks (sequence_of names v index (drop index (map (λ e. e.now) events)))
+abbrev pub sequence_after : KeysymNames → Visit → List (Bor (List ℕ)) → List ℕ → ℕ → Result (List ℕ) ReadFault
+sequence_after names v events ks index = put_prefix ks (sequence_of names v index (drop index (map (λ e. e.now) events)))
 
 put_one : (ks : List ℕ) (k : ℕ) (r : Result (List ℕ) ReadFault) → put_prefix ks (r >>= (λ s. Ok (k ∷ s))) ≡ put_prefix (ks ++ k ∷ []) r
 put_one ks k (Ok s) = ap Ok (sym (append_assoc ks (k ∷ []) s))
@@ -38,7 +38,7 @@ at_event events index d l =
 -- the keysym of an event is put after the others
 pub event_taken : (names : KeysymNames) (v : Visit) (events : List (Bor (List ℕ))) (ks : List ℕ) (index : ℕ) (d : Bor (List ℕ)) (k : ℕ) → index < length events
     → event_keysym v index (value names (get_or events index d).now) ≡ Ok k
-    → sequence_behind names v events ks index ≡ sequence_behind names v events (ks ++ k ∷ []) (index + 1)
+    → sequence_after names v events ks index ≡ sequence_after names v events (ks ++ k ∷ []) (index + 1)
 event_taken names v events ks index d k l f =
     ap (λ es. put_prefix ks (sequence_of names v index es)) (at_event events index d l)
     ∙ ap (λ r. put_prefix ks (r >>= (λ k. sequence_of names v (1 + index) (drop (index + 1) (map (λ e. e.now) events)) >>= (λ s. Ok (k ∷ s))))) f
@@ -48,19 +48,19 @@ event_taken names v events ks index d k l f =
 -- an event without a keysym is the fault
 pub event_refused : (names : KeysymNames) (v : Visit) (events : List (Bor (List ℕ))) (ks : List ℕ) (index : ℕ) (d : Bor (List ℕ)) (fault : ReadFault) → index < length events
     → event_keysym v index (value names (get_or events index d).now) ≡ Err fault
-    → sequence_behind names v events ks index ≡ Err fault
+    → sequence_after names v events ks index ≡ Err fault
 event_refused names v events ks index d fault l f =
     ap (λ es. put_prefix ks (sequence_of names v index es)) (at_event events index d l)
     ∙ ap (λ r. put_prefix ks (r >>= (λ k. sequence_of names v (1 + index) (drop (index + 1) (map (λ e. e.now) events)) >>= (λ s. Ok (k ∷ s))))) f
 
 -- after the last event nothing is left
-pub events_end : (names : KeysymNames) (v : Visit) (events : List (Bor (List ℕ))) (ks : List ℕ) (index : ℕ) → index ≡ length events → sequence_behind names v events ks index ≡ Ok ks
+pub events_end : (names : KeysymNames) (v : Visit) (events : List (Bor (List ℕ))) (ks : List ℕ) (index : ℕ) → index ≡ length events → sequence_after names v events ks index ≡ Ok ks
 events_end names v events ks index h =
     ap (λ es. put_prefix ks (sequence_of names v index es)) (drop_of_length-le (map (λ (e : Bor (List ℕ)). e.now) events) (omega (arith, length-map events (λ (e : Bor (List ℕ)). e.now))))
     ∙ ap Ok (append-nil ks)
 
 -- and nothing is before the first
-pub events_all : (names : KeysymNames) (v : Visit) (events : List (Bor (List ℕ))) → sequence_behind names v events [] 0 ≡ sequence_of names v 0 (map (λ e. e.now) events)
+pub events_all : (names : KeysymNames) (v : Visit) (events : List (Bor (List ℕ))) → sequence_after names v events [] 0 ≡ sequence_of names v 0 (map (λ e. e.now) events)
 events_all names v events = none_before (sequence_of names v 0 (map (λ e. e.now) events))
   where
     none_before : (r : Result (List ℕ) ReadFault) → put_prefix [] r ≡ r

@@ -6,8 +6,8 @@ use Rattle.compose_text.specs.Results.{◌>>=◌}
 use Rattle.keysym_core.specs.Names.{KeysymNames}
 use Rattle.compose_model.specs.Table.{Definition}
 use Rattle.compose_read.specs.Lines.{Source, Visit}
-use Rattle.compose_read.specs.Read.{line_gives, with_room, read_on, max_lines, max_definitions}
-use Rattle.compose_read.specs.Rows.{Drafted, no_row}
+use Rattle.compose_read.specs.Read.{line_result, with_room, read_on, max_lines, max_definitions}
+use Rattle.compose_read.specs.Rows.{DraftRows, no_row}
 use Rattle.compose_read.specs.Progress.{with_prefix, read_so_far, reading_on}
 use Rattle.compose_read.specs.Kept.{definitions_in, given, are_faultless}
 use Rattle.compose_read.proofs.ReadOn.{nothing_read, definition_read}
@@ -48,7 +48,7 @@ module _ (names : KeysymNames) (sources : List Source) where
   pub read_to_end : (vs : List Visit) (lines definitions : ℕ) (table : List Definition) → read_on names sources lines definitions vs ≡ Ok table
       → (are_faultless names sources vs ≡ true) × (table ≡ given names sources vs)
   read_to_end [] lines definitions table h = (refl, sym (ap in_ok h))
-  read_to_end (v ∷ vs) lines definitions table h = by_line v vs lines definitions table (λ n m t e. read_to_end vs n m t e) (nat_le max_lines lines) (line_gives names sources v) h
+  read_to_end (v ∷ vs) lines definitions table h = by_line v vs lines definitions table (λ n m t e. read_to_end vs n m t e) (nat_le max_lines lines) (line_result names sources v) h
 
   -- also if others come after them
   pub read_through : (vs : List Visit) (p q : Progress) → ((ws : List Visit) → reading_on names sources p (vs ++ ws) ≡ reading_on names sources q ws)
@@ -66,16 +66,16 @@ module _ (names : KeysymNames) (sources : List Source) where
   at_table ws lines table = with_prefix table (read_on names sources lines (length table) ws)
 
   -- lines without a fault that exceed no limit add their definitions after the others
-  pub faultless_read : (vs : List Visit) (p : Progress) (after : Drafted) → are_faultless names sources vs ≡ true → p.lines + length vs ≤ 1000000
+  pub faultless_read : (vs : List Visit) (p : Progress) (after : DraftRows) → are_faultless names sources vs ≡ true → p.lines + length vs ≤ 1000000
       → length p.draft.table + length (given names sources vs) ≤ 100000
       → after.table ≡ p.draft.table ++ given names sources vs → (ws : List Visit) → reading_on names sources p (vs ++ ws) ≡ reading_on names sources (read_so_far (p.lines + length vs) after) ws
   faultless_read [] p after f l m t ws =
       let none : p.lines ≡ p.lines + 0 = omega arith in ap₂ (at_table ws) none (sym (append-nil p.draft.table) ∙ sym t)
-  faultless_read (v ∷ vs) p after f l m t ws = by_gift (λ p f l m t. faultless_read vs p after f l m t ws) (line_gives names sources v) refl f m t
+  faultless_read (v ∷ vs) p after f l m t ws = by_gift (λ p f l m t. faultless_read vs p after f l m t ws) (line_result names sources v) refl f m t
     where
       by_gift : ((q : Progress) → are_faultless names sources vs ≡ true → q.lines + length vs ≤ 1000000 → length q.draft.table + length (given names sources vs) ≤ 100000
           → after.table ≡ q.draft.table ++ given names sources vs → reading_on names sources q (vs ++ ws) ≡ reading_on names sources (read_so_far (q.lines + length vs) after) ws)
-          → (r : Result (Option Definition) ReadFault) → line_gives names sources v ≡ r → is_ok r && are_faultless names sources vs ≡ true
+          → (r : Result (Option Definition) ReadFault) → line_result names sources v ≡ r → is_ok r && are_faultless names sources vs ≡ true
           → length p.draft.table + length (definitions_in r ++ given names sources vs) ≤ 100000
           → after.table ≡ p.draft.table ++ (definitions_in r ++ given names sources vs)
           → reading_on names sources p (v ∷ (vs ++ ws)) ≡ reading_on names sources (read_so_far (p.lines + length (v ∷ vs)) after) ws
@@ -87,7 +87,7 @@ module _ (names : KeysymNames) (sources : List Source) where
           ∙ ap (λ n. at_table ws n after.table) one
       by_gift others (Ok (Some d)) h f m t =
           let one : p.lines + 1 + length vs ≡ p.lines + length (v ∷ vs) = omega arith in
-          let next : Drafted = record { table = p.draft.table ++ d ∷ []; row = no_row } in
+          let next : DraftRows = record { table = p.draft.table ++ d ∷ []; row = no_row } in
           let more = length-append p.draft.table (d ∷ []) in
           definition_read names sources p next v d (vs ++ ws) refl (omega (arith, l)) h (omega (arith, m))
           ∙ others (read_so_far (p.lines + 1) next) f (omega (arith, l)) (omega (arith, m, more)) (t ∙ sym (append_assoc p.draft.table (d ∷ []) (given names sources vs)))

@@ -8,7 +8,7 @@ use Rattle.std.proofs.Math.Seq.{drop-append_seam, take-length}
 use Rattle.keysym_core.specs.Names.{KeysymNames}
 use Rattle.compose_model.specs.Table.{Definition}
 use Rattle.compose_read.specs.Lines.{Source, Visit, visits_below}
-use Rattle.compose_read.specs.Rows.{Drafted}
+use Rattle.compose_read.specs.Rows.{DraftRows}
 use Rattle.compose_read.specs.Progress.{read_so_far, reading_on}
 use Rattle.compose_read.specs.Kept.{given, are_faultless, IsKept, AreKept}
 use Rattle.compose_read.proofs.Pools.{piece_stays}
@@ -114,7 +114,7 @@ module _ (names : KeysymNames) (sources : List Source) where
     as_many = is.lines ∙ sym again.many
 
     -- with the kept definitions put after the table, reading goes on as if the lines of the source were read again
-    pub read_again : (after : Drafted) (lines : ℕ) → lines ≡ p.lines + k.lines → p.lines + k.lines ≤ 1000000 → length p.draft.table + k.count ≤ 100000
+    pub read_again : (after : DraftRows) (lines : ℕ) → lines ≡ p.lines + k.lines → p.lines + k.lines ≤ 1000000 → length p.draft.table + k.count ≤ 100000
         → after.table ≡ p.draft.table ++ take k.count (drop k.first p.draft.table)
         → (ws : List Visit) → reading_on names sources p (now ++ ws) ≡ reading_on names sources (read_so_far lines after) ws
     read_again after lines counted l m t ws =

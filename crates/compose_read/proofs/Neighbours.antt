@@ -144,8 +144,8 @@ module _ (d : Definition) (rows : List Definition) (above : Above d.sequence row
       ap (map (row (d ∷ rows))) prefix_leaves
       ∙ (λ i. own_row i ∷ map_where (λ s. Before d.sequence s) (row (d ∷ rows)) (row rows) (leaves rows) other_row (above_leaves d.sequence rows above) i)
 
-  behind_extended : (s : List ℕ) → Before d.sequence s → is_extended (d ∷ rows) s ≡ is_extended rows s
-  behind_extended s b = ap (λ c. c || is_extended rows s) (later_no_prefix d.sequence s b)
+  later_extended : (s : List ℕ) → Before d.sequence s → is_extended (d ∷ rows) s ≡ is_extended rows s
+  later_extended s b = ap (λ c. c || is_extended rows s) (later_no_prefix d.sequence s b)
 
   own_extended : is_extended (d ∷ rows) d.sequence ≡ is_extended rows d.sequence
   own_extended = ap (λ c. c || is_extended rows d.sequence) (not_own_prefix d.sequence)
@@ -160,7 +160,7 @@ module _ (d : Definition) (rows : List Definition) (above : Above d.sequence row
   found_behind =
       ap (find (is_extended (d ∷ rows))) prefix_leaves
       ∙ (λ i. cond (own_extended i) (Some d.sequence)
-      (find_where (λ s. Before d.sequence s) (is_extended (d ∷ rows)) (is_extended rows) (leaves rows) behind_extended (above_leaves d.sequence rows above) i))
+      (find_where (λ s. Before d.sequence s) (is_extended (d ∷ rows)) (is_extended rows) (leaves rows) later_extended (above_leaves d.sequence rows above) i))
 
 -- ---- what happens to the first row
 
@@ -172,7 +172,7 @@ module _ (d : Definition) (rows : List Definition) (above : Above d.sequence row
   others_longest : filter (λ (e : Definition). not (is_extended (d ∷ rows) e.sequence)) rows ≡ longest rows
   others_longest =
       filter_where (λ (e : Definition). Before d.sequence e.sequence) (λ e. not (is_extended (d ∷ rows) e.sequence)) (λ e. not (is_extended rows e.sequence)) rows
-      (λ e b. ap not (behind_extended d rows above e.sequence b)) above
+      (λ e b. ap not (later_extended d rows above e.sequence b)) above
 
   above_longest : Above d.sequence (longest rows)
   above_longest = all_kept (λ (e : Definition). Before d.sequence e.sequence) (λ e. not (is_extended rows e.sequence)) rows above
@@ -180,14 +180,14 @@ module _ (d : Definition) (rows : List Definition) (above : Above d.sequence row
   longest_prefix : longest (d ∷ rows) ≡ cond (not (is_extended rows d.sequence)) (d ∷ longest rows) (longest rows)
   longest_prefix = λ i. cond (not (own_extended d rows above i)) (d ∷ others_longest i) (others_longest i)
 
-  overlap_behind : is_extended rows d.sequence ≡ false → overlap (d ∷ rows) ≡ overlap rows
-  overlap_behind h =
+  overlap_after : is_extended rows d.sequence ≡ false → overlap (d ∷ rows) ≡ overlap rows
+  overlap_after h =
       ap (with_extension (d ∷ rows)) (found_behind d rows above ∙ ap (λ b. cond b (Some d.sequence) (find (is_extended rows) (leaves rows))) h)
       ∙ prefix_extension d rows above (find (is_extended rows) (leaves rows)) (λ s e. found_has (λ s. Before d.sequence s) (is_extended rows) (leaves rows) s e (above_leaves d.sequence rows above))
 
   -- a row that no other extends is kept, and the others are settled as if it were not there
   prefix_stays : (rule : Rule) → is_extended rows d.sequence ≡ false → settled rule (d ∷ rows) ≡ put_if d (Ok true) (settled rule rows)
-  prefix_stays Refuse h = (λ i. or_overlap (overlap_behind h i) (prefix_in_order d rows above i)) ∙ put_in d (in_order rows) (overlap rows)
+  prefix_stays Refuse h = (λ i. or_overlap (overlap_after h i) (prefix_in_order d rows above i)) ∙ put_in d (in_order rows) (overlap rows)
   prefix_stays Longest h =
       let kept : longest (d ∷ rows) ≡ d ∷ longest rows = longest_prefix ∙ ap (λ b. cond (not b) (d ∷ longest rows) (longest rows)) h in
       ap Ok (ap in_order kept ∙ prefix_in_order d (longest rows) above_longest)
@@ -264,20 +264,20 @@ module _ (d e : Definition) (rows : List Definition) (a : Ascends (d ∷ e ∷ r
   next_later : Before d.sequence e.sequence
   next_later = apart d.sequence e.sequence a.0 s
 
-  behind_first : Above d.sequence (e ∷ rows)
-  behind_first = above_rows d.sequence e rows next_later a.1
+  after_first : Above d.sequence (e ∷ rows)
+  after_first = above_rows d.sequence e rows next_later a.1
 
   extended_as : (b : Bool) → is_proper_prefix d.sequence e.sequence ≡ b → is_extended (e ∷ rows) d.sequence ≡ b
   extended_as b p = extended_by_first d.sequence e rows next_later a.1 ∙ p
 
   is_prefix : (rule : Rule) → is_proper_prefix d.sequence e.sequence ≡ true → put_if d (prefix_of_next rule d e) (settled rule (e ∷ rows)) ≡ settled rule (d ∷ e ∷ rows)
-  is_prefix Refuse p = let first = first_leaf e rows a.1 in sym (prefix_refused d (e ∷ rows) behind_first e.sequence first.0 first.1 p (extended_as true p))
-  is_prefix Longest p = sym (prefix_overridden d (e ∷ rows) behind_first (extended_as true p))
+  is_prefix Refuse p = let first = first_leaf e rows a.1 in sym (prefix_refused d (e ∷ rows) after_first e.sequence first.0 first.1 p (extended_as true p))
+  is_prefix Longest p = sym (prefix_overridden d (e ∷ rows) after_first (extended_as true p))
 
   unlike : (rule : Rule) → put_if d (cond (is_proper_prefix d.sequence e.sequence) (prefix_of_next rule d e) (Ok true)) (settled rule (e ∷ rows)) ≡ settled rule (d ∷ e ∷ rows)
   unlike rule = elim (cases_Bool (is_proper_prefix d.sequence e.sequence)) [
     | inl p ↦ ap (λ b. put_if d (cond b (prefix_of_next rule d e) (Ok true)) (settled rule (e ∷ rows))) p ∙ is_prefix rule p
-    | inr p ↦ ap (λ b. put_if d (cond b (prefix_of_next rule d e) (Ok true)) (settled rule (e ∷ rows))) p ∙ sym (prefix_stays d (e ∷ rows) behind_first rule (extended_as false p))
+    | inr p ↦ ap (λ b. put_if d (cond b (prefix_of_next rule d e) (Ok true)) (settled rule (e ∷ rows))) p ∙ sym (prefix_stays d (e ∷ rows) after_first rule (extended_as false p))
   ]
 
 settled_in_turn : (rule : Rule) (rows : List Definition) → Ascends rows → settled_neighbours rule rows ≡ settled rule rows

@@ -9,7 +9,7 @@ use Rattle.compose_lex.specs.Line.{Reading, blank, include, production}
 use Rattle.compose_lex.specs.Fault.{reading_of}
 use Rattle.compose_lex.specs.declared.LexFault.{LexFault}
 use Rattle.compose_read.specs.Lines.{Source, Visit, included, included_by, numbered, source_lines, visits_below}
-use Rattle.compose_read.specs.Visits.{said_include, raw_include, below, left_to_visit, left_in, left_from}
+use Rattle.compose_read.specs.Visits.{include_text, raw_include, below, left_to_visit, left_in, left_from}
 use Rattle.compose_read.proofs.ReadLines.{visits_are, next_line, plain_line, include_below}
 use Rattle.compose_read.specs.declared.open_source.OpenSource.{OpenSource}
 
@@ -19,7 +19,7 @@ pub included_is : (sources : List Source) (bytes : List ℕ) (name : Option (Lis
 included_is sources bytes name e = ap (option_and_then (λ n. included_by sources (Ok (include n)))) e ∙ go (is_utf8 bytes) (reading_of bytes)
   where
     go : (text : Bool) (r : Result Reading LexFault)
-        → option_and_then (λ n. included_by sources (Ok (include n))) (let o : Option (List ℕ) = cond text (said_include r) None in o)
+        → option_and_then (λ n. included_by sources (Ok (include n))) (let o : Option (List ℕ) = cond text (include_text r) None in o)
         ≡ (let o : Option ℕ = cond text (included_by sources r) None in o)
     go false r = refl
     go true (Err fault) = refl

@@ -12,11 +12,11 @@ use Rattle.std.proofs.lemmas.Str.{IsCharBoundary-at_seam, IsCharBoundary-end, Is
 use Rattle.compose_model.specs.Table.{Definition, is_definition, is_table}
 use Rattle.compose_model.proofs.Definitions.{sequence_few, text_few}
 use Rattle.compose_lex.specs.Escape.{Unescapes, IsText}
-use Rattle.compose_lex.specs.Lexed.{PushGives}
+use Rattle.compose_lex.specs.Lexed.{PushReturns}
 use Rattle.compose_lex.specs.declared.LexFault.{LexFault}
 use Rattle.compose_lex.specs.declared.LexFault.TheVariants as lex_faults
 use Rattle.compose_read.specs.Read.{max_definitions}
-use Rattle.compose_read.specs.Rows.{definition_at, rows_of, IsPlaced, ArePlaced, IsBefore, IsBehind, Drafted, drafted, no_row, with_row}
+use Rattle.compose_read.specs.Rows.{definition_at, rows_of, IsPlaced, ArePlaced, IsBefore, ComesAfter, DraftRows, draft_rows, no_row, with_row}
 use Rattle.compose_read.specs.declared.rows.RowSpan.{RowSpan}
 
 -- ---- pieces
@@ -97,7 +97,7 @@ module _ (keysyms texts : List ℕ) (first_keysym first_byte : ℕ) (l : first_k
 -- them
 abbrev pub IsDrafted : List ℕ → List ℕ → List RowSpan → ℕ → ℕ → Type 0
 IsDrafted keysyms texts spans first_keysym first_byte =
-    ArePlaced keysyms texts spans × (first_keysym ≤ length keysyms) × IsCharBoundary texts first_byte × IsTrue (is_table (rows_of keysyms texts spans)) × IsBehind spans first_keysym first_byte
+    ArePlaced keysyms texts spans × (first_keysym ≤ length keysyms) × IsCharBoundary texts first_byte × IsTrue (is_table (rows_of keysyms texts spans)) × ComesAfter spans first_keysym first_byte
 
 module _ (ks ts : List ℕ) (ps : List RowSpan) (fk fb : ℕ) (is : IsDrafted ks ts ps fk fb) where
   module _ (more text : List ℕ) (u : IsUtf8 text) where
@@ -110,9 +110,9 @@ module _ (ks ts : List ℕ) (ps : List RowSpan) (fk fb : ℕ) (is : IsDrafted ks
       is.4,
     )
 
-    drafted_grown : drafted (ks ++ more) (ts ++ text) ps fk fb ≡ record { table = rows_of ks ts ps; row = record { sequence = drop fk ks ++ more; text = drop fb ts ++ text } }
-    drafted_grown =
-        (λ i. let d : Drafted = record { table = rows_stay ks ts more text u ps is.0 i; row = record { sequence = drop-append-le fk ks more is.1 i; text = drop-append-le fb ts text is.2.0 i } } in d)
+    draft_grown : draft_rows (ks ++ more) (ts ++ text) ps fk fb ≡ record { table = rows_of ks ts ps; row = record { sequence = drop fk ks ++ more; text = drop fb ts ++ text } }
+    draft_grown =
+        (λ i. let d : DraftRows = record { table = rows_stay ks ts more text u ps is.0 i; row = record { sequence = drop-append-le fk ks more is.1 i; text = drop-append-le fb ts text is.2.0 i } } in d)
 
   -- without what is being read
   module _ (prefix text : List ℕ) (k : prefix ≡ take fk ks) (t : text ≡ take fb ts) where
@@ -140,10 +140,10 @@ module _ (ks ts : List ℕ) (ps : List RowSpan) (fk fb : ℕ) (is : IsDrafted ks
     ))
 
     -- a new definition begins empty, and the table does not change
-    pub drafted_begun : drafted prefix text ps fk fb ≡ with_row (drafted ks ts ps fk fb) no_row
-    drafted_begun =
-        ap₂ (λ a b. drafted a b ps fk fb) k t
-        ∙ (λ i. let d : Drafted = record { table = same_rows i; row = record { sequence = none_left fk ks i; text = none_left fb ts i } } in d)
+    pub draft_begun : draft_rows prefix text ps fk fb ≡ with_row (draft_rows ks ts ps fk fb) no_row
+    draft_begun =
+        ap₂ (λ a b. draft_rows a b ps fk fb) k t
+        ∙ (λ i. let d : DraftRows = record { table = same_rows i; row = record { sequence = none_left fk ks i; text = none_left fb ts i } } in d)
       where
         none_left : (n : ℕ) (xs : List ℕ) → drop n (take n xs) ≡ []
         none_left n xs = drop_of_length-le (take n xs) (let m = length-take n xs in omega arith)
@@ -155,11 +155,11 @@ module _ (ks ts : List ℕ) (ps : List RowSpan) (fk fb : ℕ) (is : IsDrafted ks
     with_keysym = subst (λ ts. IsDrafted new ts ps fk fb) (append-nil ts) (subst (λ ks. IsDrafted ks (ts ++ []) ps fk fb) (sym e) (grown (k ∷ []) [] IsUtf8-nil))
 
     -- one more keysym is the last one of the sequence that is being read, and the table does not change
-    pub drafted_keysym : drafted new ts ps fk fb ≡ with_row (drafted ks ts ps fk fb) (record { sequence = drop fk ks ++ k ∷ []; text = drop fb ts })
-    drafted_keysym =
-        (λ i. drafted (e i) (sym (append-nil ts) i) ps fk fb)
-        ∙ drafted_grown (k ∷ []) [] IsUtf8-nil
-        ∙ ap (λ text. let d : Drafted = record { table = rows_of ks ts ps; row = record { sequence = drop fk ks ++ k ∷ []; text = text } } in d) (append-nil (drop fb ts))
+    pub draft_keysym : draft_rows new ts ps fk fb ≡ with_row (draft_rows ks ts ps fk fb) (record { sequence = drop fk ks ++ k ∷ []; text = drop fb ts })
+    draft_keysym =
+        (λ i. draft_rows (e i) (sym (append-nil ts) i) ps fk fb)
+        ∙ draft_grown (k ∷ []) [] IsUtf8-nil
+        ∙ ap (λ text. let d : DraftRows = record { table = rows_of ks ts ps; row = record { sequence = drop fk ks ++ k ∷ []; text = text } } in d) (append-nil (drop fb ts))
 
   -- with more text
   module _ (new text : List ℕ) (e : new ≡ ts ++ text) (u : IsUtf8 text) where
@@ -168,23 +168,23 @@ module _ (ks ts : List ℕ) (ps : List RowSpan) (fk fb : ℕ) (is : IsDrafted ks
     with_text = subst (λ ks. IsDrafted ks new ps fk fb) (append-nil ks) (subst (λ ts. IsDrafted (ks ++ []) ts ps fk fb) (sym e) (grown [] text u))
 
     -- more text comes after that of the definition that is being read, and the table does not change
-    pub drafted_text : drafted ks new ps fk fb ≡ with_row (drafted ks ts ps fk fb) (record { sequence = drop fk ks; text = drop fb ts ++ text })
-    drafted_text =
-        (λ i. drafted (sym (append-nil ks) i) (e i) ps fk fb)
-        ∙ drafted_grown [] text u
-        ∙ ap (λ sequence. let d : Drafted = record { table = rows_of ks ts ps; row = record { sequence = sequence; text = drop fb ts ++ text } } in d) (append-nil (drop fk ks))
+    pub draft_text : draft_rows ks new ps fk fb ≡ with_row (draft_rows ks ts ps fk fb) (record { sequence = drop fk ks; text = drop fb ts ++ text })
+    draft_text =
+        (λ i. draft_rows (sym (append-nil ks) i) (e i) ps fk fb)
+        ∙ draft_grown [] text u
+        ∙ ap (λ sequence. let d : DraftRows = record { table = rows_of ks ts ps; row = record { sequence = sequence; text = drop fb ts ++ text } } in d) (append-nil (drop fk ks))
 
   -- with the text that a raw text stands for, or as before
-  module _ (raw new : List ℕ) (r : Result (Unit {0}) LexFault) (said : Result (List ℕ) LexFault) (gives : PushGives ts new r said)
+  module _ (raw new : List ℕ) (r : Result (Unit {0}) LexFault) (reading_result : Result (List ℕ) LexFault) (gives : PushReturns ts new r reading_result)
       (found : OnOk r ((bytes : List ℕ) × (new ≡ ts ++ bytes) × Unescapes raw bytes × IsText bytes)) where
-    text_behind : (r : Result (Unit {0}) LexFault) → PushGives ts new r said → OnOk r ((bytes : List ℕ) × (new ≡ ts ++ bytes) × Unescapes raw bytes × IsText bytes)
+    later_text : (r : Result (Unit {0}) LexFault) → PushReturns ts new r reading_result → OnOk r ((bytes : List ℕ) × (new ≡ ts ++ bytes) × Unescapes raw bytes × IsText bytes)
         → (text : List ℕ) × (new ≡ ts ++ text) × IsUtf8 text
-    text_behind (Ok _) g f = (f.0, f.1, f.3.utf8)
-    text_behind (Err lex_faults.NoMemory) g f = ([], g ∙ sym (append-nil ts), IsUtf8-nil)
-    text_behind (Err e) g f = ([], g.1 ∙ sym (append-nil ts), IsUtf8-nil)
+    later_text (Ok _) g f = (f.0, f.1, f.3.utf8)
+    later_text (Err lex_faults.NoMemory) g f = ([], g ∙ sym (append-nil ts), IsUtf8-nil)
+    later_text (Err e) g f = ([], g.1 ∙ sym (append-nil ts), IsUtf8-nil)
 
     abbrev behind : (text : List ℕ) × (new ≡ ts ++ text) × IsUtf8 text
-    behind = text_behind r gives found
+    behind = later_text r gives found
 
     -- the text that a raw text stands for, or its fault, does not change the complete definitions
     pub with_raw_text : IsDrafted ks new ps fk fb
@@ -192,13 +192,13 @@ module _ (ks ts : List ℕ) (ps : List RowSpan) (fk fb : ℕ) (is : IsDrafted ks
 
     -- the text that a raw text stands for, or its fault, does not change the table
     pub table_stays : rows_of ks new ps ≡ rows_of ks ts ps
-    table_stays = ap (λ (d : Drafted). d.table) (drafted_text new behind.0 behind.1 behind.2)
+    table_stays = ap (λ (d : DraftRows). d.table) (draft_text new behind.0 behind.1 behind.2)
 
     -- what is appended to the texts is appended to the text of the definition that is being read
-    pub text_given : PushGives (drop fb ts) (drop fb new) r said
+    pub text_given : PushReturns (drop fb ts) (drop fb new) r reading_result
     text_given = go r gives
       where
-        go : (r : Result (Unit {0}) LexFault) → PushGives ts new r said → PushGives (drop fb ts) (drop fb new) r said
+        go : (r : Result (Unit {0}) LexFault) → PushReturns ts new r reading_result → PushReturns (drop fb ts) (drop fb new) r reading_result
         go (Ok _) g = (g.0, g.1, ap (drop fb) g.2 ∙ drop-append-le fb ts g.0 is.2.0)
         go (Err lex_faults.NoMemory) g = ap (drop fb) g
         go (Err e) g = (g.0, ap (drop fb) g.1)
@@ -233,8 +233,8 @@ module _ (ks ts : List ℕ) (ps : List RowSpan) (fk fb : ℕ) (is : IsDrafted ks
             (and_parts (is_table (take count rows)) (is_table (drop count rows))
             (sym (list_all-append is_definition (take count rows) (drop count rows)) ∙ ap is_table (take-append-drop count rows) ∙ h)).0
 
-    behind_again : IsBehind qs fk fb
-    behind_again =
+    after_again : ComesAfter qs fk fb
+    after_again =
         let all = is.4 in
         let old = length-map ps (definition_at ks ts) in
         let many = ap (λ (rs : List RowSpan). length rs) e ∙ length-append ps (take count (drop first ps)) in
@@ -256,7 +256,7 @@ module _ (ks ts : List ℕ) (ps : List RowSpan) (fk fb : ℕ) (is : IsDrafted ks
       subst (λ rows. is_table rows ≡ true) (sym rows_repeated)
           (list_all-append is_definition (rows_of ks ts ps) (take count (drop first (rows_of ks ts ps)))
           ∙ and_from (is_table (rows_of ks ts ps)) (is_table (take count (drop first (rows_of ks ts ps)))) is.3 definitions_again),
-      behind_again,
+      after_again,
     )
 
   -- with the span of the definition that was read

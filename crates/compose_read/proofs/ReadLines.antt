@@ -7,10 +7,10 @@ use Rattle.compose_text.specs.Lines.{lines_of}
 use Rattle.keysym_core.specs.Names.{KeysymNames}
 use Rattle.compose_read.specs.Lines.{Source, Visit, included, source_named, visits, max_depth, numbered, own_lines, source_lines, visits_below}
 use Rattle.compose_read.specs.Visits.{below, left_to_visit}
-use Rattle.compose_read.specs.Rows.{Drafted, no_row}
+use Rattle.compose_read.specs.Rows.{DraftRows, no_row}
 use Rattle.compose_read.specs.Progress.{with_prefix, read_so_far, reading_on, ReadsOn}
 use Rattle.compose_read.specs.Read.{read_on, definitions_of}
-use Rattle.compose_read.specs.ReadGives.{ReadGives}
+use Rattle.compose_read.specs.ReadReturns.{ReadReturns}
 use Rattle.compose_model.specs.Table.{Definition}
 use Rattle.std.specs.Str.{bytes_eq}
 use Rattle.std.proofs.lemmas.List.{append-nil}
@@ -92,43 +92,43 @@ module _ (names : KeysymNames) (sources : List Source) (left source depth line :
   abbrev v : Visit
   v = record { source = source; line = line + 1; bytes = bytes; depth = depth }
 
-  abbrev left_behind : List Visit
-  left_behind = left_to_visit sources left source depth (line + 1) behind
+  abbrev left_after : List Visit
+  left_after = left_to_visit sources left source depth (line + 1) behind
 
-  opened : (ws : List Visit) → reading_on names sources p (below sources left v ++ (left_behind ++ ws)) ≡ reading_on names sources old (whole ++ ws)
+  opened : (ws : List Visit) → reading_on names sources p (below sources left v ++ (left_after ++ ws)) ≡ reading_on names sources old (whole ++ ws)
   opened ws =
-      ap (reading_on names sources p) (sym (append_assoc (below sources left v) left_behind ws) ∙ ap (λ vs. vs ++ ws) (sym (next_line sources left source depth line rest bytes behind lines)))
+      ap (reading_on names sources p) (sym (append_assoc (below sources left v) left_after ws) ∙ ap (λ vs. vs ++ ws) (sym (next_line sources left source depth line rest bytes behind lines)))
       ∙ reads ws
 
   -- a line that includes nothing
   pub plain_turn : (q : Progress) → included sources bytes ≡ None → ((us : List Visit) → reading_on names sources p (v ∷ us) ≡ reading_on names sources q us)
-      → (ws : List Visit) → reading_on names sources q (left_behind ++ ws) ≡ reading_on names sources old (whole ++ ws)
-  plain_turn q h f ws = sym (f (left_behind ++ ws)) ∙ ap (λ vs. reading_on names sources p (vs ++ (left_behind ++ ws))) (sym (plain_line sources left v h)) ∙ opened ws
+      → (ws : List Visit) → reading_on names sources q (left_after ++ ws) ≡ reading_on names sources old (whole ++ ws)
+  plain_turn q h f ws = sym (f (left_after ++ ws)) ∙ ap (λ vs. reading_on names sources p (vs ++ (left_after ++ ws))) (sym (plain_line sources left v h)) ∙ opened ws
 
   -- its fault
   pub line_refused : (q r : Progress) (fault : ReadFault) → ReadsOn {X = Option ℕ} names sources (v ∷ []) p q (Err fault) → ReadsOn {X = Unit {0}} names sources whole old r (Err fault)
   line_refused q r faults.NoMemory h = tt
   line_refused q r fault h = λ ws.
       let first = line_first sources left v in
-      sym (opened ws) ∙ ap (λ vs. reading_on names sources p (vs ++ (left_behind ++ ws))) first.1 ∙ h (first.0 ++ (left_behind ++ ws))
+      sym (opened ws) ∙ ap (λ vs. reading_on names sources p (vs ++ (left_after ++ ws))) first.1 ∙ h (first.0 ++ (left_after ++ ws))
 
   module _ (q : Progress) (included_source : ℕ) (deep : 0 < left) (h : included sources bytes ≡ Some included_source)
       (f : (us : List Visit) → reading_on names sources p (v ∷ us) ≡ reading_on names sources q us) where
-    into_source : (ws : List Visit) → reading_on names sources q (visits_below sources (left - 1) included_source ++ (left_behind ++ ws)) ≡ reading_on names sources old (whole ++ ws)
+    into_source : (ws : List Visit) → reading_on names sources q (visits_below sources (left - 1) included_source ++ (left_after ++ ws)) ≡ reading_on names sources old (whole ++ ws)
     into_source ws =
-        sym (f (visits_below sources (left - 1) included_source ++ (left_behind ++ ws)))
-        ∙ ap (λ vs. reading_on names sources p (vs ++ (left_behind ++ ws))) (sym (include_below sources left v included_source deep h)) ∙ opened ws
+        sym (f (visits_below sources (left - 1) included_source ++ (left_after ++ ws)))
+        ∙ ap (λ vs. reading_on names sources p (vs ++ (left_after ++ ws))) (sym (include_below sources left v included_source deep h)) ∙ opened ws
 
     -- a line that includes a source, and the lines of that source
     pub include_turn : (r : Progress) → ((us : List Visit) → reading_on names sources q (visits_below sources (left - 1) included_source ++ us) ≡ reading_on names sources r us)
-        → (ws : List Visit) → reading_on names sources r (left_behind ++ ws) ≡ reading_on names sources old (whole ++ ws)
-    include_turn r g ws = sym (g (left_behind ++ ws)) ∙ into_source ws
+        → (ws : List Visit) → reading_on names sources r (left_after ++ ws) ≡ reading_on names sources old (whole ++ ws)
+    include_turn r g ws = sym (g (left_after ++ ws)) ∙ into_source ws
 
     -- a fault in the included source
     pub include_refused : (r s : Progress) (fault : ReadFault) → ReadsOn {X = Unit {0}} names sources (visits_below sources (left - 1) included_source) q r (Err fault)
         → ReadsOn {X = Unit {0}} names sources whole old s (Err fault)
     include_refused r s faults.NoMemory e = tt
-    include_refused r s fault e = λ ws. sym (into_source ws) ∙ e (left_behind ++ ws)
+    include_refused r s fault e = λ ws. sym (into_source ws) ∙ e (left_after ++ ws)
 
 -- after the last line the whole is read
 module _ (names : KeysymNames) (sources : List Source) (left source depth line : ℕ) (rest : List ℕ) (lines : lines_of rest ≡ []) where
@@ -144,7 +144,7 @@ module _ (names : KeysymNames) (sources : List Source) (left source depth line :
 
 -- ---- from the root
 
-abbrev nothing : Drafted
+abbrev nothing : DraftRows
 nothing = record { table = []; row = no_row }
 
 none_before : (r : Result (List Definition) ReadFault) → with_prefix [] r ≡ r
@@ -163,14 +163,14 @@ module _ (names : KeysymNames) (sources : List Source) (root : List ℕ) (source
       go false h = cc
 
   -- once all lines from the root are read, their definitions are those of the sources
-  pub all_read : (draft : Drafted) (q : Progress) → draft ≡ nothing → ReadsOn {X = Unit {0}} names sources (visits_below sources 8 source) (read_so_far 0 draft) q (Ok tt)
+  pub all_read : (draft : DraftRows) (q : Progress) → draft ≡ nothing → ReadsOn {X = Unit {0}} names sources (visits_below sources 8 source) (read_so_far 0 draft) q (Ok tt)
       → definitions_of names sources root ≡ Ok q.draft.table
   all_read draft q e h =
       root_read ∙ ap (λ d. reading_on names sources (read_so_far 0 d) (visits_below sources 8 source ++ [])) (sym e) ∙ h [] ∙ ap Ok (append-nil q.draft.table)
 
   -- a fault of a line that is read from the root is that of the sources
-  pub root_refused : {X : Type 0} (view : X → List Definition) (draft : Drafted) (q : Progress) (fault : ReadFault) → draft ≡ nothing
+  pub root_refused : {X : Type 0} (view : X → List Definition) (draft : DraftRows) (q : Progress) (fault : ReadFault) → draft ≡ nothing
       → ReadsOn {X = Unit {0}} names sources (visits_below sources 8 source) (read_so_far 0 draft) q (Err fault)
-      → ReadGives view (Err fault) (definitions_of names sources root)
+      → ReadReturns view (Err fault) (definitions_of names sources root)
   root_refused view draft q faults.NoMemory e h = tt
   root_refused view draft q fault e h = root_read ∙ ap (λ d. reading_on names sources (read_so_far 0 d) (visits_below sources 8 source ++ [])) (sym e) ∙ h []

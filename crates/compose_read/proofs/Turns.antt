@@ -5,7 +5,7 @@ use Rattle.compose_model.specs.Table.{Definition}
 use Rattle.compose_model.specs.declared.Rule.{Rule}
 use Rattle.compose_read.specs.Settle.{Overlap}
 use Rattle.compose_read.specs.Neighbours.{stays_before, put_if, settled_neighbours}
-use Rattle.compose_read.specs.ReadGives.{SettleGives}
+use Rattle.compose_read.specs.ReadReturns.{SettleReturns}
 use Rattle.compose_read.specs.declared.settling.SettleFault.{SettleFault}
 use Rattle.compose_read.specs.declared.settling.SettleFault.TheVariants as faults
 
@@ -28,6 +28,6 @@ module _ (rule : Rule) (kept : List Definition) (d e : Definition) (rows : List 
   turn_left h = ap (λ b. put_all kept (put_if d b (settled_neighbours rule (e ∷ rows)))) h
 
 -- a fault does not depend on the type of the value
-pub fault_says : {X Y Z : Type 0} (view : X → Z) (other : Y → Z) (fault : SettleFault) (said : Result Z Overlap) → SettleGives view (Err fault) said → SettleGives other (Err fault) said
-fault_says view other (faults.Overlap short long) said h = h
-fault_says view other faults.NoMemory said h = tt
+pub fault_says : {X Y Z : Type 0} (view : X → Z) (other : Y → Z) (fault : SettleFault) (reading_result : Result Z Overlap) → SettleReturns view (Err fault) reading_result → SettleReturns other (Err fault) reading_result
+fault_says view other (faults.Overlap short long) reading_result h = h
+fault_says view other faults.NoMemory reading_result h = tt

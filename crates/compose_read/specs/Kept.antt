@@ -4,7 +4,7 @@ use Rattle.std.specs.List.{list_all}
 use Rattle.keysym_core.specs.Names.{KeysymNames}
 use Rattle.compose_model.specs.Table.{Definition}
 use Rattle.compose_read.specs.Lines.{Source, Visit, visits_below}
-use Rattle.compose_read.specs.Read.{line_gives}
+use Rattle.compose_read.specs.Read.{line_result}
 use Rattle.compose_read.specs.declared.ReadFault.{ReadFault}
 use Rattle.compose_read.specs.declared.kept.KeptSource.{KeptSource}
 
@@ -17,11 +17,11 @@ definitions_in (Err e) = []
 
 -- the definitions on the lines
 abbrev pub given : KeysymNames → List Source → List Visit → List Definition
-given names sources vs = flat_map (λ v. definitions_in (line_gives names sources v)) vs
+given names sources vs = flat_map (λ v. definitions_in (line_result names sources v)) vs
 
 -- no line has a fault of its own
 abbrev pub are_faultless : KeysymNames → List Source → List Visit → Bool
-are_faultless names sources vs = list_all (λ v. is_ok (line_gives names sources v)) vs
+are_faultless names sources vs = list_all (λ v. is_ok (line_result names sources v)) vs
 
 -- ---- sources
 

@@ -5,7 +5,7 @@ pub mod Settle
 pub mod Neighbours
 pub mod SortKeys
 pub mod Rows
-pub mod ReadGives
+pub mod ReadReturns
 pub mod Sequence
 pub mod Visits
 pub mod Progress

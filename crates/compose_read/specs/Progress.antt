@@ -6,8 +6,8 @@ use Rattle.compose_lex.specs.declared.LexFault.{LexFault}
 use Rattle.compose_lex.specs.declared.LexFault.TheVariants as lex_faults
 use Rattle.compose_model.specs.Table.{Definition, is_definition}
 use Rattle.compose_read.specs.Lines.{Source, Visit, included, max_depth}
-use Rattle.compose_read.specs.Read.{read_on, line_gives}
-use Rattle.compose_read.specs.Rows.{Drafted}
+use Rattle.compose_read.specs.Read.{read_on, line_result}
+use Rattle.compose_read.specs.Rows.{DraftRows}
 use Rattle.compose_read.specs.declared.ReadFault.{ReadFault}
 use Rattle.compose_read.specs.declared.ReadFault.TheVariants as faults
 use Rattle.compose_read.specs.declared.line.Place.{Place}
@@ -26,9 +26,9 @@ abbrev pub no_definition : Option Definition
 no_definition = None
 
 -- the fault of a part of the line at the position
-abbrev pub lifted : Place → LexFault → ReadFault
-lifted place lex_faults.NoMemory = faults.NoMemory
-lifted place fault = faults.Lex place.source place.line fault
+abbrev pub located_fault : Place → LexFault → ReadFault
+located_fault place lex_faults.NoMemory = faults.NoMemory
+located_fault place fault = faults.Lex place.source place.line fault
 
 -- the text of a result keysym, if there is one
 abbrev pub keysym_text : KeysymNames → Option ℕ → List ℕ
@@ -36,14 +36,14 @@ keysym_text names keysym = option_map_or (text names) keysym []
 
 -- what is found on a line is the result of the line: no definition, the definition d, or the source that it includes
 abbrev pub IsFound : KeysymNames → List Source → Visit → Definition → Found → Type 0
-IsFound names sources v d found.Nothing = (line_gives names sources v ≡ Ok None) × (included sources v.bytes ≡ None)
-IsFound names sources v d (found.Include source) = (line_gives names sources v ≡ Ok None) × (included sources v.bytes ≡ Some source) × (v.depth < max_depth) × (source < length sources)
-IsFound names sources v d found.Definition = (line_gives names sources v ≡ Ok (Some d)) × (included sources v.bytes ≡ None) × IsTrue (is_definition d)
+IsFound names sources v d found.Nothing = (line_result names sources v ≡ Ok None) × (included sources v.bytes ≡ None)
+IsFound names sources v d (found.Include source) = (line_result names sources v ≡ Ok None) × (included sources v.bytes ≡ Some source) × (v.depth < max_depth) × (source < length sources)
+IsFound names sources v d found.Definition = (line_result names sources v ≡ Ok (Some d)) × (included sources v.bytes ≡ None) × IsTrue (is_definition d)
 
 abbrev pub FindsLine : KeysymNames → List Source → Visit → Definition → Result Found ReadFault → Type 0
 FindsLine names sources v d (Ok f) = IsFound names sources v d f
 FindsLine names sources v d (Err faults.NoMemory) = Unit {0}
-FindsLine names sources v d (Err e) = line_gives names sources v ≡ Err e
+FindsLine names sources v d (Err e) = line_result names sources v ≡ Err e
 
 -- ---- all lines
 
@@ -53,7 +53,7 @@ with_prefix table (Ok more) = Ok (table ++ more)
 with_prefix table (Err e) = Err e
 
 -- this many lines were read, with this draft as the result
-abbrev pub read_so_far : ℕ → Drafted → Progress
+abbrev pub read_so_far : ℕ → DraftRows → Progress
 read_so_far lines draft = record { lines = lines; draft = draft }
 
 -- all definitions, if these lines come after what was read so far

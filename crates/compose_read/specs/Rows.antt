@@ -30,7 +30,7 @@ ArePlaced keysyms texts spans = All (IsPlaced keysyms texts) spans
 -- ---- definitions that are being read
 
 -- the complete ones, and one after them
-pub record Drafted : Type 0 where
+pub record DraftRows : Type 0 where
   pub table : List Definition
   pub row : Definition
 
@@ -40,7 +40,7 @@ IsBefore first_keysym first_byte p = (p.first_keysym + p.keysym_count ≤ first_
 
 -- these offsets come after the keysyms and the texts of the rows, of which there are not too many, and no further than
 -- rows of the greatest length reach
-pub record IsBehind (spans : List RowSpan) (first_keysym first_byte : ℕ) : Type 0 where
+pub record ComesAfter (spans : List RowSpan) (first_keysym first_byte : ℕ) : Type 0 where
   pub few : length spans ≤ max_definitions
   pub keysyms : first_keysym ≤ 32 * length spans
   pub bytes : first_byte ≤ 255 * length spans
@@ -51,9 +51,9 @@ abbrev pub no_row : Definition
 no_row = record { sequence = []; text = [] }
 
 -- the same complete ones, and this one after them
-abbrev pub with_row : Drafted → Definition → Drafted
+abbrev pub with_row : DraftRows → Definition → DraftRows
 with_row d row = record { table = d.table; row = row }
 
 -- the last one has all keysyms and bytes from these offsets on
-abbrev pub drafted : List ℕ → List ℕ → List RowSpan → ℕ → ℕ → Drafted
-drafted keysyms texts spans first_keysym first_byte = record { table = rows_of keysyms texts spans; row = record { sequence = drop first_keysym keysyms; text = drop first_byte texts } }
+abbrev pub draft_rows : List ℕ → List ℕ → List RowSpan → ℕ → ℕ → DraftRows
+draft_rows keysyms texts spans first_keysym first_byte = record { table = rows_of keysyms texts spans; row = record { sequence = drop first_keysym keysyms; text = drop first_byte texts } }

@@ -15,13 +15,13 @@ abbrev pub visit_of : VisitedLine → Visit
 visit_of v = record { source = v.source; line = v.line; bytes = v.bytes.now; depth = v.depth }
 
 -- the raw text of an include
-abbrev pub said_include : Result Reading LexFault → Option (List ℕ)
-said_include (Ok (include raw)) = Some raw
-said_include _ = None
+abbrev pub include_text : Result Reading LexFault → Option (List ℕ)
+include_text (Ok (include raw)) = Some raw
+include_text _ = None
 
 -- the raw text of the line's include, if it is one; a line with a fault or one that is not UTF-8 is none
 abbrev pub raw_include : List ℕ → Option (List ℕ)
-raw_include line = if is_utf8 line then said_include (reading_of line) else None
+raw_include line = if is_utf8 line then include_text (reading_of line) else None
 
 -- a line and, if it includes a source, the lines visited from that source
 abbrev pub below : List Source → ℕ → Visit → List Visit

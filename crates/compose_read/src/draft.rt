@@ -24,24 +24,24 @@ impl Model for Draft {
     ghost use Rattle.std.specs.Prelude.{◌≤◌, length, drop, string_bytes, IsTrue};
     ghost use Rattle.std.specs.Str.{IsCharBoundary};
     ghost use Rattle.compose_model.specs.Table.{is_table};
-    ghost use Rattle.compose_read.specs.Rows.{Drafted, drafted, rows_of, ArePlaced, IsBehind};
+    ghost use Rattle.compose_read.specs.Rows.{DraftRows, draft_rows, rows_of, ArePlaced, ComesAfter};
 
-    ghost Value = { Drafted };
+    ghost Value = { DraftRows };
 
-    ghost view = { λ d. drafted d.keysyms.items
+    ghost view = { λ d. draft_rows d.keysyms.items
         (string_bytes d.texts) d.spans.items d.first_keysym d.first_byte };
 
     ghost invariant = { λ d. ArePlaced d.keysyms.items (string_bytes d.texts) d.spans.items
         × (d.first_keysym ≤ length d.keysyms.items)
         × IsCharBoundary (string_bytes d.texts) d.first_byte
         × IsTrue (is_table (rows_of d.keysyms.items (string_bytes d.texts) d.spans.items))
-        × IsBehind d.spans.items d.first_keysym d.first_byte };
+        × ComesAfter d.spans.items d.first_keysym d.first_byte };
 }
 
 impl Draft {
     ghost use Rattle.std.specs.Prelude.{◌≡◌, ◌≤◌, ◌<◌, ◌+◌, ◌++◌, ℕ, List, [], ◌∷◌, length, take, drop, OnOk, OnErr, IsTrue, encode_utf8};
     ghost use Rattle.compose_model.specs.Table.{is_definition, is_table};
-    ghost use Rattle.compose_lex.specs.Lexed.{PushGives};
+    ghost use Rattle.compose_lex.specs.Lexed.{PushReturns};
     ghost use Rattle.compose_lex.specs.Escape.{text_of, Unescapes, IsText};
     ghost use Rattle.compose_read.specs.Read.{max_definitions};
     ghost use Rattle.compose_read.specs.Rows.{with_row, no_row};
@@ -103,7 +103,7 @@ impl Draft {
 
     /// Appends the text that a raw text stands for to that of the definition. O(bytes).
     pub(crate) fn push_raw_text(&mut self, raw: &str) -> Result<(), LexFault>
-        ensures exact { PushGives self.old.row.text self.new.row.text result (text_of raw.now) }
+        ensures exact { PushReturns self.old.row.text self.new.row.text result (text_of raw.now) }
         ensures found { OnOk result
             ((bytes : List ℕ) × (self.new.row.text ≡ self.old.row.text ++ bytes)
             × Unescapes raw.now bytes × IsText bytes) }

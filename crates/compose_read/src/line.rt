@@ -6,8 +6,8 @@ ghost use Rattle.compose_lex.specs.Line.{include};
 ghost use Rattle.compose_model.specs.Table.{is_definition};
 ghost use Rattle.compose_read.specs.Lines.{included_by};
 ghost use Rattle.compose_read.specs.Read.{event_keysym, sequence_of, string_text, result_text, definition_of, include_fault};
-ghost use Rattle.compose_read.specs.ReadGives.{ReadGives};
-ghost use Rattle.compose_read.specs.Progress.{visit, lifted, no_definition, keysym_text, FindsLine};
+ghost use Rattle.compose_read.specs.ReadReturns.{ReadReturns};
+ghost use Rattle.compose_read.specs.Progress.{visit, located_fault, no_definition, keysym_text, FindsLine};
 ghost use Rattle.compose_read.specs.Rows.{with_row};
 ghost use Rattle.compose_read.specs.Sequence.{is_fed, AreFed};
 
@@ -15,7 +15,7 @@ use crate::ReadFault;
 use crate::draft::Draft;
 use crate::sources::Sources;
 use arrayvec::ArrayVec;
-use compose_lex::{LexFault, Said, lex_line_into};
+use compose_lex::{LexFault, LineContent, lex_line_into};
 use keysym_core::{Keysym, Names};
 use std::alloc::AllocError;
 
@@ -62,10 +62,10 @@ pub(crate) fn read_line<'a>(
     };
     match lex_line_into(text, events) {
         Err(fault) => Err(lex_fault(place, fault)),
-        Ok(Said::Blank) => Ok(Found::Nothing),
-        Ok(Said::Include(name)) => Ok(Found::Include(include(sources, place, name)?)),
+        Ok(LineContent::Blank) => Ok(Found::Nothing),
+        Ok(LineContent::Include(name)) => Ok(Found::Include(include(sources, place, name)?)),
         Ok(
-            Said::Production {
+            LineContent::Production {
                 raw_text,
                 result_name,
             },
@@ -98,7 +98,7 @@ fn line_text(bytes: &[u8], is_text: bool) -> Option<&str>
 /// Returns the index of the source with the name in an include.
 fn include(sources: &Sources, place: Place, name: &str) -> Result<usize, ReadFault>
     ensures exact { (bytes : List ℕ)
-        → ReadGives (λ (s : ℕ). no_definition) result
+        → ReadReturns (λ (s : ℕ). no_definition) result
         (include_fault sources.now (visit place bytes) name.now) }
     ensures found { IfOk result
         (λ s. (included_by sources.now (Ok (include name.now)) ≡ Some s) × (place.depth < 8)
@@ -116,7 +116,7 @@ fn include(sources: &Sources, place: Place, name: &str) -> Result<usize, ReadFau
 
 /// Returns the fault of a part of the line at this position.
 fn lex_fault(place: Place, fault: LexFault) -> ReadFault
-    ensures { result ≡ lifted place fault }
+    ensures { result ≡ located_fault place fault }
 {
     let (source, line) = (place.source, place.line);
     match fault {
@@ -140,7 +140,7 @@ fn read_production(
 ) -> Result<(), ReadFault>
     requires { (0 < length events.now) × (length events.now ≤ 32) }
     ensures exact { (bytes : List ℕ)
-        → ReadGives (λ _. draft.new.row) result
+        → ReadReturns (λ _. draft.new.row) result
         (definition_of names.now (visit place bytes) (map (λ e. e.now) events.now)
         (option_copied raw_text.entry) (option_copied result_name.entry)) }
     ensures definition { OnOk result (IsTrue (is_definition draft.new.row)) }
@@ -170,7 +170,7 @@ fn read_sequence(
 ) -> Result<(), ReadFault>
     requires { draft.old.row.sequence ≡ [] }
     ensures exact { (bytes : List ℕ)
-        → ReadGives (λ _. draft.new.row.sequence) result
+        → ReadReturns (λ _. draft.new.row.sequence) result
         (sequence_of names.now (visit place bytes) 0 (map (λ e. e.now) events.now)) }
     ensures fed { OnOk result
         (AreFed draft.new.row.sequence × (length draft.new.row.sequence ≡ length events.now)) }
@@ -186,7 +186,7 @@ fn read_sequence(
 /// Returns the keysym of the event at this index.
 fn event_keysym(names: &Names, place: Place, index: usize, event: &str) -> Result<Keysym, ReadFault>
     ensures exact { (bytes : List ℕ)
-        → ReadGives (λ (k : ℕ). k) result
+        → ReadReturns (λ (k : ℕ). k) result
         (event_keysym (visit place bytes) index (value names.now event.now)) }
     ensures fed { IfOk result (λ k. IsTrue (is_fed k)) }
 {
@@ -210,7 +210,7 @@ fn event_keysym(names: &Names, place: Place, index: usize, event: &str) -> Resul
 fn read_string(place: Place, raw: &str, draft: &mut Draft) -> Result<(), ReadFault>
     requires { draft.old.row.text ≡ [] }
     ensures exact { (bytes : List ℕ)
-        → ReadGives (λ _. Some draft.new.row.text) result
+        → ReadReturns (λ _. Some draft.new.row.text) result
         (string_text (visit place bytes) (Some raw.now)) }
     ensures fits { OnOk result (length draft.new.row.text ≤ 255) }
     ensures kept { OnOk result
@@ -230,7 +230,7 @@ fn result_keysym(
     name: Option<&str>,
 ) -> Result<Option<Keysym>, ReadFault>
     ensures { (bytes : List ℕ)
-        → ReadGives (keysym_text names.now) result
+        → ReadReturns (keysym_text names.now) result
         (result_text names.now (visit place bytes) events (option_copied name.entry)) }
 {
     let Some(name) = name else {

@@ -3,7 +3,7 @@ ghost use Rattle.std.specs.Prelude.{◌≡◌, ◌≤◌, ◌<◌, ◌+◌, [], 
 ghost use Rattle.compose_model.specs.Table.{Definition, is_table};
 ghost use Rattle.compose_read.specs.Lines.{visits_below, included, without_mark};
 ghost use Rattle.compose_read.specs.Read.{definitions_of};
-ghost use Rattle.compose_read.specs.ReadGives.{ReadGives};
+ghost use Rattle.compose_read.specs.ReadReturns.{ReadReturns};
 ghost use Rattle.compose_read.specs.Progress.{visit, ReadsOn};
 ghost use Rattle.compose_read.specs.Kept.{AreKept};
 
@@ -47,7 +47,7 @@ pub fn read_definitions(
     sources: &Sources,
     root: &str,
 ) -> Result<Definitions, ReadFault>
-    ensures exact { ReadGives (λ (table : List Definition). table) result
+    ensures exact { ReadReturns (λ (table : List Definition). table) result
         (definitions_of names.now sources.now root.now) }
     ensures table { IfOk result (λ table. IsTrue (is_table table)) }
 {

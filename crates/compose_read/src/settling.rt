@@ -5,7 +5,7 @@ ghost use Rattle.keysym_core.specs.Names.{KeysymNames};
 ghost use Rattle.compose_model.specs.Step.{run};
 ghost use Rattle.compose_read.specs.Settle.{settled};
 ghost use Rattle.compose_read.specs.Neighbours.{stays_before, settled_neighbours};
-ghost use Rattle.compose_read.specs.ReadGives.{SettleGives};
+ghost use Rattle.compose_read.specs.ReadReturns.{SettleReturns};
 ghost use Rattle.compose_read.specs.Rows.{rows_of, ArePlaced};
 ghost use Rattle.std.specs.List.{All, starts_with};
 ghost use Rattle.compose_read.specs.declared.rows.RowSpan.{RowSpan};
@@ -56,7 +56,7 @@ impl<T: Drop> From<AllocFailed<T>> for SettleFault {
 /// Errors: `Overlap` if one sequence is a prefix of another and the rule is `Refuse`; `NoMemory` if
 /// memory runs out.
 pub fn settle(alloc: Global, definitions: Definitions, rule: Rule) -> Result<Sequences, SettleFault>
-    ensures exact { SettleGives (λ (rows : List Definition). rows) result
+    ensures exact { SettleReturns (λ (rows : List Definition). rows) result
         (settled rule definitions) }
     ensures runs { IfOk result
         (λ rows. (names : KeysymNames) (keys : List ℕ)
@@ -83,7 +83,7 @@ fn settle_sorted(
 ) -> Result<Vec<RowSpan>, SettleFault>
     requires { All (λ p. p.keysym_count ≤ 32) spans.items }
     ensures settled { (texts : List ℕ)
-        → SettleGives (λ v. rows_of keysyms.now texts v.items) result
+        → SettleReturns (λ v. rows_of keysyms.now texts v.items) result
         (settled_neighbours rule (rows_of keysyms.now texts spans.items)) }
     ensures placed { IfOk result
         (λ v. (texts : List ℕ) → ArePlaced keysyms.now texts spans.items
@@ -114,7 +114,7 @@ fn leave_out(short: &[Keysym], long: &[Keysym], rule: Rule) -> Result<(), Settle
     requires few { (length short.now ≤ 32) × (length long.now ≤ 32) }
     requires is_prefix { starts_with nat_eq long.now short.now ≡ true }
     ensures { (d e : Definition) → d.sequence ≡ short.now → e.sequence ≡ long.now
-        → SettleGives (λ _. false) result (stays_before rule d e) }
+        → SettleReturns (λ _. false) result (stays_before rule d e) }
 {
     if long.len() == short.len() {
         return Ok(());

@@ -51,9 +51,9 @@ fn sorted_by_prefix(
 {
     let mut sort_keys = sort_keys(alloc, keysyms, spans)?;
     sort_keys.sort_unstable();
-    let mut picked = picked(alloc, spans, &sort_keys)?;
-    sort_runs(alloc, keysyms, &sort_keys, &mut picked)?;
-    Ok(picked)
+    let mut picked_spans = picked_spans(alloc, spans, &sort_keys)?;
+    sort_runs(alloc, keysyms, &sort_keys, &mut picked_spans)?;
+    Ok(picked_spans)
 }
 
 /// Sorts each run of spans whose sort keys differ only in the index by their sequences. O(n) if
@@ -95,17 +95,21 @@ fn sort_run(alloc: Global, keysyms: &[Keysym], run: &mut [RowSpan]) -> Result<()
 }
 
 /// Returns the spans at the indexes in the low 17 bits of these sort keys.
-fn picked(alloc: Global, spans: &[RowSpan], sort_keys: &[u64]) -> Result<Vec<RowSpan>, AllocError>
+fn picked_spans(
+    alloc: Global,
+    spans: &[RowSpan],
+    sort_keys: &[u64],
+) -> Result<Vec<RowSpan>, AllocError>
     requires { All (λ n. n % 131072 < length spans.now) sort_keys.now }
     ensures { IfOk result
         (λ r. (d : RowSpan)
         → r.items ≡ map (λ n. slice_index_or spans.now (n % 131072) d) sort_keys.now) }
 {
-    let mut picked = Vec::with_capacity(alloc, sort_keys.len())?;
+    let mut picked_spans = Vec::with_capacity(alloc, sort_keys.len())?;
     for sort_key in sort_keys {
-        picked.push(spans[(sort_key % INDEXES) as usize])?;
+        picked_spans.push(spans[(sort_key % INDEXES) as usize])?;
     }
-    Ok(picked)
+    Ok(picked_spans)
 }
 
 /// Returns the sort keys of the spans.

@@ -9,7 +9,7 @@ use crate::line::MAX_DEPTH;
 use crate::open_source::OpenSource;
 use crate::sources::Sources;
 use arrayvec::ArrayVec;
-use compose_lex::{Said, lex_line_into};
+use compose_lex::{LineContent, lex_line_into};
 use compose_text::{blank_len, first_line};
 use std::marker::Model;
 
@@ -157,7 +157,7 @@ fn raw_include(line: &[u8]) -> Option<&str>
     };
     let mut events = ArrayVec::new();
     match lex_line_into(text, &mut events) {
-        Ok(Said::Include(name)) => Some(name),
+        Ok(LineContent::Include(name)) => Some(name),
         _ => None,
     }
 }

@@ -3,8 +3,8 @@
 use Rattle.std.specs.Prelude.{◌≡◌, ◌⊎◌, Result, Ok, Err}
 use Rattle.clap.specs.declared.error.kind.ErrorKind.{ErrorKind}
 use Rattle.clap.specs.declared.error.kind.ErrorKind.TheVariants as kinds
-use Rattle.compose_session.specs.declared.told.End.{End}
-use Rattle.compose_session.specs.declared.told.End.TheVariants as exchanges
+use Rattle.compose_session.specs.declared.reply_line.End.{End}
+use Rattle.compose_session.specs.declared.reply_line.End.TheVariants as exchanges
 use Rattle.compose_answer.specs.declared.answer.Ended.{Ended}
 use Rattle.compose_answer.specs.declared.answer.Ended.TheVariants.{Yes, No, Refused, NoMemory}
 

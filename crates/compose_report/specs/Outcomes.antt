@@ -36,8 +36,8 @@ pub record PrintsErrors (text : List ℕ) (ended : Ended) (outcome : Outcome) : 
   pub ends : outcome.ended ≡ ended
 
 -- the same outcome, with these notes
-pub record IsNoted (said : List ℕ) (before outcome : Outcome) : Type 0 where
-  pub notes : string_bytes outcome.notes ≡ said
+pub record IsNoted (expected : List ℕ) (before outcome : Outcome) : Type 0 where
+  pub notes : string_bytes outcome.notes ≡ expected
   pub output : outcome.output ≡ before.output
   pub errors : outcome.errors ≡ before.errors
   pub file : outcome.file ≡ before.file
@@ -72,23 +72,23 @@ error_text own arguments (Err refusal) = refusal_line own arguments refusal
 
 -- the line of a refusal and its details; for people (not `numbered`) the details alone, if there
 -- are any
-abbrev pub told_text : Bool → List ℕ → List ℕ → List ℕ
-told_text true line details = line ++ details
-told_text false line [] = line
-told_text false line (b ∷ details) = b ∷ details
+abbrev pub reported_text : Bool → List ℕ → List ℕ → List ℕ
+reported_text true line details = line ++ details
+reported_text false line [] = line
+reported_text false line (b ∷ details) = b ∷ details
 
 -- the outcome of an answer or a refusal on these arguments, with these details; for people unless
 -- `numbered`
-pub record IsTold (numbered : Bool) (own : List ℕ) (arguments : List (List ℕ)) (details : List ℕ) (answered : Result Answer Refusal) (outcome : Outcome) : Type 0 where
+pub record IsNumberedOutcome (numbered : Bool) (own : List ℕ) (arguments : List (List ℕ)) (details : List ℕ) (answered : Result Answer Refusal) (outcome : Outcome) : Type 0 where
   pub notes : string_bytes outcome.notes ≡ []
   pub output : string_bytes outcome.output ≡ output_text own answered
-  pub errors : string_bytes outcome.errors ≡ told_text numbered (error_text own arguments answered) details
+  pub errors : string_bytes outcome.errors ≡ reported_text numbered (error_text own arguments answered) details
   pub file : outcome.file ≡ None
   pub ended : outcome.ended ≡ end_of answered
 
 -- the same with the details below the line
 abbrev pub IsOutcome : List ℕ → List (List ℕ) → List ℕ → Result Answer Refusal → Outcome → Type 0
-IsOutcome own arguments details answered outcome = IsTold true own arguments details answered outcome
+IsOutcome own arguments details answered outcome = IsNumberedOutcome true own arguments details answered outcome
 
 -- what `-v` adds to an answer, or to a refusal
 abbrev pub IsDetailed : Bool → Given → Result Answer Refusal → List ℕ → Type 0
@@ -102,7 +102,7 @@ pub record IsWorded (numbered verbose : Bool) (given : Given) (answered : Result
   pub own : List ℕ
   pub details : List ℕ
   pub detailed : IsDetailed verbose given answered details
-  pub is : IsTold numbered own (map (λ argument. argument.now) given.arguments.now) details answered outcome
+  pub is : IsNumberedOutcome numbered own (map (λ argument. argument.now) given.arguments.now) details answered outcome
 
 -- the same with what `-v` adds below the line
 abbrev pub IsReported : Bool → Given → Result Answer Refusal → Outcome → Type 0

@@ -1,7 +1,7 @@
 //! The outcome of an answer or of a refusal.
 ghost use Rattle.std.specs.Prelude.{◌≡◌, ◌++◌, ℕ, true, List, map, Err, IfOk, string_bytes};
 ghost use Rattle.compose_report.specs.Outcomes as outcomes;
-ghost use Rattle.compose_report.specs.Outcomes.{IsDetailed, IsOutcome, IsReported, IsTold, IsWorded};
+ghost use Rattle.compose_report.specs.Outcomes.{IsDetailed, IsOutcome, IsReported, IsNumberedOutcome, IsWorded};
 
 use crate::outcome::Outcome;
 use compose_answer::{Answer, Ended, Refusal};
@@ -39,7 +39,7 @@ pub fn worded_outcome<T: ComposeTable>(
     ensures { IfOk result (λ outcome. IsWorded numbered verbose given.now answered outcome) }
 {
     let details = details_of::<T>(alloc, verbose, given, &answered)?;
-    told_outcome(alloc, numbered, given.arguments, answered, &details)
+    numbered_outcome(alloc, numbered, given.arguments, answered, &details)
 }
 
 /// Returns the outcome of a refusal of the input, with what `-v` adds; for people unless
@@ -54,7 +54,7 @@ pub fn worded_refusal(
     ensures { IfOk result (λ outcome. IsWorded numbered true given.now (Err refusal) outcome) }
 {
     let details = refusal_details(alloc, given, &refusal)?;
-    told_outcome(alloc, numbered, given.arguments, Err(refusal), &details)
+    numbered_outcome(alloc, numbered, given.arguments, Err(refusal), &details)
 }
 
 /// Returns what `-v` adds to an answer or to a refusal; an empty text unless `verbose`.
@@ -90,11 +90,11 @@ pub fn outcome_with(
         × IsOutcome own (map (λ argument. argument.now) arguments.now) (string_bytes details)
         answered outcome) }
 {
-    told_outcome(alloc, true, arguments, answered, &details)
+    numbered_outcome(alloc, true, arguments, answered, &details)
 }
 
 /// Returns the same outcome; for people unless `numbered`.
-fn told_outcome(
+fn numbered_outcome(
     alloc: Global,
     numbered: bool,
     arguments: &[&str],
@@ -103,7 +103,7 @@ fn told_outcome(
 ) -> Result<Outcome, AllocError>
     ensures { IfOk result
         (λ outcome. (own : List ℕ)
-        × IsTold numbered own (map (λ argument. argument.now) arguments.now) details.now answered
+        × IsNumberedOutcome numbered own (map (λ argument. argument.now) arguments.now) details.now answered
         outcome) }
 {
     let own = own_text(alloc, &answered)?;
@@ -130,12 +130,12 @@ fn outcome_by(
     own: &str,
 ) -> Result<Outcome, AllocError>
     ensures { IfOk result
-        (λ outcome. IsTold numbered own.now (map (λ argument. argument.now) arguments.now)
+        (λ outcome. IsNumberedOutcome numbered own.now (map (λ argument. argument.now) arguments.now)
         details.now answered outcome) }
 {
     let ended = Ended::of(&answered);
     let line = error_text(alloc, arguments, &answered, own)?;
-    let errors = told_text(alloc, numbered, line, details)?;
+    let errors = reported_text(alloc, numbered, line, details)?;
     Ok(Outcome {
         notes: String::new(alloc),
         output: output_text(alloc, answered, own)?,
@@ -148,7 +148,7 @@ fn outcome_by(
 /// Returns the line of a refusal followed by its details; unless `numbered`, the details alone, if
 /// there are any. O(bytes).
 /// Errors: `AllocError` if memory runs out.
-pub fn told_text(
+pub fn reported_text(
     alloc: Global,
     numbered: bool,
     line: String,
@@ -156,7 +156,7 @@ pub fn told_text(
 ) -> Result<String, AllocError>
     ensures { IfOk result
         (λ text. string_bytes text
-        ≡ outcomes.told_text numbered (string_bytes line) details.now) }
+        ≡ outcomes.reported_text numbered (string_bytes line) details.now) }
 {
     if numbered {
         return joined(line, details);

@@ -6,13 +6,13 @@ ghost use Rattle.compose_report.specs.Exchange.{IsExchangeOutcome};
 
 use crate::outcome::Outcome;
 use compose_answer::Ended;
-use compose_session::{End, Report};
+use compose_session::{End, ExchangeReport};
 use std::alloc::{AllocError, Global};
 
 /// Returns the outcome of an exchange: what is printed for the replies, and on standard error, if
 /// the exchange is incomplete, why. O(1).
 /// Errors: `AllocError` if memory runs out.
-pub fn exchange_outcome(alloc: Global, report: Report) -> Result<Outcome, AllocError>
+pub fn exchange_outcome(alloc: Global, report: ExchangeReport) -> Result<Outcome, AllocError>
     ensures { IfOk result (λ outcome. IsExchangeOutcome report outcome) }
 {
     let errors = String::from_str(alloc, refusal_of(report.end))?;

@@ -17,7 +17,7 @@ mod faults;
 mod outcome;
 mod printing;
 
-pub use answers::{outcome_of, outcome_with, told_text, worded_outcome, worded_refusal};
+pub use answers::{outcome_of, outcome_with, reported_text, worded_outcome, worded_refusal};
 pub use arguments::arguments_outcome;
 pub use exchange::exchange_outcome;
 pub use faults::{fault_outcome, fault_worded};

@@ -11,7 +11,7 @@ use Rattle.compose_model.specs.declared.Rule.{Rule}
 use Rattle.compose_read.specs.Lines.{Source, source_lines}
 use Rattle.compose_places.specs.Counting.{WrittenLine}
 use Rattle.compose_tree.specs.Targets.{leaf_text}
-use Rattle.compose_tree.specs.TableGives.{NoTable, TableGives, first_table, table_of}
+use Rattle.compose_tree.specs.TableReturns.{NoTable, TableReturns, first_table, table_of}
 use Rattle.compose_tree.specs.declared.reading.TableFault.{TableFault}
 use Rattle.compose_tree.proofs.FirstSource.{root_named}
 use Rattle.compose_results.specs.Results.{IsResult, AreFor, AreResults, AreFirstResults, counting_lines, named_by}
@@ -71,8 +71,8 @@ module _ (names : KeysymNames) (sources : List Source) (lines : List (Option Wri
 -- ---- the root is the first source
 
 pub first_given : {T : Type 0} (result : Result T TableFault) (table : T → List Definition) (names : KeysymNames) (sources : List Source) (root : List ℕ) (rule : Rule)
-    → Some root ≡ option_map (λ (s : Source). s.name) (slice_get sources 0) → TableGives table result (table_of names sources root rule) → TableGives table result (first_table names sources rule)
-first_given result table names sources root rule e h = subst (λ (said : Result (List Definition) NoTable). TableGives table result said) (root_named names sources root rule e) h
+    → Some root ≡ option_map (λ (s : Source). s.name) (slice_get sources 0) → TableReturns table result (table_of names sources root rule) → TableReturns table result (first_table names sources rule)
+first_given result table names sources root rule e h = subst (λ (contents : Result (List Definition) NoTable). TableReturns table result contents) (root_named names sources root rule e) h
 
 pub first_results : {T : Type 0} (result : Result T TableFault) (table : T → List Definition) (results : T → List ℕ) (names : KeysymNames) (sources : List Source) (root : List ℕ)
     → Some root ≡ option_map (λ (s : Source). s.name) (slice_get sources 0)

@@ -7,7 +7,7 @@ ghost use Rattle.compose_results.specs.SourceLines.{line_in};
 
 use crate::lines::{SourceLines, line_at};
 use arrayvec::ArrayVec;
-use compose_lex::{Said, lex_line_into};
+use compose_lex::{LineContent, lex_line_into};
 use compose_places::DefinitionPlace;
 use keysym_core::{Keysym, Names};
 
@@ -21,7 +21,7 @@ fn result_name(line: &[u8]) -> Option<&str>
     };
     let mut events = ArrayVec::new();
     match lex_line_into(text, &mut events) {
-        Ok(Said::Production { result_name, .. }) => result_name,
+        Ok(LineContent::Production { result_name, .. }) => result_name,
         _ => None,
     }
 }

@@ -2,7 +2,7 @@
 ghost use Rattle.std.specs.Prelude.{◌≡◌, ◌<◌, List, [], length, unwrap_or, IfOk};
 ghost use Rattle.compose_model.specs.Nodes.{leaves};
 ghost use Rattle.compose_read.specs.Lines.{Source};
-ghost use Rattle.compose_tree.specs.TableGives.{TableGives, first_table, table_of};
+ghost use Rattle.compose_tree.specs.TableReturns.{TableReturns, first_table, table_of};
 ghost use Rattle.compose_tree.specs.Targets.{leaf_text};
 ghost use Rattle.compose_results.specs.Results as words;
 ghost use Rattle.compose_results.specs.Results.{IsResult, AreResults, AreFirstResults, counting_lines};
@@ -111,7 +111,7 @@ pub fn read_results<T: ComposeTable>(
     root: &str,
     rule: Rule,
 ) -> Result<ResultTable<T>, TableFault>
-    ensures table { TableGives (λ read. T.definitions read.table) result
+    ensures table { TableReturns (λ read. T.definitions read.table) result
         (table_of names.now sources.now root.now rule) }
     ensures results { IfOk result
         (λ read. AreResults names.now sources.now
@@ -133,7 +133,7 @@ pub fn read_first_results<T: ComposeTable>(
     sources: &Sources,
     rule: Rule,
 ) -> Result<ResultTable<T>, TableFault>
-    ensures table { TableGives (λ read. T.definitions read.table) result
+    ensures table { TableReturns (λ read. T.definitions read.table) result
         (first_table names.now sources.now rule) }
     ensures results { IfOk result
         (λ read. AreFirstResults names.now sources.now (T.definitions read.table)

@@ -19,10 +19,10 @@ two_report header old new =
     (sym (length-append before after) ∙ ap (λ (more : List ReadFault). length (before ++ more)) (sym (append-nil after)))
 
 -- the report after both tables are added to an empty one
-pub two_said : (header : List ℕ) (old new : TableFiles) (first second : List ℕ) (r0 r1 r2 : Reported) (text : List ℕ) → first ≡ header → second ≡ header
+pub two_reported : (header : List ℕ) (old new : TableFiles) (first second : List ℕ) (r0 r1 r2 : Reported) (text : List ℕ) → first ≡ header → second ≡ header
     → r0 ≡ nothing → r1 ≡ with_faults r0 old (skipped_faults first old) → r2 ≡ with_faults r1 new (skipped_faults second new)
     → text ≡ report_of r2 → text ≡ report_text header (old ∷ new ∷ [])
-two_said header old new first second r0 r1 r2 text is_first is_second at0 at1 at2 said =
+two_reported header old new first second r0 r1 r2 text is_first is_second at0 at1 at2 spec =
     let before = at1 ∙ (ap (λ (h : List ℕ). with_faults r0 old (skipped_faults h old)) is_first ∙ ap (λ (r : Reported). with_faults r old (skipped_faults header old)) at0) in
     let after = at2 ∙ (ap (λ (h : List ℕ). with_faults r1 new (skipped_faults h new)) is_second ∙ ap (λ (r : Reported). with_faults r new (skipped_faults header new)) before) in
-    said ∙ (ap report_of after ∙ two_report header old new)
+    spec ∙ (ap report_of after ∙ two_report header old new)

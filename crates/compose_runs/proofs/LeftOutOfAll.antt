@@ -16,12 +16,12 @@ faults_in header read = skipped_faults header read.table
 abbrev lines_in : List ℕ → ReadTable → List ℕ
 lines_in header read = fault_lines read.table (skipped_faults header read.table)
 
-abbrev said : List ℕ → ℕ → Reported
-said lines count = record { lines = lines; count = count }
+abbrev spec : List ℕ → ℕ → Reported
+spec lines count = record { lines = lines; count = count }
 
 -- the report for these tables
 abbrev pub reported_in : List ℕ → List ReadTable → Reported
-reported_in header tables = said (flat_map (lines_in header) tables) (length (flat_map (faults_in header) tables))
+reported_in header tables = spec (flat_map (lines_in header) tables) (length (flat_map (faults_in header) tables))
 
 take_more : (tables : List ReadTable) (i : ℕ) (read : ReadTable) → i < length tables → read ≡ get_or tables i read → take i tables ++ read ∷ [] ≡ take (i + 1) tables
 take_more tables i read within at =
@@ -36,8 +36,8 @@ reported_more header tables i read within at =
     let lines_more : flat_map (lines_in header) before ++ lines_in header read ≡ flat_map (lines_in header) more = flat_map_more (lines_in header) [] before read in
     let count_more : count ≡ length (flat_map (faults_in header) more) =
     sym (length-append (flat_map (faults_in header) before) (faults_in header read)) ∙ ap (λ (faults : List ReadFault). length faults) (flat_map_more (faults_in header) [] before read) in
-    ap (λ (lines : List ℕ). said lines count) lines_more
-    ∙ (ap (λ (n : ℕ). said (flat_map (lines_in header) more) n) count_more ∙ ap (reported_in header) (take_more tables i read within at))
+    ap (λ (lines : List ℕ). spec lines count) lines_more
+    ∙ (ap (λ (n : ℕ). spec (flat_map (lines_in header) more) n) count_more ∙ ap (reported_in header) (take_more tables i read within at))
 
 -- the report for all of them
 pub report_all : (header : List ℕ) (tables : List ReadTable) → report_of (reported_in header tables) ≡ report_text header (map (λ (read : ReadTable). read.table) tables)

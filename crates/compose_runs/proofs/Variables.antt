@@ -2,20 +2,20 @@
 use Rattle.std.proofs.Common.{◌≡◌, ap, ◌∙◌, ℕ, Bool, true, false, List, Global}
 use Rattle.std.specs.Prelude.{◌==◌, if◌then◌else◌, Option, Some, None, Ok, Err, string_bytes, string_len}
 use Rattle.std.specs.declared.string.String.{String}
-use Rattle.compose_runs.specs.Variables.{Said, first_set, text_of}
+use Rattle.compose_runs.specs.Variables.{Decoded, first_set, text_of}
 use Rattle.compose_runs.specs.declared.environment.Variable.{Variable}
 use Rattle.compose_runs.specs.declared.environment.Variable.TheVariants.{Set}
 
 -- if the first is not UTF-8
-pub first_err : (a b : Said (Option (List ℕ))) → a ≡ Err tt → first_set a b ≡ Err tt
+pub first_err : (a b : Decoded (Option (List ℕ))) → a ≡ Err tt → first_set a b ≡ Err tt
 first_err a b e = ap (λ x. first_set x b) e
 
 -- if it is set
-pub first_some : (a b : Said (Option (List ℕ))) (text : List ℕ) → a ≡ Ok (Some text) → first_set a b ≡ Ok (Some text)
+pub first_some : (a b : Decoded (Option (List ℕ))) (text : List ℕ) → a ≡ Ok (Some text) → first_set a b ≡ Ok (Some text)
 first_some a b text e = ap (λ x. first_set x b) e
 
 -- if it is not set
-pub first_none : (a b : Said (Option (List ℕ))) → a ≡ Ok None → first_set a b ≡ b
+pub first_none : (a b : Decoded (Option (List ℕ))) → a ≡ Ok None → first_set a b ≡ b
 first_none a b e = ap (λ x. first_set x b) e
 
 -- a variable that is set to the empty text

@@ -6,7 +6,7 @@ use Rattle.compose_folder.specs.Content.{Entry}
 use Rattle.compose_migration.specs.Migration.{or_because}
 use Rattle.compose_check.specs.Input.{parts_of}
 use Rattle.compose_answer.specs.Parts.{unread, allowed_parts}
-use Rattle.compose_answer.specs.Refused.{Gives}
+use Rattle.compose_answer.specs.Refused.{Returns}
 use Rattle.compose_answer.specs.declared.answer.Answer.{Answer}
 use Rattle.compose_answer.specs.declared.refusal.Refusal.{Refusal}
 use Rattle.compose_tool.specs.Answers.{IsChecked, IsCheckedFor}
@@ -31,8 +31,8 @@ allowed_names allowed = option_map (λ names. map (λ name. name.now) names.now)
 -- the answer about the certificate; if keysyms are allowed, all its fresh keysyms have to be among
 -- them
 abbrev pub AnswersCheck : Option (List (List ℕ)) → Result Answer Refusal → CheckFiles → Type 0
-AnswersCheck None answered check = Gives IsChecked answered (or_because unread (parts_of (check_given check)))
-AnswersCheck (Some allowed) answered check = Gives IsCheckedFor answered (allowed_parts allowed (check_given check))
+AnswersCheck None answered check = Returns IsChecked answered (or_because unread (parts_of (check_given check)))
+AnswersCheck (Some allowed) answered check = Returns IsCheckedFor answered (allowed_parts allowed (check_given check))
 
 -- the paths except those of the tables
 abbrev pub texts_of : CheckPaths → CheckTexts

@@ -20,13 +20,13 @@ use Rattle.compose_diff_rows.specs.declared.asking.DiffFault.TheVariants.{Input,
 use Rattle.compose_diff_rows.specs.declared.asking.Form.{Form}
 use Rattle.compose_diff_rows.specs.declared.asking.Form.TheVariants.{Folded, Lines, Json, AcceptList, Page}
 use Rattle.compose_page.specs.declared.markup.Markup.TheVariants.{Markdown, Html}
-use Rattle.compose_details.specs.Files.{said_at}
+use Rattle.compose_details.specs.Files.{message_at}
 use Rattle.compose_details.specs.Given.{IsGiven, parts_of}
 use Rattle.compose_details.specs.declared.given.Given.{Given}
-use Rattle.compose_report.specs.Outcomes.{IsNoted, IsOutcome, IsWorded, PrintsErrors, told_text}
+use Rattle.compose_report.specs.Outcomes.{IsNoted, IsOutcome, IsWorded, PrintsErrors, reported_text}
 use Rattle.compose_report.specs.declared.outcome.Outcome.{Outcome}
 use Rattle.compose_runs.specs.Environment.{wants_color}
-use Rattle.compose_runs.specs.Variables.{Said}
+use Rattle.compose_runs.specs.Variables.{Decoded}
 use Rattle.compose_runs.specs.DiffFiles.{AreDiffFiles}
 use Rattle.compose_runs.specs.Files.{migration_given, notes_of}
 use Rattle.compose_runs.specs.Losing.{lost_notes}
@@ -58,19 +58,19 @@ diff_asked files arguments fresh = record {
 
 -- ---- colours: pages and the forms for programs never have them
 
-abbrev pub colored_by : Environment → DiffColor → Said Bool
+abbrev pub colored_by : Environment → DiffColor → Decoded Bool
 colored_by environment Always = Ok true
 colored_by environment Never = Ok false
 colored_by environment Auto = wants_color environment
 
-abbrev pub is_colored_in : Environment → DiffForm → DiffColor → Said Bool
+abbrev pub is_colored_in : Environment → DiffForm → DiffColor → Decoded Bool
 is_colored_in environment forms.Json color = Ok false
 is_colored_in environment forms.AcceptList color = Ok false
 is_colored_in environment (forms.Markdown folds) color = Ok false
 is_colored_in environment (forms.Html folds) color = Ok false
 is_colored_in environment form color = colored_by environment color
 
-abbrev pub is_colored : Environment → DiffArguments → Said Bool
+abbrev pub is_colored : Environment → DiffArguments → Decoded Bool
 is_colored environment arguments = is_colored_in environment arguments.form arguments.color
 
 -- the same answer with its lines in colours
@@ -107,15 +107,15 @@ pub record IsRefusalOutcome (numbered : Bool) (files : DiffFiles) (fresh : List 
 
 -- the refused line of the list of intended changes, and the reason (code 10 ends it)
 abbrev pub accept_details : List ℕ → AcceptFault → List ℕ
-accept_details path (Stale n) = said_at path n (codes "no change of these tables is named by the line") ++ 10 ∷ []
-accept_details path (BadLine n) = said_at path n (codes "expected \"changed: \", \"waiting: \", \"removed: \" or \"new start: \" and keys") ++ 10 ∷ []
+accept_details path (Stale n) = message_at path n (codes "no change of these tables is named by the line") ++ 10 ∷ []
+accept_details path (BadLine n) = message_at path n (codes "expected \"changed: \", \"waiting: \", \"removed: \" or \"new start: \" and keys") ++ 10 ∷ []
 accept_details path NoMemory = []
 
 -- for a refused list, the message about its line; if `numbered`, after the line of the refusal with
 -- the printed form of the fault
 abbrev pub IsAcceptRefusal : Bool → Option (List ℕ) → AcceptFault → Outcome → Type 0
 IsAcceptRefusal numbered path fault outcome =
-    (own : List ℕ) × PrintsErrors (told_text numbered (codes "refused: accept: " ++ (own ++ 10 ∷ [])) (accept_details (unwrap_or path []) fault)) Refused outcome
+    (own : List ℕ) × PrintsErrors (reported_text numbered (codes "refused: accept: " ++ (own ++ 10 ∷ [])) (accept_details (unwrap_or path []) fault)) Refused outcome
 
 abbrev pub IsFaultPrinted : DiffFiles → DiffArguments → List (List ℕ) → DiffFault → Outcome → Type 0
 IsFaultPrinted files arguments fresh (Input refusal) outcome = IsRefusalOutcome (is_numbered arguments.form) files fresh refusal outcome

@@ -3,7 +3,7 @@ use Rattle.std.specs.Prelude.{ℕ, Bool, true, false, List, [], ◌∷◌, map, 
 use Rattle.compose_folder.specs.Content.{Entry}
 use Rattle.compose_migration.specs.Migration.{GivenMigration}
 use Rattle.compose_answer.specs.Parts.{explain_parts}
-use Rattle.compose_answer.specs.Refused.{Gives}
+use Rattle.compose_answer.specs.Refused.{Returns}
 use Rattle.compose_answer.specs.declared.answer.Answer.{Answer}
 use Rattle.compose_answer.specs.declared.refusal.Refusal.{Refusal}
 use Rattle.compose_arguments.specs.declared.given_tables.FilePair.{FilePair}
@@ -22,8 +22,8 @@ use Rattle.compose_runs.specs.declared.options.Options.{Options}
 
 -- the first difference is explained, or with `all` each of them
 abbrev pub AnswersExplain : Bool → Result Answer Refusal → GivenMigration → Type 0
-AnswersExplain true answered given = Gives IsAllExplained answered (explain_parts given)
-AnswersExplain false answered given = Gives IsExplained answered (explain_parts given)
+AnswersExplain true answered given = Returns IsAllExplained answered (explain_parts given)
+AnswersExplain false answered given = Returns IsExplained answered (explain_parts given)
 
 -- the input of `explain`
 abbrev pub explain_given : MigrationFiles → List (List ℕ) → Bool → GivenParts

@@ -24,7 +24,7 @@ use Rattle.compose_input.specs.declared.places.Places.{Places}
 use Rattle.compose_input.specs.declared.tables.TableFiles.{TableFiles}
 use Rattle.compose_runs.specs.DiffFiles.{AreFoundFiles, IsFoundTable, names_or_builtin, place_arguments}
 use Rattle.compose_runs.specs.Differing.{is_colored}
-use Rattle.compose_runs.specs.Environment.{IsPlaced, GivesColor, places_of}
+use Rattle.compose_runs.specs.Environment.{IsPlaced, ReturnsColor, places_of}
 use Rattle.compose_runs.specs.Files.{AreMigrationFiles}
 use Rattle.compose_runs.specs.Linting.{AreReadTables, asked_files, lint_places}
 use Rattle.compose_runs.specs.Manifest as manifest
@@ -123,7 +123,7 @@ FailsDiff folder environment names arguments fault =
 
 -- the same after the environment, whose variable for colours may not be UTF-8
 abbrev pub FailsDiffRun : Option (List Entry) → Environment → List (List ℕ) → DiffArguments → Fault → Type 0
-FailsDiffRun folder environment names arguments fault = GivesColor (Err fault) (is_colored environment arguments) ⊎ FailsDiff folder environment names arguments fault
+FailsDiffRun folder environment names arguments fault = ReturnsColor (Err fault) (is_colored environment arguments) ⊎ FailsDiff folder environment names arguments fault
 
 -- ---- the commands on one Compose file
 
@@ -151,14 +151,14 @@ FailsTableRead folder environment names arguments fault =
     (λ places f. FailNames folder (names_or_builtin names) f ⊎ (HasNames folder (names_or_builtin names) × FailsChosenTable folder environment places (option_copied arguments.file) f))) fault
 
 -- the fault that standard input is not UTF-8, unless memory runs out for it
-abbrev pub SaysNoText : Fault → Type 0
-SaysNoText (faults.Refused part why) = (part.now ≡ codes "keys") × (string_bytes why ≡ codes "standard input is not UTF-8")
-SaysNoText faults.NoMemory = Unit {0}
-SaysNoText fault = ⊥
+abbrev pub IsEncodingFault : Fault → Type 0
+IsEncodingFault (faults.Refused part why) = (part.now ≡ codes "keys") × (string_bytes why ≡ codes "standard input is not UTF-8")
+IsEncodingFault faults.NoMemory = Unit {0}
+IsEncodingFault fault = ⊥
 
 -- memory ran out; or the bytes are not UTF-8, and the fault is this one
 abbrev pub FailsText : List ℕ → Fault → Type 0
-FailsText bytes fault = (fault ≡ NoMemory) ⊎ ((IsUtf8 bytes → ⊥) × SaysNoText fault)
+FailsText bytes fault = (fault ≡ NoMemory) ⊎ ((IsUtf8 bytes → ⊥) × IsEncodingFault fault)
 
 -- for the lists of keys on standard input, which is read if there are no words: it can't be read,
 -- or is not UTF-8

@@ -5,7 +5,7 @@ use Rattle.std.specs.declared.string.String.{String}
 use Rattle.std.specs.declared.alloc.Global.{Global}
 use Rattle.compose_folder.specs.Content.{Entry, File, IsHeld}
 use Rattle.compose_shown.specs.Shown.{shown_text}
-use Rattle.compose_answer.specs.Refused.{Gives}
+use Rattle.compose_answer.specs.Refused.{Returns}
 use Rattle.compose_answer.specs.declared.answer.Answer.{Answer}
 use Rattle.compose_answer.specs.declared.answer.Answer.TheVariants.{Yes, No}
 use Rattle.compose_answer.specs.declared.refusal.Refusal.{Refusal}
@@ -34,7 +34,7 @@ IsGivenText folder None bytes = bytes ≡ None
 -- repertoire if there is one
 abbrev pub AnswersHow : TableRead → HowArguments → Option (List ℕ) → List (List ℕ) → Result Ways Refusal → Type 0
 AnswersHow read arguments repertoire words answered =
-    Gives (AreWays read.table.sources (map string_bytes read.table.paths.items) (map wanted_text words) arguments.first (form_of arguments.json)) answered
+    Returns (AreWays read.table.sources (map string_bytes read.table.paths.items) (map wanted_text words) arguments.first (form_of arguments.json)) answered
     (how_parts read.names.lines.items (sources_of read.table) repertoire)
 
 -- ---- what is printed
@@ -56,10 +56,10 @@ answer_by true = Yes
 answer_by false = No
 
 -- the same outcome, with these errors
-pub record HasErrors (said : List ℕ) (before outcome : Outcome) : Type 0 where
+pub record HasErrors (spec : List ℕ) (before outcome : Outcome) : Type 0 where
   pub notes : outcome.notes ≡ before.notes
   pub output : outcome.output ≡ before.output
-  pub errors : string_bytes outcome.errors ≡ said
+  pub errors : string_bytes outcome.errors ≡ spec
   pub file : outcome.file ≡ before.file
   pub ended : outcome.ended ≡ before.ended
 

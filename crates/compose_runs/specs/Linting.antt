@@ -8,7 +8,7 @@ use Rattle.compose_answer.specs.declared.answer.Answer.{Answer}
 use Rattle.compose_answer.specs.declared.answer.Ended.TheVariants.{Refused}
 use Rattle.compose_answer.specs.declared.refusal.Refusal.{Refusal}
 use Rattle.compose_arguments.specs.declared.lint_arguments.LintArguments.{LintArguments}
-use Rattle.compose_details.specs.Files.{said_at}
+use Rattle.compose_details.specs.Files.{message_at}
 use Rattle.compose_details.specs.Given.{IsGiven, parts_of}
 use Rattle.compose_details.specs.declared.given.Given.{Given}
 use Rattle.compose_diff.specs.declared.accepted.AcceptFault.{AcceptFault}
@@ -24,7 +24,7 @@ use Rattle.compose_lint.specs.declared.asking.LintFault.TheVariants.{Input, Acce
 use Rattle.compose_lint.specs.declared.asking.LintForm.{LintForm}
 use Rattle.compose_lint.specs.declared.asking.LintForm.TheVariants.{Lines, Json, AcceptList}
 use Rattle.compose_lint.specs.declared.reader.Readers.{Readers}
-use Rattle.compose_report.specs.Outcomes.{IsNoted, IsOutcome, IsWorded, PrintsErrors, told_text}
+use Rattle.compose_report.specs.Outcomes.{IsNoted, IsOutcome, IsWorded, PrintsErrors, reported_text}
 use Rattle.compose_report.specs.declared.outcome.Outcome.{Outcome}
 use Rattle.compose_runs.specs.DiffFiles.{IsAccepted, names_or_builtin}
 use Rattle.compose_runs.specs.Environment.{IsPlaced}
@@ -100,15 +100,15 @@ lint_asked files arguments = record {
 
 -- the refused line of the list of accepted findings, and the reason (code 10 ends it)
 abbrev pub lint_accept_details : List ℕ → AcceptFault → List ℕ
-lint_accept_details path (Stale n) = said_at path n (codes "no finding in these tables is named by the line") ++ 10 ∷ []
-lint_accept_details path (BadLine n) = said_at path n (codes "expected the word of a kind, \": \" and a line of a Compose file") ++ 10 ∷ []
+lint_accept_details path (Stale n) = message_at path n (codes "no finding in these tables is named by the line") ++ 10 ∷ []
+lint_accept_details path (BadLine n) = message_at path n (codes "expected the word of a kind, \": \" and a line of a Compose file") ++ 10 ∷ []
 lint_accept_details path NoMemory = []
 
 -- for a refused list, the message about its line; if `numbered`, after the line of the refusal with
 -- the printed form of the fault
 abbrev pub IsLintAcceptRefusal : Bool → Option (List ℕ) → AcceptFault → Outcome → Type 0
 IsLintAcceptRefusal numbered path fault outcome =
-    (own : List ℕ) × PrintsErrors (told_text numbered (codes "refused: accept: " ++ (own ++ 10 ∷ [])) (lint_accept_details (unwrap_or path []) fault)) Refused outcome
+    (own : List ℕ) × PrintsErrors (reported_text numbered (codes "refused: accept: " ++ (own ++ 10 ∷ [])) (lint_accept_details (unwrap_or path []) fault)) Refused outcome
 
 -- for a refusal of the names, each faulty line of them; if `numbered`, after the line of the
 -- refusal

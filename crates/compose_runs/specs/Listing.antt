@@ -3,7 +3,7 @@ use Rattle.std.specs.Prelude.{ℕ, Bool, true, false, List, [], map, Option, opt
 use Rattle.std.specs.Option.{option_map}
 use Rattle.compose_folder.specs.Content.{Entry}
 use Rattle.compose_answer.specs.Parts.{NoAnswer, TypedParts, type_parts}
-use Rattle.compose_answer.specs.Refused.{Gives}
+use Rattle.compose_answer.specs.Refused.{Returns}
 use Rattle.compose_answer.specs.declared.answer.Answer.{Answer}
 use Rattle.compose_answer.specs.declared.refusal.Refusal.{Refusal}
 use Rattle.compose_arguments.specs.declared.list_arguments.ListArguments.{ListArguments}
@@ -47,13 +47,13 @@ list_parts read arguments = type_parts read.names.lines.items (map (λ key. key.
 
 -- the keys that can follow the prefix
 abbrev pub AnswersNext : TableRead → ListArguments → Result Answer Refusal → Type 0
-AnswersNext read arguments answered = Gives (IsNext (form_of arguments.json)) answered (list_parts read arguments)
+AnswersNext read arguments answered = Returns (IsNext (form_of arguments.json)) answered (list_parts read arguments)
 
 -- the sequences that begin with the prefix, and produce the text if one is given, in the order of
 -- the arguments; each with the path of its file
 abbrev pub AnswersSequences : TableRead → ListArguments → Result Answer Refusal → Type 0
 AnswersSequences read arguments answered =
-    Gives (IsListed read.table.sources (map string_bytes read.table.paths.items) (asked_text arguments) (order_of arguments.sort) (form_of arguments.json)) answered (list_parts read arguments)
+    Returns (IsListed read.table.sources (map string_bytes read.table.paths.items) (asked_text arguments) (order_of arguments.sort) (form_of arguments.json)) answered (list_parts read arguments)
 
 -- the keys that can follow, or otherwise the sequences
 abbrev pub AnswersList : Bool → TableRead → ListArguments → Result Answer Refusal → Type 0

@@ -4,7 +4,7 @@ use Rattle.std.specs.Option.{option_map}
 use Rattle.compose_folder.specs.Content.{Entry, File, IsHeld}
 use Rattle.compose_migration.specs.Migration.{GivenMigration}
 use Rattle.compose_answer.specs.Parts.{make_parts}
-use Rattle.compose_answer.specs.Refused.{Gives}
+use Rattle.compose_answer.specs.Refused.{Returns}
 use Rattle.compose_answer.specs.declared.answer.Answer.{Answer}
 use Rattle.compose_answer.specs.declared.answer.Ended.{Ended}
 use Rattle.compose_answer.specs.declared.answer.Ended.TheVariants.{Yes}
@@ -26,8 +26,8 @@ use Rattle.compose_runs.specs.declared.options.Options.{Options}
 
 -- a certificate, or the first character that can't be typed, or with `all` each such character
 abbrev pub AnswersMake : Bool → Result Answer Refusal → GivenMigration → List ℕ → Type 0
-AnswersMake true answered given repertoire = Gives IsAllMadeText answered (make_parts given repertoire)
-AnswersMake false answered given repertoire = Gives IsMadeText answered (make_parts given repertoire)
+AnswersMake true answered given repertoire = Returns IsAllMadeText answered (make_parts given repertoire)
+AnswersMake false answered given repertoire = Returns IsMadeText answered (make_parts given repertoire)
 
 -- the input of `make`, with the text of the repertoire
 abbrev pub make_given : MigrationFiles → List ℕ → MakeOptions → GivenParts

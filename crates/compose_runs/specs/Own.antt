@@ -7,12 +7,12 @@ use Rattle.compose_folder.specs.Content.{Entry}
 use Rattle.compose_user.specs.Paths.{IsFirstFile, user_paths}
 use Rattle.compose_input.specs.Places.{IsLocaleTable}
 use Rattle.compose_input.specs.declared.places.Places.{Places}
-use Rattle.compose_runs.specs.Variables.{Said, text_of}
+use Rattle.compose_runs.specs.Variables.{Decoded, text_of}
 use Rattle.compose_runs.specs.declared.environment.Environment.{Environment}
 use Rattle.compose_runs.specs.declared.one_table.ChosenFile.{ChosenFile}
 
 -- the paths at which the user's own file may be
-abbrev pub own_paths : Environment → Places → Said (List (List ℕ))
+abbrev pub own_paths : Environment → Places → Decoded (List (List ℕ))
 own_paths e places = do
   compose_file ← text_of e.xcomposefile
   config ← text_of e.xdg_config_home

@@ -9,12 +9,12 @@ abbrev pub damage : List ℕ
 damage = codes "1 Form"
 
 -- the fault of the state in these words, unless memory runs out for it
-abbrev pub SaysState : List ℕ → Fault → Type 0
-SaysState words (faults.Refused part why) = (part.now ≡ codes "state") × (string_bytes why ≡ words)
-SaysState words faults.NoMemory = Unit {0}
-SaysState words fault = ⊥
+abbrev pub IsStateFault : List ℕ → Fault → Type 0
+IsStateFault words (faults.Refused part why) = (part.now ≡ codes "state") × (string_bytes why ≡ words)
+IsStateFault words faults.NoMemory = Unit {0}
+IsStateFault words fault = ⊥
 
 -- memory ran out; or the bytes are not a bundle, and the fault says so after the words of this
 -- place
 abbrev pub IsDamaged : List ℕ → List ℕ → Fault → Type 0
-IsDamaged place bytes fault = (fault ≡ faults.NoMemory) ⊎ (((bundle : Bundle) → ¬ (IsBundle bytes bundle)) × SaysState (place ++ damage) fault)
+IsDamaged place bytes fault = (fault ≡ faults.NoMemory) ⊎ (((bundle : Bundle) → ¬ (IsBundle bytes bundle)) × IsStateFault (place ++ damage) fault)

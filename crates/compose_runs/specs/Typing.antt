@@ -7,7 +7,7 @@ use Rattle.compose_input.specs.Tables.{IsListed, sources_of}
 use Rattle.compose_input.specs.declared.names.NameFiles.{NameFiles}
 use Rattle.compose_input.specs.declared.tables.TableFiles.{TableFiles}
 use Rattle.compose_answer.specs.Parts.{type_parts}
-use Rattle.compose_answer.specs.Refused.{Gives}
+use Rattle.compose_answer.specs.Refused.{Returns}
 use Rattle.compose_answer.specs.declared.answer.Answer.{Answer}
 use Rattle.compose_answer.specs.declared.refusal.Refusal.{Refusal}
 use Rattle.compose_tool.specs.Answers.{AreListsTyped, IsTyped}
@@ -29,7 +29,7 @@ use Rattle.compose_runs.specs.declared.skipping.KeptRead.{KeptRead}
 -- the report of the answer on these names and this table
 pub record IsTypeOutcome (verbose : Bool) (names : NameFiles) (table : TableFiles) (keys : List (List ℕ)) (outcome : Outcome) : Type 0 where
   pub answered : Result Answer Refusal
-  pub is : Gives IsTyped answered (type_parts names.lines.items keys (sources_of table))
+  pub is : Returns IsTyped answered (type_parts names.lines.items keys (sources_of table))
   pub given : Given
   pub parts : IsGiven (parts_of names keys (table ∷ [])) given
   pub reported : IsReported verbose given answered outcome
@@ -49,7 +49,7 @@ pub record IsTypeFileOutcome (read : TableRead) (words : List (List ℕ)) (outco
   pub keys : List (List ℕ)
   pub are_keys : AreWritten (names_of read.names.lines.items) words keys
   pub answered : Result Answer Refusal
-  pub is : Gives IsTyped answered (type_parts read.names.lines.items keys (sources_of read.table))
+  pub is : Returns IsTyped answered (type_parts read.names.lines.items keys (sources_of read.table))
   pub reported : IsTableOutcome false read keys [] [] answered outcome
 
 -- the content of standard input, whose path is a hyphen (code 45), if there are no words
@@ -64,7 +64,7 @@ pub record IsTypeLinesOutcome (read : TableRead) (text : List ℕ) (outcome : Ou
   pub keys : List (List ℕ)
   pub are_keys : AreWritten (names_of read.names.lines.items) (flat_map words_in (lines text)) keys
   pub answered : Result Answer Refusal
-  pub is : Gives (AreListsTyped (map (λ line. length (words_in line)) (lines text))) answered (type_parts read.names.lines.items keys (sources_of read.table))
+  pub is : Returns (AreListsTyped (map (λ line. length (words_in line)) (lines text))) answered (type_parts read.names.lines.items keys (sources_of read.table))
   pub printed : Outcome
   pub reported : IsTableOutcome false read keys [] [] answered printed
   pub followed : IsFollowed (refused_line (map (λ line. length (words_in line)) (lines text)) answered) printed outcome

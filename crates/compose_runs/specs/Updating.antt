@@ -34,7 +34,7 @@ use Rattle.compose_runs.specs.Environment.{IsPlaced}
 use Rattle.compose_runs.specs.Stored.{IsDamaged}
 use Rattle.compose_runs.specs.declared.environment.Environment.{Environment}
 use Rattle.compose_runs.specs.declared.environment.PlaceArguments.{PlaceArguments}
-use Rattle.compose_runs.specs.declared.updating.MeantChanges.{MeantChanges}
+use Rattle.compose_runs.specs.declared.updating.IntendedChanges.{IntendedChanges}
 use Rattle.compose_runs.specs.declared.updating.UpdateFiles.{UpdateFiles}
 use Rattle.compose_runs.specs.declared.updating.UpdateRun.{UpdateRun}
 use Rattle.compose_runs.specs.declared.updating.UpdateRun.TheVariants.{Replaced, Meant, Refused}
@@ -54,10 +54,10 @@ IsRepertoire folder None bytes = bytes ≡ []
 IsRepertoire folder (Some path) bytes = IsHeld folder path (File bytes)
 
 -- the list of intended changes, if its path is given
-abbrev pub IsMeantList : Option (List Entry) → Option (List ℕ) → Option MeantChanges → Type 0
-IsMeantList folder None None = Unit {0}
-IsMeantList folder (Some path) (Some meant) = (string_bytes meant.path ≡ path) × IsHeld folder path (File meant.lines.items)
-IsMeantList folder path meant = ⊥
+abbrev pub IsIntendedList : Option (List Entry) → Option (List ℕ) → Option IntendedChanges → Type 0
+IsIntendedList folder None None = Unit {0}
+IsIntendedList folder (Some path) (Some meant) = (string_bytes meant.path ≡ path) × IsHeld folder path (File meant.lines.items)
+IsIntendedList folder path meant = ⊥
 
 -- the built-in names, the Compose file as it is on the system (the longest of its overlapping
 -- sequences counts), the repertoire, and the list of intended changes
@@ -67,7 +67,7 @@ pub record AreUpdateFiles (folder : Option (List Entry)) (environment : Environm
   pub are_names : AreNames folder builtin files.names
   pub is_new : IsFoundOnSystem folder places arguments.file.now Longest files.new
   pub is_repertoire : IsRepertoire folder (option_copied arguments.repertoire) files.repertoire.items
-  pub is_meant : IsMeantList folder (option_copied arguments.accept) files.meant
+  pub is_meant : IsIntendedList folder (option_copied arguments.accept) files.meant
 
 -- ---- the decision
 
@@ -86,8 +86,8 @@ update_given files fresh current = record {
 }
 
 -- the input of `diff` for the table in use and the new one, if these changes are intended
-abbrev pub meant_asked : UpdateFiles → List (List ℕ) → MeantChanges → List Source → Asked
-meant_asked files fresh meant current = record {
+abbrev pub intended_input : UpdateFiles → List (List ℕ) → IntendedChanges → List Source → Asked
+intended_input files fresh meant current = record {
   migration = record { header = files.names.lines.items; key_names = fresh; old = record { sources = current; rule = Longest }; new = record { sources = files.new.sources; rule = Longest } };
   old_paths = map (λ (source : Source). source.name) current;
   new_paths = map string_bytes files.new.paths.items;
@@ -119,44 +119,44 @@ IsUpdateDone files fresh (Err (Input refusal)) run = IsRefusedAs (IsUpdateRefusa
 IsUpdateDone files fresh (Err TooLarge) run = IsRefusedAs (PrintsErrors (codes "composecheck: the files and their certificate have more than 8,388,608 bytes\n") ends.Refused) run
 
 -- all changes are intended: the stored bytes are those of the decision as if no table were in use
-abbrev pub IsDoneAsMeant : UpdateFiles → List (List ℕ) → Result Update UpdateFault → UpdateRun → Type 0
-IsDoneAsMeant files fresh (Ok (updates.Replaced stored certificate)) run = run ≡ Meant stored
-IsDoneAsMeant files fresh decided run = IsUpdateDone files fresh decided run
+abbrev pub IsDoneIfIntended : UpdateFiles → List (List ℕ) → Result Update UpdateFault → UpdateRun → Type 0
+IsDoneIfIntended files fresh (Ok (updates.Replaced stored certificate)) run = run ≡ Meant stored
+IsDoneIfIntended files fresh decided run = IsUpdateDone files fresh decided run
 
-pub record IsStoredAsMeant (files : UpdateFiles) (fresh : List (List ℕ)) (run : UpdateRun) : Type 0 where
+pub record IsStoredIfIntended (files : UpdateFiles) (fresh : List (List ℕ)) (run : UpdateRun) : Type 0 where
   pub decided : Result Update UpdateFault
   pub is : Updates (update_given files fresh None) decided
-  pub done : IsDoneAsMeant files fresh decided run
+  pub done : IsDoneIfIntended files fresh decided run
 
 -- the new table is stored if `diff` answers yes; otherwise its answer, or why it has none, is
 -- printed
-abbrev pub IsMeantAnswer : UpdateFiles → List (List ℕ) → MeantChanges → Result Answer DiffFault → UpdateRun → Type 0
-IsMeantAnswer files fresh meant (Ok (Yes text)) run = IsStoredAsMeant files fresh run
-IsMeantAnswer files fresh meant (Ok answer) run = IsRefusedAs (λ outcome. (own : List ℕ) × IsOutcome own fresh [] (Ok answer) outcome) run
-IsMeantAnswer files fresh meant (Err (differing.Input refusal)) run = IsRefusedAs (IsUpdateRefusal files fresh refusal) run
-IsMeantAnswer files fresh meant (Err (differing.Accept fault)) run = IsRefusedAs (IsAcceptRefusal false (Some (string_bytes meant.path)) fault) run
+abbrev pub IsIntendedAnswer : UpdateFiles → List (List ℕ) → IntendedChanges → Result Answer DiffFault → UpdateRun → Type 0
+IsIntendedAnswer files fresh meant (Ok (Yes text)) run = IsStoredIfIntended files fresh run
+IsIntendedAnswer files fresh meant (Ok answer) run = IsRefusedAs (λ outcome. (own : List ℕ) × IsOutcome own fresh [] (Ok answer) outcome) run
+IsIntendedAnswer files fresh meant (Err (differing.Input refusal)) run = IsRefusedAs (IsUpdateRefusal files fresh refusal) run
+IsIntendedAnswer files fresh meant (Err (differing.Accept fault)) run = IsRefusedAs (IsAcceptRefusal false (Some (string_bytes meant.path)) fault) run
 
 -- typing would change from the table in use, and these changes are intended
-pub record IsMeantRun (files : UpdateFiles) (fresh : List (List ℕ)) (meant : MeantChanges) (current : List Source) (run : UpdateRun) : Type 0 where
+pub record IsIntendedRun (files : UpdateFiles) (fresh : List (List ℕ)) (meant : IntendedChanges) (current : List Source) (run : UpdateRun) : Type 0 where
   pub answered : Result Answer DiffFault
-  pub is : AnswersDiff (meant_asked files fresh meant current) answered
-  pub done : IsMeantAnswer files fresh meant answered run
+  pub is : AnswersDiff (intended_input files fresh meant current) answered
+  pub done : IsIntendedAnswer files fresh meant answered run
 
 -- typing would change: if a table is in use, the list of intended changes decides; otherwise the
 -- lines that say so are printed
-abbrev pub IsRefusedOrListed : UpdateFiles → List (List ℕ) → MeantChanges → Option (List Source) → String Global → UpdateRun → Type 0
+abbrev pub IsRefusedOrListed : UpdateFiles → List (List ℕ) → IntendedChanges → Option (List Source) → String Global → UpdateRun → Type 0
 IsRefusedOrListed files fresh meant None text run = IsRefusedAs (PrintsOutput (string_bytes text) ends.No) run
-IsRefusedOrListed files fresh meant (Some current) text run = IsMeantRun files fresh meant current run
+IsRefusedOrListed files fresh meant (Some current) text run = IsIntendedRun files fresh meant current run
 
 -- the same if such a list is given; otherwise the lines are printed
-abbrev pub IsRefusedOrMeant : UpdateFiles → List (List ℕ) → Option MeantChanges → Option (List Source) → String Global → UpdateRun → Type 0
-IsRefusedOrMeant files fresh None current text run = IsRefusedAs (PrintsOutput (string_bytes text) ends.No) run
-IsRefusedOrMeant files fresh (Some meant) current text run = IsRefusedOrListed files fresh meant current text run
+abbrev pub IsRefusedOrIntended : UpdateFiles → List (List ℕ) → Option IntendedChanges → Option (List Source) → String Global → UpdateRun → Type 0
+IsRefusedOrIntended files fresh None current text run = IsRefusedAs (PrintsOutput (string_bytes text) ends.No) run
+IsRefusedOrIntended files fresh (Some meant) current text run = IsRefusedOrListed files fresh meant current text run
 
 -- the decision is executed; but if typing would change, and a list of intended changes is given,
 -- that list decides
-abbrev pub IsDecisionDone : UpdateFiles → List (List ℕ) → Option MeantChanges → Option (List Source) → Result Update UpdateFault → UpdateRun → Type 0
-IsDecisionDone files fresh meant current (Ok (updates.Refused text)) run = IsRefusedOrMeant files fresh meant current text run
+abbrev pub IsDecisionDone : UpdateFiles → List (List ℕ) → Option IntendedChanges → Option (List Source) → Result Update UpdateFault → UpdateRun → Type 0
+IsDecisionDone files fresh meant current (Ok (updates.Refused text)) run = IsRefusedOrIntended files fresh meant current text run
 IsDecisionDone files fresh meant current decided run = IsUpdateDone files fresh decided run
 
 -- the decision about the new table and the one in use is executed

@@ -9,22 +9,22 @@ use Rattle.compose_runs.specs.declared.environment.Variable.{Variable}
 use Rattle.compose_runs.specs.declared.environment.Variable.TheVariants.{Unset, Set, NotUtf8}
 
 -- a value, or that a variable is not UTF-8
-abbrev pub Said : Type 0 → Type 0
-Said X = Result X (Unit {0})
+abbrev pub Decoded : Type 0 → Type 0
+Decoded X = Result X (Unit {0})
 
 -- the text of a variable
-abbrev pub text_of : Variable → Said (Option (List ℕ))
+abbrev pub text_of : Variable → Decoded (Option (List ℕ))
 text_of Unset = Ok None
 text_of (Set text) = Ok (if string_len text == 0 then None else Some (string_bytes text))
 text_of NotUtf8 = Err tt
 
 -- the text, or the fault that it is not UTF-8
-abbrev pub Says : Result (Option (Bor (List ℕ))) Fault → Said (Option (List ℕ)) → Type 0
-Says (Ok text) said = said ≡ Ok (option_copied text)
-Says (Err fault) said = (said ≡ Err tt) × (fault ≡ Word)
+abbrev pub IsDecoded : Result (Option (Bor (List ℕ))) Fault → Decoded (Option (List ℕ)) → Type 0
+IsDecoded (Ok text) spec = spec ≡ Ok (option_copied text)
+IsDecoded (Err fault) spec = (spec ≡ Err tt) × (fault ≡ Word)
 
 -- the first of two variables that is set and not empty
-abbrev pub first_set : Said (Option (List ℕ)) → Said (Option (List ℕ)) → Said (Option (List ℕ))
+abbrev pub first_set : Decoded (Option (List ℕ)) → Decoded (Option (List ℕ)) → Decoded (Option (List ℕ))
 first_set (Ok None) next = next
 first_set (Ok (Some text)) next = Ok (Some text)
 first_set (Err fault) next = Err fault

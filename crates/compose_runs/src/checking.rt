@@ -48,7 +48,7 @@ struct CheckFiles<'n> {
 }
 
 impl<'n> CheckFiles<'n> {
-    ghost use Rattle.compose_check.specs.CheckGives.{input_of};
+    ghost use Rattle.compose_check.specs.CheckReturns.{input_of};
     ghost use Rattle.compose_runs.specs.CheckFiles.{AreCheckFiles, AreFoundCheckFiles, check_given};
 
     /// Reads the files of names, those of both tables, the repertoire and the certificate.

@@ -3,11 +3,11 @@ ghost use Rattle.std.specs.Prelude.{◌≡◌, ◌++◌, ◌∷◌, [], map, IfO
 ghost use Rattle.compose_diff_rows.specs.Answers.{AnswersDiff};
 ghost use Rattle.compose_input.specs.Faults.{FailNames};
 ghost use Rattle.compose_input.specs.Names.{AreNames};
-ghost use Rattle.compose_report.specs.Outcomes.{told_text};
+ghost use Rattle.compose_report.specs.Outcomes.{reported_text};
 ghost use Rattle.compose_runs.specs.DiffFiles.{IsAccepted, names_or_builtin};
 ghost use Rattle.compose_runs.specs.Differing as words;
 ghost use Rattle.compose_runs.specs.Differing.{IsAcceptRefusal, IsDiffOutcome, IsDiffPrinted, IsDiffRun, IsFaultPrinted, IsKeptDiff, IsRefusalOutcome, ShowsAnswer, diff_asked};
-ghost use Rattle.compose_runs.specs.Environment.{GivesColor};
+ghost use Rattle.compose_runs.specs.Environment.{ReturnsColor};
 ghost use Rattle.compose_runs.specs.Faults.{FailsAccepted, FailsDiff, FailsDiffRun};
 ghost use Rattle.compose_runs.specs.Files.{notes_of};
 
@@ -25,7 +25,7 @@ use compose_folder::{Folder, ReadOnce};
 use compose_input::{Fault, NameFiles, read_text};
 use compose_messages::{FileMessage, Message, Position};
 use compose_page::Markup;
-use compose_report::{Outcome, outcome_with, told_text, worded_refusal};
+use compose_report::{Outcome, outcome_with, reported_text, worded_refusal};
 use compose_tree::ComposeTable;
 use std::alloc::{AllocError, Global};
 
@@ -170,7 +170,7 @@ fn form_of(form: DiffForm) -> Form
 
 /// Returns whether the lines are in colours. Pages and the forms for programs never are.
 fn is_colored(environment: &Environment, arguments: &DiffArguments<'_>) -> Result<bool, Fault>
-    ensures { GivesColor result (words.is_colored environment.now arguments.now) }
+    ensures { ReturnsColor result (words.is_colored environment.now arguments.now) }
 {
     match (arguments.form, arguments.color) {
         (
@@ -371,12 +371,12 @@ fn accept_lines(
 ) -> Result<String, AllocError>
     ensures { IfOk result
         (λ lines. string_bytes lines
-        ≡ told_text numbered (codes "refused: accept: " ++ (own.now ++ 10 ∷ []))
+        ≡ reported_text numbered (codes "refused: accept: " ++ (own.now ++ 10 ∷ []))
         (words.accept_details path.now fault.now)) }
 {
     let line = format!(in alloc; "refused: accept: {own}\n")?;
     let details = accept_details(alloc, path, fault)?;
-    told_text(alloc, numbered, line, &details)
+    reported_text(alloc, numbered, line, &details)
 }
 
 /// Returns the message about the refused line of the list of intended changes.

@@ -1,7 +1,7 @@
 //! The environment, as a value.
 ghost use Rattle.std.specs.Prelude.{◌≡◌, option_copied};
 ghost use Rattle.compose_runs.specs.Variables as words;
-ghost use Rattle.compose_runs.specs.Variables.{Says};
+ghost use Rattle.compose_runs.specs.Variables.{IsDecoded};
 
 use compose_input::{Fault, Places};
 
@@ -22,7 +22,7 @@ pub enum Variable {
 impl Variable {
     /// Returns its text, if it is set and not empty. The fault is `Word` if it is not UTF-8. O(1).
     pub(crate) fn text(&self) -> Result<Option<&str>, Fault>
-        ensures { Says result (words.text_of self.now) }
+        ensures { IsDecoded result (words.text_of self.now) }
     {
         match self {
             Variable::Unset => Ok(None),
@@ -68,13 +68,13 @@ pub(crate) struct PlaceArguments<'a> {
 }
 
 impl Environment {
-    ghost use Rattle.compose_runs.specs.Environment as said;
-    ghost use Rattle.compose_runs.specs.Environment.{GivesPlaces, GivesColor};
+    ghost use Rattle.compose_runs.specs.Environment as spec;
+    ghost use Rattle.compose_runs.specs.Environment.{ReturnsPlaces, ReturnsColor};
 
     /// Returns the name of the locale: the text of the first of `LC_ALL`, `LC_CTYPE` and `LANG`
     /// that is set and not empty, as POSIX requires.
     fn locale(&self) -> Result<Option<&str>, Fault>
-        ensures { Says result (said.locale_of self.now) }
+        ensures { IsDecoded result (spec.locale_of self.now) }
     {
         if let Some(locale) = self.lc_all.text()? {
             return Ok(Some(locale));
@@ -88,7 +88,7 @@ impl Environment {
     /// Returns where the tables of the system lie, and the user's locale and home folder: as the
     /// arguments say, or otherwise the environment.
     pub(crate) fn places<'a>(&'a self, arguments: PlaceArguments<'a>) -> Result<Places<'a>, Fault>
-        ensures { GivesPlaces arguments.entry result (said.places_of self.now) }
+        ensures { ReturnsPlaces arguments.entry result (spec.places_of self.now) }
     {
         let system = self.xlocaledir.text()?;
         let locale = self.locale()?;
@@ -105,7 +105,7 @@ impl Environment {
     /// Returns whether an answer is in colours if they depend on the terminal: if standard output
     /// is a terminal, and `NO_COLOR` is unset or empty. `NO_COLOR` is read only then.
     pub(crate) fn wants_color(&self) -> Result<bool, Fault>
-        ensures { GivesColor result (said.wants_color self.now) }
+        ensures { ReturnsColor result (spec.wants_color self.now) }
     {
         if !self.is_terminal {
             return Ok(false);

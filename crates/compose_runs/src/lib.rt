@@ -43,5 +43,5 @@ pub use one_table::{NotedTable, is_refused};
 pub use options::Options;
 pub use stored::read_stored;
 pub use typing::{run_type, run_type_file};
-pub use updating::{MeantChanges, UpdateFiles, UpdateRun, run_update};
+pub use updating::{IntendedChanges, UpdateFiles, UpdateRun, run_update};
 pub use written_keys::{borrowed, key_names};

@@ -1,10 +1,10 @@
 //! `lint`: mistakes in Compose files.
 ghost use Rattle.std.specs.Prelude.{◌≡◌, ◌||◌, ◌++◌, ◌∷◌, [], map, IfOk, IfErr, Some, option_copied, string_bytes, codes};
 ghost use Rattle.compose_lint.specs.Answers.{AnswersLint, asked, table_given};
-ghost use Rattle.compose_report.specs.Outcomes.{told_text};
+ghost use Rattle.compose_report.specs.Outcomes.{reported_text};
 ghost use Rattle.compose_runs.specs.DiffFiles.{IsAccepted};
-ghost use Rattle.compose_runs.specs.Environment.{GivesPlaces};
-ghost use Rattle.compose_runs.specs.Environment as said;
+ghost use Rattle.compose_runs.specs.Environment.{ReturnsPlaces};
+ghost use Rattle.compose_runs.specs.Environment as spec;
 ghost use Rattle.compose_runs.specs.Faults.{FailsChosenTable, FailsLintRun, FailsTables, OrMemory};
 ghost use Rattle.compose_runs.specs.Linting as words;
 ghost use Rattle.compose_runs.specs.Linting.{AreReadTables, IsLintAcceptRefusal, IsLintOutcome, IsLintPrinted, IsLintRefusal, IsLintRun, IsReadTable, asked_files, lint_asked, lint_places};
@@ -23,8 +23,8 @@ use compose_lint::{LintFault, LintForm, LintInput, LintTable, Readers, lint_tabl
 use compose_messages::{FileMessage, Message, Position};
 use compose_model::Rule;
 use compose_read::Sources;
-use compose_report::{Outcome, outcome_with, told_text, worded_refusal};
-use compose_skipped::Report;
+use compose_report::{Outcome, outcome_with, reported_text, worded_refusal};
+use compose_skipped::SkippedReport;
 use std::alloc::{AllocError, Global};
 use std::marker::Model;
 
@@ -105,7 +105,7 @@ fn places_of<'a>(
     environment: &'a Environment,
     arguments: &LintArguments<'a>,
 ) -> Result<Places<'a>, Fault>
-    ensures { GivesPlaces (lint_places arguments.now) result (said.places_of environment.now) }
+    ensures { ReturnsPlaces (lint_places arguments.now) result (spec.places_of environment.now) }
 {
     environment.places(PlaceArguments {
         system: arguments.system,
@@ -239,7 +239,7 @@ fn skipped_report(alloc: Global, header: &[u8], tables: &[ReadTable]) -> Result<
     ensures { IfOk result
         (λ text. string_bytes text ≡ words.report_in header.now tables.now) }
 {
-    let mut report = Report::new(alloc);
+    let mut report = SkippedReport::new(alloc);
     for read in tables {
         report.push(alloc, header, &read.table)?;
     }
@@ -474,12 +474,12 @@ fn accept_lines(
 ) -> Result<String, AllocError>
     ensures { IfOk result
         (λ lines. string_bytes lines
-        ≡ told_text numbered (codes "refused: accept: " ++ (own.now ++ 10 ∷ []))
+        ≡ reported_text numbered (codes "refused: accept: " ++ (own.now ++ 10 ∷ []))
         (words.lint_accept_details path.now fault.now)) }
 {
     let line = format!(in alloc; "refused: accept: {own}\n")?;
     let details = accept_details(alloc, path, fault)?;
-    told_text(alloc, numbered, line, &details)
+    reported_text(alloc, numbered, line, &details)
 }
 
 /// Returns the message about the refused line of the list of accepted findings.

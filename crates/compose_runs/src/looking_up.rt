@@ -1,7 +1,7 @@
 //! `how` and `list`: the sequences of one Compose file.
 ghost use Rattle.std.specs.Prelude.{◌≡◌, ◌++◌, [], map, unwrap_or, option_map, option_copied, IfOk, IfErr, OnOk, string_bytes};
 ghost use Rattle.std.specs.List.{list_all};
-ghost use Rattle.compose_answer.specs.Refused.{Gives};
+ghost use Rattle.compose_answer.specs.Refused.{Returns};
 ghost use Rattle.compose_listing.specs.Answers.{AreWays, IsListed, how_parts};
 ghost use Rattle.compose_listing.specs.Wanted as wanted_words;
 ghost use Rattle.compose_input.specs.Tables.{sources_of};
@@ -117,7 +117,7 @@ fn asked_answer<'a, T: ComposeTable>(
     text: Option<&'a str>,
     paths: &[&str],
 ) -> Result<Answer, Refusal>
-    ensures { Gives
+    ensures { Returns
         (IsListed read.now.table.sources (map (λ path. path.now) paths.now)
         (option_copied text.entry) (words.order_of arguments.now.sort)
         (words.form_of arguments.now.json)) result (list_parts read.now arguments.now) }
@@ -272,7 +272,7 @@ fn ways_answer<'a, T: ComposeTable>(
     texts: &'a [&'a str],
     paths: &[&str],
 ) -> Result<Ways, Refusal>
-    ensures { Gives
+    ensures { Returns
         (AreWays read.now.table.sources (map (λ path. path.now) paths.now)
         (map (λ text. text.now) texts.now) arguments.now.first
         (words.form_of arguments.now.json)) result

@@ -1,7 +1,7 @@
 //! The files that a command on one Compose file reads.
 ghost use Rattle.std.specs.Prelude.{◌≡◌, ◌||◌, ◌++◌, None, Ok, map, option_copied, IfOk, IfErr, string_bytes};
-ghost use Rattle.compose_runs.specs.Environment as said;
-ghost use Rattle.compose_runs.specs.Environment.{GivesPlaces};
+ghost use Rattle.compose_runs.specs.Environment as spec;
+ghost use Rattle.compose_runs.specs.Environment.{ReturnsPlaces};
 ghost use Rattle.compose_runs.specs.Faults.{FailsChosen, FailsChosenTable, OrMemory};
 ghost use Rattle.compose_runs.specs.OneTable as words;
 ghost use Rattle.compose_runs.specs.OneTable.{IsNotedTable, table_places, rule_unless};
@@ -155,7 +155,7 @@ pub(crate) fn places_of<'a>(
     environment: &'a Environment,
     arguments: &TableArguments<'a>,
 ) -> Result<Places<'a>, Fault>
-    ensures { GivesPlaces (table_places arguments.now) result (said.places_of environment.now) }
+    ensures { ReturnsPlaces (table_places arguments.now) result (spec.places_of environment.now) }
 {
     environment.places(PlaceArguments {
         system: arguments.system,

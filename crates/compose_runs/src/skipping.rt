@@ -6,7 +6,7 @@ use crate::differing::DiffFiles;
 use crate::files::MigrationFiles;
 use crate::one_table::TableRead;
 use compose_report::Outcome;
-use compose_skipped::{Report, kept_table};
+use compose_skipped::{SkippedReport, kept_table};
 use std::alloc::{AllocError, Global};
 
 /// The files that a command on one Compose file reads, and the report of skipped lines.
@@ -32,7 +32,7 @@ impl<'n> KeptRead<'n> {
             let skipped = String::new(alloc);
             return Ok(KeptRead { read, skipped });
         }
-        let mut report = Report::new(alloc);
+        let mut report = SkippedReport::new(alloc);
         let TableRead {
             names,
             table,
@@ -72,7 +72,7 @@ impl<'n> KeptPair<'n> {
             let skipped = String::new(alloc);
             return Ok(KeptPair { files, skipped });
         }
-        let mut report = Report::new(alloc);
+        let mut report = SkippedReport::new(alloc);
         let DiffFiles { both, accepted } = files;
         let MigrationFiles { names, old, new } = both;
         let old = kept_table(alloc, &names.lines, old, &mut report)?;

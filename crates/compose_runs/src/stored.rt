@@ -1,7 +1,7 @@
 //! The table in use, as `update` stores it.
 ghost use Rattle.std.specs.Prelude.{◌≡◌, ◌++◌, IfOk, IfErr, string_bytes, codes};
 ghost use Rattle.compose_bundle.specs.Bundle.{IsBundle};
-ghost use Rattle.compose_runs.specs.Stored.{IsDamaged, SaysState, damage};
+ghost use Rattle.compose_runs.specs.Stored.{IsDamaged, IsStateFault, damage};
 
 use compose_bundle::{Bundle, BundleFault, read_bundle};
 use compose_input::Fault;
@@ -25,7 +25,7 @@ pub fn read_stored<'b>(alloc: Global, place: &str, bytes: &'b [u8]) -> Result<Bu
 
 /// Returns the fault that the stored bytes are not a bundle.
 fn state_fault(alloc: Global, place: &str) -> Fault
-    ensures { SaysState (place.now ++ damage) result }
+    ensures { IsStateFault (place.now ++ damage) result }
 {
     Fault::refused("state", state_words(alloc, place))
 }

@@ -1,6 +1,6 @@
 //! `type`: what happens at keys.
 ghost use Rattle.std.specs.Prelude.{◌≡◌, map, IfOk, IfErr, option_map, string_bytes};
-ghost use Rattle.compose_runs.specs.Faults.{FailsLines, FailsText, FailsType, FailsTypeFile, SaysNoText};
+ghost use Rattle.compose_runs.specs.Faults.{FailsLines, FailsText, FailsType, FailsTypeFile, IsEncodingFault};
 ghost use Rattle.compose_runs.specs.Typing.{AreGivenLines, IsKeptType, IsTypeFileOutcome, IsTypeFileRun, IsTypeLinesOutcome, IsTypeRun, IsTypeOutcome, IsTypedFile};
 
 use crate::environment::Environment;
@@ -124,7 +124,7 @@ fn text_of(alloc: Global, bytes: &[u8]) -> Result<String, Fault>
 
 /// Returns the fault that standard input is not UTF-8.
 fn no_text(alloc: Global) -> Fault
-    ensures { SaysNoText result }
+    ensures { IsEncodingFault result }
 {
     Fault::refused("keys", String::from_str(alloc, NO_TEXT))
 }

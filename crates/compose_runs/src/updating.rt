@@ -4,7 +4,7 @@ ghost use Rattle.compose_answer.specs.declared.answer.Ended.TheVariants.{No};
 ghost use Rattle.compose_diff_rows.specs.Answers.{AnswersDiff};
 ghost use Rattle.compose_report.specs.Outcomes.{PrintsOutput};
 ghost use Rattle.compose_runs.specs.Faults.{FailsAccepted};
-ghost use Rattle.compose_runs.specs.Updating.{FailsStored, IsDecisionDone, IsMeantList, IsMeantRun, IsRefusedAs, IsRefusedOrListed, IsRefusedOrMeant, IsRepertoire, IsStoredAsMeant, IsUpdateDone, IsUpdateOf, IsUpdateRefusal, IsUpdateRun, meant_asked, update_given};
+ghost use Rattle.compose_runs.specs.Updating.{FailsStored, IsDecisionDone, IsIntendedList, IsIntendedRun, IsRefusedAs, IsRefusedOrListed, IsRefusedOrIntended, IsRepertoire, IsStoredIfIntended, IsUpdateDone, IsUpdateOf, IsUpdateRefusal, IsUpdateRun, intended_input, update_given};
 ghost use Rattle.compose_update.specs.Update.{Updates, given_update};
 
 use crate::differing::accept_outcome;
@@ -34,12 +34,12 @@ pub struct UpdateFiles {
     /// The repertoire; an empty one if none is given.
     pub repertoire: Vec<u8>,
     /// The list of intended changes, if one is given.
-    pub meant: Option<MeantChanges>,
+    pub meant: Option<IntendedChanges>,
 }
 
 /// A list of intended changes, as `diff` accepts them.
 #[derive(Drop)]
-pub struct MeantChanges {
+pub struct IntendedChanges {
     /// The path of the list.
     pub path: String,
     /// The bytes of the list.
@@ -95,7 +95,7 @@ impl UpdateFiles {
         let names = NameFiles::read(files, alloc, &[builtin])?;
         let new = TableFiles::found(files, alloc, places, arguments.file, Rule::Longest)?;
         let repertoire = read_repertoire(alloc, files, arguments.repertoire)?;
-        let meant = read_meant(alloc, files, arguments.accept)?;
+        let meant = read_intended(alloc, files, arguments.accept)?;
         Ok(UpdateFiles {
             names,
             new,
@@ -124,14 +124,14 @@ fn read_repertoire<F: Folder>(
 }
 
 /// Reads the list of intended changes at this path, if one is given.
-fn read_meant<F: Folder>(
+fn read_intended<F: Folder>(
     alloc: Global,
     files: &mut ReadOnce<F>,
     path: Option<&str>,
-) -> Result<Option<MeantChanges>, Fault>
+) -> Result<Option<IntendedChanges>, Fault>
     ensures kept { files.new.holds ≡ files.old.holds }
     ensures read { IfOk result
-        (λ meant. IsMeantList files.old.holds (option_copied path.entry) meant) }
+        (λ meant. IsIntendedList files.old.holds (option_copied path.entry) meant) }
     ensures fault { IfErr result
         (λ fault. FailsAccepted files.old.holds (option_copied path.entry) fault) }
 {
@@ -139,7 +139,7 @@ fn read_meant<F: Folder>(
         return Ok(None);
     };
     let lines = read_text(files, alloc, path)?;
-    Ok(Some(MeantChanges {
+    Ok(Some(IntendedChanges {
         path: String::from_str(alloc, path)?,
         lines,
     }))
@@ -213,7 +213,7 @@ fn decision_done<T: ComposeTable>(
 {
     match decided {
         Ok(Update::Refused(text)) => {
-            refused_or_meant::<T>(alloc, files, fresh, &files.meant, current, text)
+            refused_or_intended::<T>(alloc, files, fresh, &files.meant, current, text)
         }
         decided => update_done(alloc, files, fresh, decided),
     }
@@ -221,16 +221,16 @@ fn decision_done<T: ComposeTable>(
 
 /// Returns the run of an update if typing would change, as these lines say. They are printed,
 /// unless a list of intended changes is given.
-fn refused_or_meant<T: ComposeTable>(
+fn refused_or_intended<T: ComposeTable>(
     alloc: Global,
     files: &UpdateFiles,
     fresh: &[&str],
-    meant: &Option<MeantChanges>,
+    meant: &Option<IntendedChanges>,
     current: Option<&Sources>,
     text: String,
 ) -> Result<UpdateRun, AllocError>
     ensures { IfOk result
-        (λ run. IsRefusedOrMeant files.now (map (λ name. name.now) fresh.now) meant.now
+        (λ run. IsRefusedOrIntended files.now (map (λ name. name.now) fresh.now) meant.now
         (option_map (λ sources. sources.now) current.entry) text run) }
 {
     match meant {
@@ -245,7 +245,7 @@ fn refused_or_listed<T: ComposeTable>(
     alloc: Global,
     files: &UpdateFiles,
     fresh: &[&str],
-    meant: &MeantChanges,
+    meant: &IntendedChanges,
     current: Option<&Sources>,
     text: String,
 ) -> Result<UpdateRun, AllocError>
@@ -254,7 +254,7 @@ fn refused_or_listed<T: ComposeTable>(
         (option_map (λ sources. sources.now) current.entry) text run) }
 {
     match current {
-        Some(current) => update_meant::<T>(alloc, files, fresh, meant, current),
+        Some(current) => update_if_intended::<T>(alloc, files, fresh, meant, current),
         None => Ok(refused_with(alloc, text)),
     }
 }
@@ -289,19 +289,19 @@ fn decided<T: ComposeTable>(
 
 /// Returns what an update does if typing would change from a table with these sources: the new
 /// table is stored if all changes are intended.
-fn update_meant<T: ComposeTable>(
+fn update_if_intended<T: ComposeTable>(
     alloc: Global,
     files: &UpdateFiles,
     fresh: &[&str],
-    meant: &MeantChanges,
+    meant: &IntendedChanges,
     current: &Sources,
 ) -> Result<UpdateRun, AllocError>
     ensures { IfOk result
-        (λ run. IsMeantRun files.now (map (λ name. name.now) fresh.now) meant.now
+        (λ run. IsIntendedRun files.now (map (λ name. name.now) fresh.now) meant.now
         current.now run) }
 {
-    match meant_answer::<T>(alloc, files, fresh, meant, current) {
-        Ok(Answer::Yes(_)) => stored_as_meant::<T>(alloc, files, fresh),
+    match intended_answer::<T>(alloc, files, fresh, meant, current) {
+        Ok(Answer::Yes(_)) => stored_if_intended::<T>(alloc, files, fresh),
         Ok(answer) => {
             let outcome = outcome_with(alloc, fresh, Ok(answer), String::new(alloc))?;
             Ok(UpdateRun::Refused(outcome))
@@ -319,15 +319,15 @@ fn update_meant<T: ComposeTable>(
 
 /// Returns the answer of `diff` on a table with these sources and the new one, if these changes are
 /// intended.
-fn meant_answer<T: ComposeTable>(
+fn intended_answer<T: ComposeTable>(
     alloc: Global,
     files: &UpdateFiles,
     fresh: &[&str],
-    meant: &MeantChanges,
+    meant: &IntendedChanges,
     current: &Sources,
 ) -> Result<Answer, DiffFault>
     ensures { AnswersDiff
-        (meant_asked files.now (map (λ name. name.now) fresh.now) meant.now current.now) result }
+        (intended_input files.now (map (λ name. name.now) fresh.now) meant.now current.now) result }
 {
     let (old_paths, new_paths) = (source_names(alloc, current)?, files.new.path_texts(alloc)?);
     let tables = MigrationInput {
@@ -375,13 +375,13 @@ fn source_name(sources: &Sources, index: usize) -> &str
 
 /// Returns the run of an update if all changes are intended: the new table is stored as if no table
 /// were in use.
-fn stored_as_meant<T: ComposeTable>(
+fn stored_if_intended<T: ComposeTable>(
     alloc: Global,
     files: &UpdateFiles,
     fresh: &[&str],
 ) -> Result<UpdateRun, AllocError>
     ensures { IfOk result
-        (λ run. IsStoredAsMeant files.now (map (λ name. name.now) fresh.now) run) }
+        (λ run. IsStoredIfIntended files.now (map (λ name. name.now) fresh.now) run) }
 {
     match decided::<T>(alloc, files, fresh, None) {
         Ok(Update::Replaced { stored, .. }) => Ok(UpdateRun::Meant { stored }),

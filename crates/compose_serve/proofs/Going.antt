@@ -9,10 +9,10 @@ use Rattle.compose_wire.specs.Messages.{Request, Fits, Reply}
 use Rattle.compose_wire.specs.Frames.{frame, frames, reply_bytes}
 use Rattle.compose_machine.specs.Machine.{ServiceState, Reading, Step, Run}
 use Rattle.compose_serve.specs.Streams.{SameStream}
-use Rattle.compose_serve.specs.Next.{ComesSo}
+use Rattle.compose_serve.specs.Next.{IsNextRequest}
 use Rattle.compose_serve.specs.Ends.{max_frames, replies_bytes, malformed_reply, IsServed, Serves, EndsBy}
-use Rattle.compose_serve.specs.declared.ends.Ended.{Ended}
-use Rattle.compose_serve.specs.declared.ends.Ended.TheVariants.{InputEnd, Malformed}
+use Rattle.compose_serve.specs.declared.ends.StreamEnd.{StreamEnd}
+use Rattle.compose_serve.specs.declared.ends.StreamEnd.TheVariants.{InputEnd, Malformed}
 use Rattle.compose_serve.specs.declared.ends.ServeFault.{ServeFault}
 use Rattle.compose_serve.specs.declared.ends.ServeFault.TheVariants.{Read, Write, Cut, TooManyFrames, NoMemory}
 use Rattle.compose_serve.specs.declared.next.Stop.{Stop}
@@ -140,7 +140,7 @@ module _ (reading : Reading) (old : ServiceState) (left written : Option (List �
       all_written written'' e = served_by written'' (replies_bytes g.replies) (subst (λ (o : Option (List ℕ)). Appends written o (replies_bytes g.replies)) (sym e) g.wrote)
 
       -- no request follows
-      pub ends_at : (stop : Stop) (result : Result Ended ServeFault) (held' : List ℕ) (written'' : Option (List ℕ)) (read_failed write_failed : Bool) → ComesSo (Err stop) rest held' left' read_failed
+      pub ends_at : (stop : Stop) (result : Result StreamEnd ServeFault) (held' : List ℕ) (written'' : Option (List ℕ)) (read_failed write_failed : Bool) → IsNextRequest (Err stop) rest held' left' read_failed
           → EndsBy stop result written' written'' write_failed
           → Serves reading old now left left' written written'' read_failed write_failed result
       ends_at Faulty (Ok Malformed) held' written'' rf wf c w = (

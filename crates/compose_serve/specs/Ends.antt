@@ -8,8 +8,8 @@ use Rattle.compose_wire.specs.Frames.{frames, fault_at, reply_bytes, BeginsWithF
 use Rattle.compose_machine.specs.Machine.{ServiceState, Reading, Run}
 use Rattle.compose_serve.specs.declared.next.Stop.{Stop}
 use Rattle.compose_serve.specs.declared.next.Stop.TheVariants.{Faulty, End, EndInFrame, ReadFailed, NoMemory as StopNoMemory}
-use Rattle.compose_serve.specs.declared.ends.Ended.{Ended}
-use Rattle.compose_serve.specs.declared.ends.Ended.TheVariants.{InputEnd, Malformed}
+use Rattle.compose_serve.specs.declared.ends.StreamEnd.{StreamEnd}
+use Rattle.compose_serve.specs.declared.ends.StreamEnd.TheVariants.{InputEnd, Malformed}
 use Rattle.compose_serve.specs.declared.ends.ServeFault.{ServeFault}
 use Rattle.compose_serve.specs.declared.ends.ServeFault.TheVariants.{Read, Write, Cut, TooManyFrames, NoMemory}
 
@@ -90,17 +90,17 @@ pub record EndsNoMemory (s : Served) : Type 0 where
   pub some : s.rest ≢ []
   pub written : AllWritten s
 
-abbrev pub EndsSo : Result Ended ServeFault → Option (List ℕ) → Bool → Bool → Served → Type 0
-EndsSo (Ok InputEnd) left' read_failed write_failed s = EndsInput s left'
-EndsSo (Ok Malformed) left' read_failed write_failed s = EndsMalformed s
-EndsSo (Err Cut) left' read_failed write_failed s = EndsCut s left'
-EndsSo (Err Read) left' read_failed write_failed s = EndsRead s read_failed
-EndsSo (Err Write) left' read_failed write_failed s = EndsWrite s write_failed
-EndsSo (Err TooManyFrames) left' read_failed write_failed s = EndsTooMany s
-EndsSo (Err NoMemory) left' read_failed write_failed s = EndsNoMemory s
+abbrev pub EndsAs : Result StreamEnd ServeFault → Option (List ℕ) → Bool → Bool → Served → Type 0
+EndsAs (Ok InputEnd) left' read_failed write_failed s = EndsInput s left'
+EndsAs (Ok Malformed) left' read_failed write_failed s = EndsMalformed s
+EndsAs (Err Cut) left' read_failed write_failed s = EndsCut s left'
+EndsAs (Err Read) left' read_failed write_failed s = EndsRead s read_failed
+EndsAs (Err Write) left' read_failed write_failed s = EndsWrite s write_failed
+EndsAs (Err TooManyFrames) left' read_failed write_failed s = EndsTooMany s
+EndsAs (Err NoMemory) left' read_failed write_failed s = EndsNoMemory s
 
 -- what is written at a stop, and how the stream ends then
-abbrev pub EndsBy : Stop → Result Ended ServeFault → Option (List ℕ) → Option (List ℕ) → Bool → Type 0
+abbrev pub EndsBy : Stop → Result StreamEnd ServeFault → Option (List ℕ) → Option (List ℕ) → Bool → Type 0
 EndsBy Faulty (Ok Malformed) written written' failed' = Appends written written' (reply_bytes malformed_reply)
 EndsBy Faulty (Err Write) written written' failed' =
     (part : List ℕ) × IsTrue (is_proper_prefix part (reply_bytes malformed_reply)) × Appends written written' part × (failed' ≡ true)
@@ -111,6 +111,6 @@ EndsBy StopNoMemory (Err NoMemory) written written' failed' = written' ≡ writt
 EndsBy _ _ written written' failed' = ⊥
 
 -- what is true at the end of a stream
-abbrev pub Serves : Reading → ServiceState → ServiceState → Option (List ℕ) → Option (List ℕ) → Option (List ℕ) → Option (List ℕ) → Bool → Bool → Result Ended ServeFault → Type 0
+abbrev pub Serves : Reading → ServiceState → ServiceState → Option (List ℕ) → Option (List ℕ) → Option (List ℕ) → Option (List ℕ) → Bool → Bool → Result StreamEnd ServeFault → Type 0
 Serves reading old new left left' written written' read_failed write_failed result =
-    (s : Served) × IsServed reading old new left left' written written' s × EndsSo result left' read_failed write_failed s
+    (s : Served) × IsServed reading old new left left' written written' s × EndsAs result left' read_failed write_failed s

@@ -7,21 +7,21 @@ use Rattle.compose_wire.specs.Requests.{request_of}
 use Rattle.compose_wire.specs.declared.request.Request.{Request}
 use Rattle.compose_serve.specs.declared.next.Stop.{Stop}
 use Rattle.compose_serve.specs.declared.next.Stop.TheVariants.{Faulty, End, EndInFrame, ReadFailed, NoMemory}
-use Rattle.compose_serve.specs.declared.next.Pulled.{Pulled}
-use Rattle.compose_serve.specs.declared.next.Pulled.TheVariants.{More, End as AtEnd, Failure, NoRoom}
+use Rattle.compose_serve.specs.declared.next.PullResult.{PullResult}
+use Rattle.compose_serve.specs.declared.next.PullResult.TheVariants.{More, End as AtEnd, Failure, NoRoom}
 
 -- the result of pulling a piece: rest is what was held, and after it what came
-abbrev pub PullsSo : Pulled → List ℕ → List ℕ → List ℕ → Option (List ℕ) → Bool → Type 0
-PullsSo More held rest held' left' failed' = (held' ≡ rest) × (length held < length held')
-PullsSo AtEnd held rest held' left' failed' = (rest ≡ held) × (held' ≡ held) × IsAtEnd left'
-PullsSo Failure held rest held' left' failed' = (rest ≡ held) × (held' ≡ held) × (failed' ≡ true)
-PullsSo NoRoom held rest held' left' failed' = rest ≢ []
+abbrev pub IsPullResult : PullResult → List ℕ → List ℕ → List ℕ → Option (List ℕ) → Bool → Type 0
+IsPullResult More held rest held' left' failed' = (held' ≡ rest) × (length held < length held')
+IsPullResult AtEnd held rest held' left' failed' = (rest ≡ held) × (held' ≡ held) × IsAtEnd left'
+IsPullResult Failure held rest held' left' failed' = (rest ≡ held) × (held' ≡ held) × (failed' ≡ true)
+IsPullResult NoRoom held rest held' left' failed' = rest ≢ []
 
 -- the next request, or why there is none: rest is what was not yet returned
-abbrev pub ComesSo : Result Request Stop → List ℕ → List ℕ → Option (List ℕ) → Bool → Type 0
-ComesSo (Ok q) rest held' left' failed' = Fits (request_of q) × (rest ≡ frame (request_of q) ++ held')
-ComesSo (Err Faulty) rest held' left' failed' = IsSome (fault_at rest)
-ComesSo (Err End) rest held' left' failed' = IsAtEnd left' × (rest ≡ [])
-ComesSo (Err EndInFrame) rest held' left' failed' = IsAtEnd left' × (rest ≢ []) × IsBegun rest
-ComesSo (Err ReadFailed) rest held' left' failed' = (failed' ≡ true) × IsBegun rest
-ComesSo (Err NoMemory) rest held' left' failed' = rest ≢ []
+abbrev pub IsNextRequest : Result Request Stop → List ℕ → List ℕ → Option (List ℕ) → Bool → Type 0
+IsNextRequest (Ok q) rest held' left' failed' = Fits (request_of q) × (rest ≡ frame (request_of q) ++ held')
+IsNextRequest (Err Faulty) rest held' left' failed' = IsSome (fault_at rest)
+IsNextRequest (Err End) rest held' left' failed' = IsAtEnd left' × (rest ≡ [])
+IsNextRequest (Err EndInFrame) rest held' left' failed' = IsAtEnd left' × (rest ≢ []) × IsBegun rest
+IsNextRequest (Err ReadFailed) rest held' left' failed' = (failed' ≡ true) × IsBegun rest
+IsNextRequest (Err NoMemory) rest held' left' failed' = rest ≢ []

@@ -3,7 +3,7 @@ use thiserror::Error;
 
 /// How a stream ended.
 #[derive(Clone, Copy, Debug, PartialEq, Eq, Drop)]
-pub enum Ended {
+pub enum StreamEnd {
     /// The input ended after a whole frame, or had none.
     InputEnd,
     /// A faulty frame came. It was answered with refusal 10.

@@ -22,6 +22,6 @@ mod serving;
 mod streams;
 
 pub use device::Device;
-pub use ends::{Ended, ServeFault};
-pub use serving::{Answer, serve};
+pub use ends::{ServeFault, StreamEnd};
+pub use serving::{Responder, serve};
 pub use streams::{Failed, Pull, Push};

@@ -1,7 +1,7 @@
 //! The next request of a stream.
 ghost use Rattle.std.specs.Prelude.{◌≡◌, ◌≢◌, ℕ, List, Err};
 ghost use Rattle.compose_serve.specs.Streams.{SameStream};
-ghost use Rattle.compose_serve.specs.Next.{PullsSo, ComesSo};
+ghost use Rattle.compose_serve.specs.Next.{IsPullResult, IsNextRequest};
 
 use crate::streams::{Failed, Pull};
 use compose_wire::{Feeder, Request, WireFault};
@@ -12,7 +12,7 @@ const PIECE: usize = 4096;
 
 /// The result of pulling a piece.
 #[derive(Clone, Copy)]
-pub(crate) enum Pulled {
+pub(crate) enum PullResult {
     /// Some bytes came, and are held now.
     More,
     /// The input is at its end.
@@ -39,20 +39,20 @@ pub(crate) enum Stop {
 }
 
 /// Reads one piece.
-fn pull_piece<R: Pull>(feeder: &mut Feeder, reader: &mut R) -> Pulled
+fn pull_piece<R: Pull>(feeder: &mut Feeder, reader: &mut R) -> PullResult
     ensures so { (rest : List ℕ)
         × SameStream (feeder.old) (R.left reader.old) rest (R.left reader.new)
-        × PullsSo result (feeder.old) rest (feeder.new) (R.left reader.new) (R.failed reader.new) }
-    ensures mark { result ≢ Pulled.Failure → R.failed reader.new ≡ R.failed reader.old }
+        × IsPullResult result (feeder.old) rest (feeder.new) (R.left reader.new) (R.failed reader.new) }
+    ensures mark { result ≢ PullResult.Failure → R.failed reader.new ≡ R.failed reader.old }
 {
     let mut piece = [0u8; PIECE];
     match reader.pull(&mut piece) {
-        Ok(0) => Pulled::End,
+        Ok(0) => PullResult::End,
         Ok(count) => match feeder.feed(&piece[..count]) {
-            Ok(()) => Pulled::More,
-            Err(_) => Pulled::NoRoom,
+            Ok(()) => PullResult::More,
+            Err(_) => PullResult::NoRoom,
         },
-        Err(Failed) => Pulled::Failure,
+        Err(Failed) => PullResult::Failure,
     }
 }
 
@@ -64,7 +64,7 @@ pub(crate) fn next_request<R: Pull>(
 ) -> Result<Request, Stop>
     ensures so { (rest : List ℕ)
         × SameStream (feeder.old) (R.left reader.old) rest (R.left reader.new)
-        × ComesSo result rest (feeder.new) (R.left reader.new) (R.failed reader.new) }
+        × IsNextRequest result rest (feeder.new) (R.left reader.new) (R.failed reader.new) }
     ensures mark { result ≢ Err Stop.ReadFailed → R.failed reader.new ≡ R.failed reader.old }
 {
     'pieces: loop {
@@ -75,16 +75,16 @@ pub(crate) fn next_request<R: Pull>(
             Err(_) => return Err(Stop::Faulty),
         }
         match pull_piece(feeder, reader) {
-            Pulled::More => {}
-            Pulled::End => {
+            PullResult::More => {}
+            PullResult::End => {
                 return Err(if feeder.held() == 0 {
                     Stop::End
                 } else {
                     Stop::EndInFrame
                 });
             }
-            Pulled::Failure => return Err(Stop::ReadFailed),
-            Pulled::NoRoom => return Err(Stop::NoMemory),
+            PullResult::Failure => return Err(Stop::ReadFailed),
+            PullResult::NoRoom => return Err(Stop::NoMemory),
         }
     }
 }

@@ -1,12 +1,12 @@
 //! A service on a stream.
 ghost use Rattle.std.specs.Prelude.{◌≡◌, ◌≢◌, List, Err};
 ghost use Rattle.compose_wire.specs.Messages as words;
-ghost use Rattle.compose_wire.specs.Replies.{SaysReply};
+ghost use Rattle.compose_wire.specs.Replies.{HasReplyValue};
 ghost use Rattle.compose_wire.specs.Requests.{request_of};
 ghost use Rattle.compose_machine.specs.Machine.{ServiceState, Reading, Step};
 ghost use Rattle.compose_serve.specs.Ends.{Serves, EndsBy};
 
-use crate::ends::{Ended, ServeFault};
+use crate::ends::{ServeFault, StreamEnd};
 use crate::next::{Stop, next_request};
 use crate::streams::{Pull, Push, push_all};
 use compose_wire::{Feeder, Reply, Request, put_reply};
@@ -16,7 +16,7 @@ use std::alloc::Global;
 const MAX_FRAMES: u32 = 16_777_216;
 
 /// A service that answers requests, each by one step of the service machine.
-pub trait Answer {
+pub trait Responder {
     /// What the payload of a load is read as.
     ghost reading: { Reading };
 
@@ -25,13 +25,13 @@ pub trait Answer {
 
     /// Answers one request.
     fn answer(&mut self, alloc: Global, request: &Request) -> Reply
-        ensures { (said : words.Reply)
-            × Step reading (state self.old) (request_of request.now) said (state self.new)
-            × SaysReply result said };
+        ensures { (expected : words.Reply)
+            × Step reading (state self.old) (request_of request.now) expected (state self.new)
+            × HasReplyValue result expected };
 }
 
 /// Ends the stream if no request follows, and writes the refusal of a faulty frame.
-fn end_with<W: Push>(writer: &mut W, stop: Stop) -> Result<Ended, ServeFault>
+fn end_with<W: Push>(writer: &mut W, stop: Stop) -> Result<StreamEnd, ServeFault>
     ensures so { EndsBy stop result (W.written writer.old) (W.written writer.new)
         (W.failed writer.new) }
     ensures mark { result ≢ Err ServeFault.Write → W.failed writer.new ≡ W.failed writer.old }
@@ -40,11 +40,11 @@ fn end_with<W: Push>(writer: &mut W, stop: Stop) -> Result<Ended, ServeFault>
         Stop::Faulty => {
             let reply = [0xff, 0, 0, 0, 0, 0, 0, 0, 2, 0, 10];
             match push_all(writer, &reply) {
-                Ok(()) => Ok(Ended::Malformed),
+                Ok(()) => Ok(StreamEnd::Malformed),
                 Err(_) => Err(ServeFault::Write),
             }
         }
-        Stop::End => Ok(Ended::InputEnd),
+        Stop::End => Ok(StreamEnd::InputEnd),
         Stop::EndInFrame => Err(ServeFault::Cut),
         Stop::ReadFailed => Err(ServeFault::Read),
         Stop::NoMemory => Err(ServeFault::NoMemory),
@@ -66,12 +66,12 @@ fn end_with<W: Push>(writer: &mut W, stop: Stop) -> Result<Ended, ServeFault>
 /// whole frame that was read is answered; `Write` if a write fails, when a part of the last reply
 /// is missing; `TooManyFrames` if a whole frame follows the 16,777,216th; `NoMemory` if there is no
 /// memory for bytes that were read.
-pub fn serve<S: Answer, R: Pull, W: Push>(
+pub fn serve<S: Responder, R: Pull, W: Push>(
     service: &mut S,
     alloc: Global,
     reader: &mut R,
     writer: &mut W,
-) -> Result<Ended, ServeFault>
+) -> Result<StreamEnd, ServeFault>
     ensures ends { Serves S.reading (S.state service.old) (S.state service.new)
         (R.left reader.old) (R.left reader.new) (W.written writer.old) (W.written writer.new)
         (R.failed reader.new) (W.failed writer.new) result }

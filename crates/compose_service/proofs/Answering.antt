@@ -10,9 +10,9 @@ use Rattle.compose_model.specs.Session.{Session, rest, fed as session_fed, loade
 use Rattle.compose_model.specs.Step.{step}
 use Rattle.compose_wire.specs.Messages as words
 use Rattle.compose_wire.specs.Messages.{Body, code}
-use Rattle.compose_wire.specs.Replies.{SaysAnswer, SaysReply}
-use Rattle.compose_wire.specs.declared.reply.Answer.{Answer}
-use Rattle.compose_wire.specs.declared.reply.Answer.TheVariants.{Opened, WasReset, Closed, Refused}
+use Rattle.compose_wire.specs.Replies.{HasAnswerValue, HasReplyValue}
+use Rattle.compose_wire.specs.declared.reply.ReplyBody.{ReplyBody}
+use Rattle.compose_wire.specs.declared.reply.ReplyBody.TheVariants.{Opened, WasReset, Closed, Refused}
 use Rattle.compose_machine.specs.Machine.{ServiceState, Step, Row, Accepts, session_of, with_session, with_sessions, without_session, max_sessions, one_more}
 use Rattle.compose_machine.specs.Late.{seen, AreKept, refed_row, rows_at_swap, swapped, LateAnswers}
 use Rattle.compose_machine.proofs.Stored.{stands, swap_kept}
@@ -21,15 +21,15 @@ use Rattle.compose_model.specs.Table.{Definition, is_prefix_free}
 use Rattle.compose_model.specs.Certificate.{Certificate, IsValid}
 use Rattle.compose_model.specs.declared.Rule.{Rule}
 use Rattle.compose_read.specs.declared.settling.SettleFault.TheVariants as settle_faults
-use Rattle.compose_tree.specs.TableGives.{NoTable, first_table, TableGives}
+use Rattle.compose_tree.specs.TableReturns.{NoTable, first_table, TableReturns}
 use Rattle.compose_tree.specs.declared.table.BuildFault.TheVariants as build_faults
 use Rattle.compose_tree.specs.declared.reading.TableFault.{TableFault}
 use Rattle.compose_tree.specs.declared.reading.TableFault.TheVariants as table_faults
 use Rattle.compose_cert.specs.Reading.{certificate_of}
-use Rattle.compose_cert.specs.CertificateGives.{CertificateGives}
+use Rattle.compose_cert.specs.CertificateReturns.{CertificateReturns}
 use Rattle.compose_cert.specs.declared.CertFault.{CertFault}
 use Rattle.compose_cert.specs.declared.CertFault.TheVariants as cert_faults
-use Rattle.compose_migration.specs.MigrationGives.{TableFails}
+use Rattle.compose_migration.specs.MigrationReturns.{TableFails}
 use Rattle.compose_bundle.specs.Bundle.{Bundle, AreBytes}
 use Rattle.compose_bundle.specs.Decoded.{bundle_of}
 use Rattle.compose_bundle.specs.Written.{NotRead}
@@ -40,11 +40,11 @@ use Rattle.compose_service.specs.Refusals.{refusal_of, of_bundle, of_table, of_c
 use Rattle.compose_service.specs.Answered.{Answered, ReadsLoad}
 use Rattle.compose_bundle.specs.declared.BundleFault.{BundleFault}
 use Rattle.compose_bundle.specs.declared.BundleFault.TheVariants as bundle_faults
-use Rattle.compose_service.specs.declared.refusal.Refusal.{Refusal}
-use Rattle.compose_service.specs.declared.refusal.Refusal.TheVariants.{SessionTaken, NoSession, Full, BadKeysym, BadBundle, TableRefused, CertificateRefused, VerdictNo, NoMemory}
+use Rattle.compose_service.specs.declared.refusal.RefusalCode.{RefusalCode}
+use Rattle.compose_service.specs.declared.refusal.RefusalCode.TheVariants.{SessionTaken, NoSession, Full, BadKeysym, BadBundle, TableRefused, CertificateRefused, VerdictNo, NoMemory}
 
 -- what is stored stays sound
-pub answered_kept : (old : ServiceState) (n : ℕ) (body : Body) (answer : Answer) (new : ServiceState) → AreKept old.table old.sessions → Answered old n body answer new → AreKept new.table new.sessions
+pub answered_kept : (old : ServiceState) (n : ℕ) (body : Body) (answer : ReplyBody) (new : ServiceState) → AreKept old.table old.sessions → Answered old n body answer new → AreKept new.table new.sessions
 unfolding Answered
 answered_kept old n body answer new kept h = (stands reading old new n kept body h.0 h.1).kept
 
@@ -108,8 +108,8 @@ module _ (old : ServiceState) (n : ℕ) where
     unfolding Answered
     key_bad k number e h f = (words.refused words.bad_keysym, (one_there h, f, ap (with_sessions old) refed_rows), e)
 
-    pub key_fed : (k x : ℕ) (answer : Answer) (rows' : List Row) (s : Session) → (x ≡ k) × IsTrue (is_keysym k) → session_of rows n ≡ Some s → rows' ≡ with_session rows n (session_fed old.table s x)
-        → SaysAnswer answer (words.fed (session_fed old.table s x).status (not (is_ignored x)) (step old.names old.table s.pending x).text)
+    pub key_fed : (k x : ℕ) (answer : ReplyBody) (rows' : List Row) (s : Session) → (x ≡ k) × IsTrue (is_keysym k) → session_of rows n ≡ Some s → rows' ≡ with_session rows n (session_fed old.table s x)
+        → HasAnswerValue answer (words.fed (session_fed old.table s x).status (not (is_ignored x)) (step old.names old.table s.pending x).text)
         → Answered old n (words.key k) answer (with_sessions old rows')
     unfolding Answered
     key_fed k x answer rows' s t h r says =
@@ -157,9 +157,9 @@ module _ (old : ServiceState) (n : ℕ) where
 
     -- a question about a session that is there may be answered with the status and the pending keysyms that it has
     -- after refeeding
-    pub ask_told : (answer : Answer) (s : Session) → session_of rows n ≡ Some s → SaysAnswer answer (words.state s.status s.pending) → Answered old n words.ask answer (with_sessions old rows)
+    pub ask_reported : (answer : ReplyBody) (s : Session) → session_of rows n ≡ Some s → HasAnswerValue answer (words.state s.status s.pending) → Answered old n words.ask answer (with_sessions old rows)
     unfolding Answered
-    ask_told answer s h says = (words.state s.status s.pending, (subst (λ (rs : List Row). session_of rs n ≡ Some s) refed_rows h, ap (with_sessions old) refed_rows), says)
+    ask_reported answer s h says = (words.state s.status s.pending, (subst (λ (rs : List Row). session_of rs n ≡ Some s) refed_rows h, ap (with_sessions old) refed_rows), says)
 
   -- a key whose session is refed and fed at once
 
@@ -171,9 +171,9 @@ module _ (old : ServiceState) (n : ℕ) where
 
   -- a key for a session that is stored is answered as the table answers it after refeeding the session, which is then
   -- stored fed
-  pub key_refed : (k x : ℕ) (answer : Answer) (rows : List Row) (s : Session) → (x ≡ k) × IsTrue (is_keysym k) → session_of old.sessions n ≡ Some s
+  pub key_refed : (k x : ℕ) (answer : ReplyBody) (rows : List Row) (s : Session) → (x ≡ k) × IsTrue (is_keysym k) → session_of old.sessions n ≡ Some s
       → rows ≡ with_session old.sessions n (session_fed old.table (session_loaded old.table s) x)
-      → SaysAnswer answer (words.fed (session_fed old.table (session_loaded old.table s) x).status (not (is_ignored x)) (step old.names old.table (session_loaded old.table s).pending x).text)
+      → HasAnswerValue answer (words.fed (session_fed old.table (session_loaded old.table s) x).status (not (is_ignored x)) (step old.names old.table (session_loaded old.table s).pending x).text)
       → Answered old n (words.key k) answer (with_sessions old rows)
   key_refed k x answer rows s t there r says =
       key_fed (map (refed_row old.table n) old.sessions) refl k x answer rows (session_loaded old.table s) t
@@ -193,7 +193,7 @@ swap_sound inside old is table certificate rows free accepted kept e =
 
 module _ (now : ServiceState) (rule : Rule) (bytes : List ℕ) {T : Type 0} (view : T → List Definition) where
   -- a load that is not read may be answered with that refusal, and nothing changes
-  pub load_refused : (n : ℕ) (why : Refusal) (number : ℕ) → number ≡ code (refusal_of why) → ReadsLoad now rule bytes view (Err why) → Answered now n (words.load rule bytes) (Refused number) now
+  pub load_refused : (n : ℕ) (why : RefusalCode) (number : ℕ) → number ≡ code (refusal_of why) → ReadsLoad now rule bytes view (Err why) → Answered now n (words.load rule bytes) (Refused number) now
   unfolding Answered ReadsLoad
   load_refused n SessionTaken number e h = (words.refused words.session_taken, h, e)
   load_refused n NoSession number e h = (words.refused words.no_session, h, e)
@@ -213,8 +213,8 @@ module _ (now : ServiceState) (rule : Rule) (bytes : List ℕ) {T : Type 0} (vie
 
   -- a load that is read and accepted may be answered as loaded, with the count of loads, and its table is then the
   -- current one
-  pub load_done : (n : ℕ) (p : T × Certificate) (answer : Answer) (new : ServiceState) → ReadsLoad now rule bytes view (Ok p) → is_prefix_free (view p.0) ≡ true → Accepts now (view p.0) p.1
-      → new ≡ swapped now (view p.0) p.1.fresh → SaysAnswer answer (words.loaded (one_more now.loads)) → Answered now n (words.load rule bytes) answer new
+  pub load_done : (n : ℕ) (p : T × Certificate) (answer : ReplyBody) (new : ServiceState) → ReadsLoad now rule bytes view (Ok p) → is_prefix_free (view p.0) ≡ true → Accepts now (view p.0) p.1
+      → new ≡ swapped now (view p.0) p.1.fresh → HasAnswerValue answer (words.loaded (one_more now.loads)) → Answered now n (words.load rule bytes) answer new
   unfolding Answered ReadsLoad
   load_done n p answer new h free accepted e says = (words.loaded (one_more now.loads), (view p.0, p.1, h, free, accepted, refl, e), says)
 
@@ -234,17 +234,17 @@ module _ (now : ServiceState) (rule : Rule) (bytes : List ℕ) {T : Type 0} (vie
     no_fault (table_faults.Build fault) table h = search rules
     no_fault table_faults.NoMemory table h = h
 
-    reads : (said : Result (List Definition) NoTable) → first_table now.names b.sources rule ≡ said → reading rule now.names bytes ≡ parts_by said (certificate_of b.certificate)
-    reads said e = ap (bundle_parts rule now.names) bundled ∙ ap (λ r. parts_by r (certificate_of b.certificate)) e
+    reads : (expected : Result (List Definition) NoTable) → first_table now.names b.sources rule ≡ expected → reading rule now.names bytes ≡ parts_by expected (certificate_of b.certificate)
+    reads expected e = ap (bundle_parts rule now.names) bundled ∙ ap (λ r. parts_by r (certificate_of b.certificate)) e
 
-    table_refused_by : (fault : TableFault) (said : Result (List Definition) NoTable) → of_table fault ≡ TableRefused → first_table now.names b.sources rule ≡ said → TableFails fault said
+    table_refused_by : (fault : TableFault) (expected : Result (List Definition) NoTable) → of_table fault ≡ TableRefused → first_table now.names b.sources rule ≡ expected → TableFails fault expected
         → ReadsLoad now rule bytes view (Err TableRefused)
     unfolding ReadsLoad
     table_refused_by fault (Err why) is e h = (reads (Err why) e, refl)
     table_refused_by fault (Ok table) is e h = absurd (no_fault fault table h)
 
     -- if the sources of a bundle have no table, the load is refused for that fault
-    pub table_fault : (fault : TableFault) → TableGives view (Err fault) (first_table now.names b.sources rule) → ReadsLoad now rule bytes view (Err (of_table fault))
+    pub table_fault : (fault : TableFault) → TableReturns view (Err fault) (first_table now.names b.sources rule) → ReadsLoad now rule bytes view (Err (of_table fault))
     unfolding ReadsLoad
     table_fault table_faults.NoMemory h = refl
     table_fault (table_faults.Read fault) h = table_refused_by (table_faults.Read fault) (first_table now.names b.sources rule) refl refl h
@@ -255,11 +255,11 @@ module _ (now : ServiceState) (rule : Rule) (bytes : List ℕ) {T : Type 0} (vie
     table_fault (table_faults.Build build_faults.NoMemory) h = absurd h
 
     module _ (table : T) (is_table : first_table now.names b.sources rule ≡ Ok (view table)) where
-      reads_on : (said : Result Certificate CertFault) → certificate_of b.certificate ≡ said → reading rule now.names bytes ≡ parts_by (Ok (view table)) said
-      reads_on said e = reads (Ok (view table)) is_table ∙ ap (parts_by (Ok (view table))) e
+      reads_on : (expected : Result Certificate CertFault) → certificate_of b.certificate ≡ expected → reading rule now.names bytes ≡ parts_by (Ok (view table)) expected
+      reads_on expected e = reads (Ok (view table)) is_table ∙ ap (parts_by (Ok (view table))) e
 
       -- if the table is read and the certificate is not, the load is refused for that fault
-      pub certificate_fault : (fault : CertFault) → CertificateGives (Err fault) (certificate_of b.certificate) → ReadsLoad now rule bytes view (Err (of_certificate fault))
+      pub certificate_fault : (fault : CertFault) → CertificateReturns (Err fault) (certificate_of b.certificate) → ReadsLoad now rule bytes view (Err (of_certificate fault))
       unfolding ReadsLoad
       certificate_fault cert_faults.NoMemory h = refl
       certificate_fault (cert_faults.NotText line) h = (reads_on (Err (cert_faults.NotText line)) h, refl)
@@ -271,22 +271,22 @@ module _ (now : ServiceState) (rule : Rule) (bytes : List ℕ) {T : Type 0} (vie
       load_read certificate is_certificate = reads_on (Ok certificate) is_certificate
 
 -- the result of a `?` is the refusal of its fault
-pub raised : {T : Type 0} (now : ServiceState) (rule : Rule) (bytes : List ℕ) (view : T → List Definition) (result : Result (T × Certificate) Refusal) (why : Refusal) → IsErrAnd result (λ e. e ≡ why)
+pub raised : {T : Type 0} (now : ServiceState) (rule : Rule) (bytes : List ℕ) (view : T → List Definition) (result : Result (T × Certificate) RefusalCode) (why : RefusalCode) → IsErrAnd result (λ e. e ≡ why)
     → ReadsLoad now rule bytes view (Err why) → ReadsLoad now rule bytes view result
 raised now rule bytes view (Ok p) why is h = absurd is
-raised now rule bytes view (Err e) why is h = subst (λ (y : Refusal). ReadsLoad now rule bytes view (Err y)) (sym is) h
+raised now rule bytes view (Err e) why is h = subst (λ (y : RefusalCode). ReadsLoad now rule bytes view (Err y)) (sym is) h
 
 -- ---- any request
 
-module _ (old : ServiceState) (n : ℕ) (body : Body) (answer : Answer) (new : ServiceState) where
+module _ (old : ServiceState) (n : ℕ) (body : Body) (answer : ReplyBody) (new : ServiceState) where
   -- each answer of the service is one that the late service may return, under the number of the same session
   pub answered_stored : Answered old n body answer new
-      → (said : words.Answer) × LateAnswers reading old n body said new × SaysReply (record { session = n; answer = answer }) (record { session = n; answer = said })
+      → (expected : words.ReplyBody) × LateAnswers reading old n body expected new × HasReplyValue (record { session = n; answer = answer }) (record { session = n; answer = expected })
   unfolding Answered
   answered_stored h = (h.0, h.1, (refl, h.2))
 
   -- it is a step of the machine
   pub answered_step : AreKept old.table old.sessions → Answered old n body answer new
-      → (said : words.Reply) × Step reading (seen old) (record { session = n; body = body }) said (seen new) × SaysReply (record { session = n; answer = answer }) said
+      → (expected : words.Reply) × Step reading (seen old) (record { session = n; body = body }) expected (seen new) × HasReplyValue (record { session = n; answer = answer }) expected
   unfolding Answered
   answered_step kept h = (record { session = n; answer = h.0 }, (refl, (stands reading old new n kept body h.0 h.1).step), (refl, h.2))

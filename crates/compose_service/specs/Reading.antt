@@ -5,7 +5,7 @@ use Rattle.keysym_core.specs.Names.{KeysymNames}
 use Rattle.compose_model.specs.Table.{Definition}
 use Rattle.compose_model.specs.Certificate.{Certificate}
 use Rattle.compose_model.specs.declared.Rule.{Rule}
-use Rattle.compose_tree.specs.TableGives.{NoTable, first_table}
+use Rattle.compose_tree.specs.TableReturns.{NoTable, first_table}
 use Rattle.compose_cert.specs.Reading.{certificate_of}
 use Rattle.compose_cert.specs.declared.CertFault.{CertFault}
 use Rattle.compose_machine.specs.Machine.{Parts, not_a_bundle, no_table, no_certificate, parts}

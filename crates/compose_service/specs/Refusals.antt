@@ -7,10 +7,10 @@ use Rattle.compose_cert.specs.declared.CertFault.{CertFault}
 use Rattle.compose_cert.specs.declared.CertFault.TheVariants as cert_faults
 use Rattle.compose_bundle.specs.declared.BundleFault.{BundleFault}
 use Rattle.compose_bundle.specs.declared.BundleFault.TheVariants as bundle_faults
-use Rattle.compose_service.specs.declared.refusal.Refusal.{Refusal}
-use Rattle.compose_service.specs.declared.refusal.Refusal.TheVariants.{SessionTaken, NoSession, Full, BadKeysym, BadBundle, TableRefused, CertificateRefused, VerdictNo, NoMemory}
+use Rattle.compose_service.specs.declared.refusal.RefusalCode.{RefusalCode}
+use Rattle.compose_service.specs.declared.refusal.RefusalCode.TheVariants.{SessionTaken, NoSession, Full, BadKeysym, BadBundle, TableRefused, CertificateRefused, VerdictNo, NoMemory}
 
-abbrev pub refusal_of : Refusal → RefusalValue
+abbrev pub refusal_of : RefusalCode → RefusalValue
 refusal_of SessionTaken = words.session_taken
 refusal_of NoSession = words.no_session
 refusal_of Full = words.full
@@ -21,15 +21,15 @@ refusal_of CertificateRefused = words.certificate_refused
 refusal_of VerdictNo = words.verdict_no
 refusal_of NoMemory = words.no_memory
 
-abbrev pub of_bundle : BundleFault → Refusal
+abbrev pub of_bundle : BundleFault → RefusalCode
 of_bundle bundle_faults.Form = BadBundle
 of_bundle bundle_faults.TooLarge = BadBundle
 of_bundle bundle_faults.NoMemory = NoMemory
 
-abbrev pub of_table : TableFault → Refusal
+abbrev pub of_table : TableFault → RefusalCode
 of_table table_faults.NoMemory = NoMemory
 of_table fault = TableRefused
 
-abbrev pub of_certificate : CertFault → Refusal
+abbrev pub of_certificate : CertFault → RefusalCode
 of_certificate cert_faults.NoMemory = NoMemory
 of_certificate fault = CertificateRefused

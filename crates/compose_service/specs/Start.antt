@@ -4,13 +4,13 @@ use Rattle.keysym_core.specs.Names.{KeysymNames}
 use Rattle.compose_model.specs.Table.{Definition}
 use Rattle.compose_model.specs.Follows.{Waits}
 use Rattle.compose_model.specs.Certificate.{Certificate, Repertoire, TypesAll}
-use Rattle.compose_tree.specs.TableGives.{NoTable}
+use Rattle.compose_tree.specs.TableReturns.{NoTable}
 use Rattle.compose_tree.specs.declared.reading.TableFault.{TableFault}
 use Rattle.compose_tree.specs.declared.reading.TableFault.TheVariants as table_faults
 use Rattle.compose_cert.specs.declared.CertFault.{CertFault}
 use Rattle.compose_cert.specs.declared.CertFault.TheVariants as cert_faults
 use Rattle.compose_check.specs.Conditions.{fault_of}
-use Rattle.compose_migration.specs.MigrationGives.{TableFails}
+use Rattle.compose_migration.specs.MigrationReturns.{TableFails}
 use Rattle.compose_fresh.specs.declared.fault.CheckFault.{CheckFault}
 use Rattle.compose_machine.specs.Machine.{ServiceState}
 use Rattle.compose_service.specs.declared.service.StartFault.{StartFault}
@@ -47,21 +47,21 @@ abbrev pub certificate_raised : CertFault → StartFault
 certificate_raised cert_faults.NoMemory = start_faults.NoMemory
 certificate_raised fault = start_faults.Certificate fault
 
-abbrev pub CertificateSaid : CertFault → Result Begun NoStart → Type 0
-CertificateSaid cert_faults.NoMemory said = ⊥
-CertificateSaid fault said = said ≡ Err (without_certificate fault)
+abbrev pub IsCertificateFault : CertFault → Result Begun NoStart → Type 0
+IsCertificateFault cert_faults.NoMemory expected = ⊥
+IsCertificateFault fault expected = expected ≡ Err (without_certificate fault)
 
 -- the given service without sessions, whose table waits and types as its certificate states, or the first fault
-abbrev pub StartGives : KeysymNames → Repertoire → Result ServiceState StartFault → Result Begun NoStart → Type 0
-StartGives names repertoire (Ok service) said =
-    (b : Begun) × (said ≡ Ok b) × (service ≡ at_start b.table names repertoire) × Waits b.table b.certificate.bound × TypesAll names b.table repertoire b.certificate.typings
-StartGives names repertoire (Err (start_faults.Table fault)) said = (why : NoTable) × (said ≡ Err (without_table why)) × TableFails fault (Err why)
-StartGives names repertoire (Err (start_faults.Certificate fault)) said = CertificateSaid fault said
-StartGives names repertoire (Err (start_faults.No fault)) said = said ≡ Err (not_valid fault)
-StartGives names repertoire (Err start_faults.NoMemory) said = Unit {0}
+abbrev pub StartReturns : KeysymNames → Repertoire → Result ServiceState StartFault → Result Begun NoStart → Type 0
+StartReturns names repertoire (Ok service) expected =
+    (b : Begun) × (expected ≡ Ok b) × (service ≡ at_start b.table names repertoire) × Waits b.table b.certificate.bound × TypesAll names b.table repertoire b.certificate.typings
+StartReturns names repertoire (Err (start_faults.Table fault)) expected = (why : NoTable) × (expected ≡ Err (without_table why)) × TableFails fault (Err why)
+StartReturns names repertoire (Err (start_faults.Certificate fault)) expected = IsCertificateFault fault expected
+StartReturns names repertoire (Err (start_faults.No fault)) expected = expected ≡ Err (not_valid fault)
+StartReturns names repertoire (Err start_faults.NoMemory) expected = Unit {0}
 
 -- the given certificate is valid for this table against itself, which waits and types as it states; or the first fault
 abbrev pub BeginsBy : {A : Type 0} → KeysymNames → Repertoire → List Definition → Result A StartFault → Result Certificate CertFault → Type 0
-BeginsBy names repertoire table (Ok begun) said =
-    (c : Certificate) × (started names repertoire (Ok table) said ≡ Ok (record { table = table; certificate = c })) × Waits table c.bound × TypesAll names table repertoire c.typings
-BeginsBy names repertoire table (Err fault) said = StartGives names repertoire (Err fault) (started names repertoire (Ok table) said)
+BeginsBy names repertoire table (Ok begun) expected =
+    (c : Certificate) × (started names repertoire (Ok table) expected ≡ Ok (record { table = table; certificate = c })) × Waits table c.bound × TypesAll names table repertoire c.typings
+BeginsBy names repertoire table (Err fault) expected = StartReturns names repertoire (Err fault) (started names repertoire (Ok table) expected)

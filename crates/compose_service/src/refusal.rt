@@ -9,7 +9,7 @@ use compose_tree::TableFault;
 
 /// Why a request is refused. Each refusal has its code in the protocol.
 #[derive(Clone, Copy, Debug, PartialEq, Eq, Drop)]
-pub enum Refusal {
+pub enum RefusalCode {
     /// Open: a session with this number is open.
     SessionTaken,
     /// No session with this number is open.
@@ -31,60 +31,60 @@ pub enum Refusal {
     NoMemory,
 }
 
-impl Refusal {
+impl RefusalCode {
     /// Returns the code that a reply carries, from 1 to 9. O(1).
     pub fn code(self) -> u16
         ensures { result ≡ code (refusal_of self) }
     {
         match self {
-            Refusal::SessionTaken => 1,
-            Refusal::NoSession => 2,
-            Refusal::Full => 3,
-            Refusal::BadKeysym => 4,
-            Refusal::BadBundle => 5,
-            Refusal::TableRefused => 6,
-            Refusal::CertificateRefused => 7,
-            Refusal::VerdictNo => 8,
-            Refusal::NoMemory => 9,
+            RefusalCode::SessionTaken => 1,
+            RefusalCode::NoSession => 2,
+            RefusalCode::Full => 3,
+            RefusalCode::BadKeysym => 4,
+            RefusalCode::BadBundle => 5,
+            RefusalCode::TableRefused => 6,
+            RefusalCode::CertificateRefused => 7,
+            RefusalCode::VerdictNo => 8,
+            RefusalCode::NoMemory => 9,
         }
     }
 }
 
-impl From<BundleFault> for Refusal {
+impl From<BundleFault> for RefusalCode {
     ghost use Rattle.compose_service.specs.Refusals.{of_bundle};
 
     ghost from_gives = { λ fault e. e ≡ of_bundle fault };
 
-    fn from(fault: BundleFault) -> Refusal {
+    fn from(fault: BundleFault) -> RefusalCode {
         match fault {
-            BundleFault::Form | BundleFault::TooLarge => Refusal::BadBundle,
-            BundleFault::NoMemory => Refusal::NoMemory,
+            BundleFault::Form | BundleFault::TooLarge => RefusalCode::BadBundle,
+            BundleFault::NoMemory => RefusalCode::NoMemory,
         }
     }
 }
 
-impl From<TableFault> for Refusal {
+impl From<TableFault> for RefusalCode {
     ghost use Rattle.compose_service.specs.Refusals.{of_table};
 
     ghost from_gives = { λ fault e. e ≡ of_table fault };
 
-    fn from(fault: TableFault) -> Refusal {
+    fn from(fault: TableFault) -> RefusalCode {
         match fault {
-            TableFault::NoMemory => Refusal::NoMemory,
-            _ => Refusal::TableRefused,
+            TableFault::NoMemory => RefusalCode::NoMemory,
+            _ => RefusalCode::TableRefused,
         }
     }
 }
 
-impl From<CertFault> for Refusal {
+impl From<CertFault> for RefusalCode {
     ghost use Rattle.compose_service.specs.Refusals.{of_certificate};
 
     ghost from_gives = { λ fault e. e ≡ of_certificate fault };
 
-    fn from(fault: CertFault) -> Refusal {
+    fn from(fault: CertFault) -> RefusalCode {
         match fault {
-            CertFault::NoMemory => Refusal::NoMemory,
-            _ => Refusal::CertificateRefused,
+            CertFault::NoMemory => RefusalCode::NoMemory,
+            _ => RefusalCode::CertificateRefused,
         }
     }
 }

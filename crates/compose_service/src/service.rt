@@ -1,6 +1,6 @@
 //! The service: sessions over one current table.
 use crate::allowed::Allowed;
-use crate::refusal::Refusal;
+use crate::refusal::RefusalCode;
 use crate::sessions::Sessions;
 use arrayvec::ArrayString;
 use compose_bundle::read_bundle;
@@ -8,9 +8,9 @@ use compose_cert::{CertFault, Certificate, Repertoire};
 use compose_check::{CheckFault, Verdict, check};
 use compose_model::Rule;
 use compose_read::Sources;
-use compose_serve::{Ended, Pull, Push, ServeFault, serve};
+use compose_serve::{Pull, Push, ServeFault, StreamEnd, serve};
 use compose_tree::{ComposeTable, TableFault, read_first_table};
-use compose_wire::{Answer, Body, Reply, Request};
+use compose_wire::{Body, Reply, ReplyBody, Request};
 use keysym_core::{Keysym, Names};
 use std::alloc::Global;
 use std::marker::Model;
@@ -126,13 +126,13 @@ impl<T: ComposeTable> Service<T> {
     ghost use Rattle.compose_model.specs.Table.{is_prefix_free};
     ghost use Rattle.compose_wire.specs.Messages as words;
     ghost use Rattle.compose_wire.specs.Requests.{request_of, body_of};
-    ghost use Rattle.compose_wire.specs.Replies.{SaysReply, SaysAnswer};
+    ghost use Rattle.compose_wire.specs.Replies.{HasReplyValue, HasAnswerValue};
     ghost use Rattle.compose_machine.specs.Machine.{ServiceState, Step, Run, Accepts, one_more};
     ghost use Rattle.compose_machine.specs.Late.{seen, swapped, rows_at_swap, LateAnswers, AreKept};
     ghost use Rattle.compose_service.specs.Reading.{reading};
-    ghost use Rattle.compose_service.specs.Answered.{Answered, ReadsLoad, SayReplies};
-    ghost use Rattle.compose_service.specs.Start.{BeginsBy, StartGives, started};
-    ghost use Rattle.compose_tree.specs.TableGives.{first_table};
+    ghost use Rattle.compose_service.specs.Answered.{Answered, ReadsLoad, AreReplies};
+    ghost use Rattle.compose_service.specs.Start.{BeginsBy, StartReturns, started};
+    ghost use Rattle.compose_tree.specs.TableReturns.{first_table};
     ghost use Rattle.compose_cert.specs.Reading.{certificate_of};
     ghost use Rattle.compose_serve.specs.Ends.{Serves};
 
@@ -153,7 +153,7 @@ impl<T: ComposeTable> Service<T> {
         rule: Rule,
         certificate: &[u8],
     ) -> Result<Service<T>, StartFault>
-        ensures { StartGives names repertoire result
+        ensures { StartReturns names repertoire result
             (started names repertoire (first_table names sources rule)
             (certificate_of certificate.now)) }
     {
@@ -255,14 +255,14 @@ impl<T: ComposeTable> Service<T> {
     ///   session, unless its certificate has fresh keysyms; then it refeeds each.
     #[inline(always)]
     pub fn answer(&mut self, alloc: Global, request: &Request) -> Reply
-        ensures stored { (said : words.Answer)
+        ensures stored { (expected : words.ReplyBody)
             × LateAnswers reading self.old (request_of request.now).session
-            (request_of request.now).body said self.new
-            × SaysReply result
-            (record { session = (request_of request.now).session; answer = said }) }
-        ensures step { (said : words.Reply)
-            × Step reading (seen self.old) (request_of request.now) said (seen self.new)
-            × SaysReply result said }
+            (request_of request.now).body expected self.new
+            × HasReplyValue result
+            (record { session = (request_of request.now).session; answer = expected }) }
+        ensures step { (expected : words.Reply)
+            × Step reading (seen self.old) (request_of request.now) expected (seen self.new)
+            × HasReplyValue result expected }
     {
         // the stored state is sound: its invariant says so
         let _sessions = &self.sessions;
@@ -286,9 +286,9 @@ impl<T: ComposeTable> Service<T> {
     /// then.
     pub fn run(&mut self, alloc: Global, requests: &[Request]) -> Result<Vec<Reply>, RunFault>
         ensures ok { IfOk result
-            (λ replies. (said : List words.Reply)
-            × Run reading (seen self.old) (map request_of requests.now) said (seen self.new)
-            × SayReplies replies.items said) }
+            (λ replies. (expected : List words.Reply)
+            × Run reading (seen self.old) (map request_of requests.now) expected (seen self.new)
+            × AreReplies replies.items expected) }
         ensures err { OnErr result (self.new ≡ self.old) }
     {
         let Ok(mut replies) = Vec::with_capacity(alloc, requests.len()) else {
@@ -313,7 +313,7 @@ impl<T: ComposeTable> Service<T> {
         alloc: Global,
         reader: &mut R,
         writer: &mut W,
-    ) -> Result<Ended, ServeFault>
+    ) -> Result<StreamEnd, ServeFault>
         ensures ends { Serves reading (seen self.old) (seen self.new) (R.left reader.old)
             (R.left reader.new) (W.written writer.old) (W.written writer.new)
             (R.failed reader.new) (W.failed writer.new) result }
@@ -327,7 +327,7 @@ impl<T: ComposeTable> Service<T> {
 
     /// Answers this request to the session.
     #[inline(never)]
-    fn answer_body(&mut self, alloc: Global, number: u32, body: &Body) -> Answer
+    fn answer_body(&mut self, alloc: Global, number: u32, body: &Body) -> ReplyBody
         ensures { Answered self.old number (body_of body.now) result self.new }
     {
         match body {
@@ -346,24 +346,24 @@ impl<T: ComposeTable> Service<T> {
     }
 
     /// Opens the session after the others.
-    fn open(&mut self, number: u32) -> Answer
+    fn open(&mut self, number: u32) -> ReplyBody
         ensures { Answered self.old number words.open_session result self.new }
     {
         if self.sessions.has(number) {
-            return Answer::Refused(Refusal::SessionTaken.code());
+            return ReplyBody::Refused(RefusalCode::SessionTaken.code());
         }
         if self.sessions.count() >= MOST_SESSIONS {
-            return Answer::Refused(Refusal::Full.code());
+            return ReplyBody::Refused(RefusalCode::Full.code());
         }
         let Ok(()) = self.sessions.open(number) else {
-            return Answer::Refused(Refusal::NoMemory.code());
+            return ReplyBody::Refused(RefusalCode::NoMemory.code());
         };
-        Answer::Opened
+        ReplyBody::Opened
     }
 
     /// Types a key in the session.
     #[inline(always)]
-    fn key(&mut self, number: u32, keysym: u32) -> Answer
+    fn key(&mut self, number: u32, keysym: u32) -> ReplyBody
         ensures { Answered self.old number (words.key keysym) result self.new }
     {
         let Some(keysym) = Keysym::new(keysym) else {
@@ -371,68 +371,68 @@ impl<T: ComposeTable> Service<T> {
         };
         let fed = self.sessions.feed(number, &self.table, &self.names, keysym);
         let Some(fed) = fed else {
-            return Answer::Refused(Refusal::NoSession.code());
+            return ReplyBody::Refused(RefusalCode::NoSession.code());
         };
         // made only after the key is fed: a new `ArrayString` clears all of its bytes, and the key would wait for that
         let mut text = ArrayString::new();
         fed.text_into(&mut text);
-        Answer::Fed(fed.status, fed.accepted, text)
+        ReplyBody::Fed(fed.status, fed.accepted, text)
     }
 
     /// Refuses a key whose number is not a keysym's.
-    fn refuse_key(&mut self, number: u32, keysym: u32) -> Answer
+    fn refuse_key(&mut self, number: u32, keysym: u32) -> ReplyBody
         requires { IsFalse (is_keysym keysym) }
         ensures { Answered self.old number (words.key keysym) result self.new }
     {
         if !self.sessions.refeed(number, &self.table, &self.names) {
-            return Answer::Refused(Refusal::NoSession.code());
+            return ReplyBody::Refused(RefusalCode::NoSession.code());
         }
-        Answer::Refused(Refusal::BadKeysym.code())
+        ReplyBody::Refused(RefusalCode::BadKeysym.code())
     }
 
     /// Resets the session.
-    fn reset(&mut self, number: u32) -> Answer
+    fn reset(&mut self, number: u32) -> ReplyBody
         ensures { Answered self.old number words.reset result self.new }
     {
         if !self.sessions.refeed(number, &self.table, &self.names) {
-            return Answer::Refused(Refusal::NoSession.code());
+            return ReplyBody::Refused(RefusalCode::NoSession.code());
         }
         self.sessions.reset(number);
-        Answer::WasReset
+        ReplyBody::WasReset
     }
 
     /// Closes the session.
-    fn close(&mut self, number: u32) -> Answer
+    fn close(&mut self, number: u32) -> ReplyBody
         ensures { Answered self.old number words.close result self.new }
     {
         if !self.sessions.refeed(number, &self.table, &self.names) {
-            return Answer::Refused(Refusal::NoSession.code());
+            return ReplyBody::Refused(RefusalCode::NoSession.code());
         }
         self.sessions.close(number);
-        Answer::Closed
+        ReplyBody::Closed
     }
 
     /// Answers with the status of the session and its pending keys.
-    fn ask(&mut self, number: u32) -> Answer
+    fn ask(&mut self, number: u32) -> ReplyBody
         ensures { Answered self.old number words.ask result self.new }
     {
         self.sessions.refeed(number, &self.table, &self.names);
         let Some(answer) = self.sessions.state(number) else {
-            return Answer::Refused(Refusal::NoSession.code());
+            return ReplyBody::Refused(RefusalCode::NoSession.code());
         };
         answer
     }
 
     /// Changes the current table, if the certificate is accepted for that.
-    fn load(&mut self, alloc: Global, number: u32, payload: &[u8], rule: Rule) -> Answer
+    fn load(&mut self, alloc: Global, number: u32, payload: &[u8], rule: Rule) -> ReplyBody
         ensures { Answered self.old number (words.load rule payload.now) result self.new }
     {
         let (table, certificate) = match self.read_load(alloc, payload, rule) {
             Ok(load) => load,
-            Err(refusal) => return Answer::Refused(refusal.code()),
+            Err(refusal) => return ReplyBody::Refused(refusal.code()),
         };
         if !self.accepts(&table, &certificate) {
-            return Answer::Refused(Refusal::VerdictNo.code());
+            return ReplyBody::Refused(RefusalCode::VerdictNo.code());
         }
         self.swap(table, &certificate)
     }
@@ -443,7 +443,7 @@ impl<T: ComposeTable> Service<T> {
         alloc: Global,
         payload: &[u8],
         rule: Rule,
-    ) -> Result<(T, Certificate), Refusal>
+    ) -> Result<(T, Certificate), RefusalCode>
         ensures { ReadsLoad self.now rule payload.now T.definitions result }
     {
         let bundle = read_bundle(alloc, payload)?;
@@ -479,23 +479,23 @@ impl<T: ComposeTable> Service<T> {
     }
 
     /// Makes the table the current one, and counts the load.
-    fn swap(&mut self, table: T, certificate: &Certificate) -> Answer
+    fn swap(&mut self, table: T, certificate: &Certificate) -> ReplyBody
         requires prefix_free { IsTrue (is_prefix_free (T.definitions table)) }
         requires accepted { Accepts self.old (T.definitions table) certificate.now }
         ensures swapped { self.new ≡ swapped self.old (T.definitions table) certificate.now.fresh }
-        ensures told { SaysAnswer result (words.loaded (one_more self.old.loads)) }
+        ensures reported { HasAnswerValue result (words.loaded (one_more self.old.loads)) }
     {
         self.change_table(table, certificate);
         self.count_load()
     }
 
     /// Counts a load, and answers with the number of accepted loads.
-    fn count_load(&mut self) -> Answer
+    fn count_load(&mut self) -> ReplyBody
         ensures counted { self.new ≡ record self.old { loads = one_more self.old.loads } }
-        ensures told { SaysAnswer result (words.loaded (one_more self.old.loads)) }
+        ensures reported { HasAnswerValue result (words.loaded (one_more self.old.loads)) }
     {
         self.loads = self.loads.saturating_add(1);
-        Answer::Loaded(self.loads)
+        ReplyBody::Loaded(self.loads)
     }
 
     /// Makes the table the current one. The sessions stay as they are, unless the new table has

@@ -4,7 +4,7 @@ ghost use Rattle.std.specs.Map.{lookup};
 ghost use Rattle.compose_model.specs.Session.{Session, rest, loaded, fed as session_fed};
 ghost use Rattle.compose_state.specs.Answers.{IsFed};
 ghost use Rattle.compose_wire.specs.Messages as words;
-ghost use Rattle.compose_wire.specs.Replies.{SaysAnswer};
+ghost use Rattle.compose_wire.specs.Replies.{HasAnswerValue};
 ghost use Rattle.compose_machine.specs.Machine.{session_of, with_session, without_session, all_loaded};
 ghost use Rattle.compose_machine.specs.Late.{refed_row, rows_at_swap};
 
@@ -12,7 +12,7 @@ use arrayvec::ArrayVec;
 use compose_cert::Certificate;
 use compose_state::{ComposeState, Fed};
 use compose_tree::ComposeTable;
-use compose_wire::Answer;
+use compose_wire::ReplyBody;
 use indexmap::IndexMap;
 use keysym_core::{Keysym, Names};
 use std::alloc::{AllocError, Global};
@@ -102,13 +102,13 @@ impl Sessions {
         keysym: Keysym,
     ) -> Option<Fed<'t>>
         ensures { MatchOption result ((session_of self.old number ≡ None) × (self.new ≡ self.old))
-            (λ told. (s : Session) × (session_of self.old number ≡ Some s)
+            (λ reported. (s : Session) × (session_of self.old number ≡ Some s)
             × (self.new
             ≡ with_session self.old number
             (session_fed (T.definitions table.now)
             (loaded (T.definitions table.now) s) keysym))
             × IsFed names.now (T.definitions table.now)
-            (loaded (T.definitions table.now) s) keysym told) }
+            (loaded (T.definitions table.now) s) keysym reported) }
     {
         let hint = &mut self.hints[number as usize % HINTS];
         let Some(index) = index_of(&self.rows, number, hint) else {
@@ -144,17 +144,17 @@ impl Sessions {
     }
 
     /// Returns the pending keys of the session and its status, if there is one. O(pending keysyms).
-    pub fn state(&self, number: u32) -> Option<Answer>
+    pub fn state(&self, number: u32) -> Option<ReplyBody>
         ensures { MatchOption result (session_of self.now number ≡ None)
             (λ answer. (s : Session) × (session_of self.now number ≡ Some s)
-            × SaysAnswer answer (words.state s.status s.pending)) }
+            × HasAnswerValue answer (words.state s.status s.pending)) }
     {
         let Some(session) = self.rows.get(&number) else {
             return None;
         };
         let mut pending = ArrayVec::new();
         pending.try_extend_from_slice(session.pending()).unwrap();
-        Some(Answer::State(session.status(), pending))
+        Some(ReplyBody::State(session.status(), pending))
     }
 
     /// Prepares for a table that comes with this certificate and replaces the given one: if it has

@@ -32,7 +32,7 @@ next_name sources i name is =
 pub name_step : (sources : List Source) (i : ℕ) (names : List (String Global)) (text : String Global) (name : List ℕ)
     → map string_bytes names ≡ map (λ s. s.name) (take i sources) → option_map (λ s. s.name) (slice_get sources i) ≡ Some name → string_bytes text ≡ name
     → map string_bytes (names ++ text ∷ []) ≡ map (λ s. s.name) (take (i + 1) sources)
-name_step sources i names text name are is said =
+name_step sources i names text name are is expected =
     map-append string_bytes names (text ∷ [])
     ∙ (ap (λ (bytes : List (List ℕ)). bytes ++ string_bytes text ∷ []) are
-    ∙ (ap (λ (bytes : List ℕ). map name_of (take i sources) ++ bytes ∷ []) said ∙ sym (next_name sources i name is)))
+    ∙ (ap (λ (bytes : List ℕ). map name_of (take i sources) ++ bytes ∷ []) expected ∙ sym (next_name sources i name is)))

@@ -10,10 +10,10 @@ use Rattle.compose_bundle.specs.Written.{max_payload}
 use Rattle.compose_migration.specs.Migration.{NamedParts}
 use Rattle.compose_wire.specs.declared.request.Request.{Request}
 use Rattle.compose_wire.specs.declared.reply.Reply.{Reply}
-use Rattle.compose_session.specs.Asked.{LoadGives, asks, bodies_of}
-use Rattle.compose_session.specs.Told.{report_of, reported}
-use Rattle.compose_session.specs.declared.asked.Asked.{Asked}
-use Rattle.compose_session.specs.declared.told.Report.{Report}
+use Rattle.compose_session.specs.AskedSession.{LoadReturns, asks, bodies_of}
+use Rattle.compose_session.specs.ReplyLine.{report_of, reported}
+use Rattle.compose_session.specs.declared.asked.AskedSession.{AskedSession}
+use Rattle.compose_session.specs.declared.reply_line.ExchangeReport.{ExchangeReport}
 use Rattle.compose_answer.specs.Parts.{given_key_names}
 use Rattle.compose_answer.specs.Refused.{IsRefused}
 use Rattle.compose_answer.specs.declared.refusal.Refusal.{Refusal}
@@ -47,12 +47,12 @@ abbrev pub bundle_of : TableFiles → List ℕ → Bundle
 bundle_of table certificate = record { sources = table.sources; certificate = certificate }
 
 -- one request, which loads the bundle by the table's rule, with these notes
-pub record LoadsTable (table : TableFiles) (certificate said : List ℕ) (sent : ClientRequests) : Type 0 where
-  pub notes : string_bytes sent.notes ≡ said
+pub record LoadsTable (table : TableFiles) (certificate expected : List ℕ) (sent : ClientRequests) : Type 0 where
+  pub notes : string_bytes sent.notes ≡ expected
   pub names : sent.names ≡ core_names
   pub request : Request
   pub one : sent.requests.items ≡ request ∷ []
-  pub loads : LoadGives (Ok request) table.rule (bundle_of table certificate)
+  pub loads : LoadReturns (Ok request) table.rule (bundle_of table certificate)
 
 -- the bundle doesn't fit into a load
 abbrev pub IsUnsendable : Bundle → Fault → Type 0
@@ -85,7 +85,7 @@ FailsLoad folder environment arguments fault =
 -- ---- session
 
 -- the request that the arguments describe, with these keysyms
-pub record IsAsked (keys : List ℕ) (arguments : SessionArguments) (asked : Asked) : Type 0 where
+pub record IsAsked (keys : List ℕ) (arguments : SessionArguments) (asked : AskedSession) : Type 0 where
   pub session : asked.session ≡ arguments.session
   pub opens : asked.open ≡ arguments.open
   pub resets : asked.reset ≡ arguments.reset
@@ -97,7 +97,7 @@ pub record IsAsked (keys : List ℕ) (arguments : SessionArguments) (asked : Ask
 pub record AsksSession (n : NamedParts) (arguments : SessionArguments) (sent : ClientRequests) : Type 0 where
   pub quiet : string_bytes sent.notes ≡ []
   pub names : sent.names ≡ n.names
-  pub asked : Asked
+  pub asked : AskedSession
   pub is_asked : IsAsked n.keys arguments asked
   pub requests : sent.requests.items ≡ map (asks asked.session) (bodies_of asked)
 
@@ -137,7 +137,7 @@ pub record IsSessionRun (folder : Option (List Entry)) (options : Options) (argu
 pub record IsExchange (sent : ClientRequests) (before after : Option (List Turn)) (outcome : Outcome) : Type 0 where
   pub replies : List Reply
   pub turns : after ≡ then_turns before (turns_of sent.requests.items replies)
-  pub report : Report
+  pub report : ExchangeReport
   pub is_report : report_of report ≡ reported sent.names sent.requests.items replies
   pub printed : Outcome
   pub is_printed : IsExchangeOutcome report printed

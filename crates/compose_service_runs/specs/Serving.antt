@@ -21,7 +21,7 @@ use Rattle.compose_input.specs.Names.{AreNames}
 use Rattle.compose_input.specs.declared.tables.TableFiles.{TableFiles}
 use Rattle.compose_report.specs.Outcomes.{IsNoted, IsOutcome, IsWorded}
 use Rattle.compose_report.specs.declared.outcome.Outcome.{Outcome}
-use Rattle.compose_serving.specs.Begin.{BeginGives, start_over}
+use Rattle.compose_serving.specs.Begin.{BeginReturns, start_over}
 use Rattle.compose_serving.specs.Fresh.{Allows}
 use Rattle.compose_serving.specs.declared.start.BeginFault.{BeginFault}
 use Rattle.compose_serving.specs.declared.start.BeginFault.TheVariants.{Invalid, Refused}
@@ -98,7 +98,7 @@ AreServiceFiles folder environment names (State state) files = AreKeptFiles fold
 -- with exactly these files
 abbrev pub Begins : ServiceFiles → Result ServiceState BeginFault → Type 0
 Begins files result =
-    BeginGives files.names.lines.items files.repertoire.items (start_over files.table.sources files.table.rule files.certificate.items) result
+    BeginReturns files.names.lines.items files.repertoire.items (start_over files.table.sources files.table.rule files.certificate.items) result
 
 -- its loads may list only the keysyms of these names as fresh, if names are given
 abbrev pub AllowsAlone : Option (List (List ℕ)) → ServiceState → Result ServiceState BeginFault → Type 0

@@ -2,8 +2,8 @@
 -- docs/PROTOCOL.md).
 use Rattle.std.specs.Prelude.{Bool, true, false, if◌then◌else◌, List, [], ◌∷◌, ◌++◌, Option, Some, None, option_map}
 use Rattle.compose_wire.specs.declared.request.Request.{Request}
-use Rattle.compose_wire.specs.declared.reply.Answer.{Answer}
-use Rattle.compose_wire.specs.declared.reply.Answer.TheVariants.{Refused}
+use Rattle.compose_wire.specs.declared.reply.ReplyBody.{ReplyBody}
+use Rattle.compose_wire.specs.declared.reply.ReplyBody.TheVariants.{Refused}
 use Rattle.compose_wire.specs.declared.reply.Reply.{Reply}
 
 -- a request, and its reply if there is one
@@ -11,7 +11,7 @@ pub record Turn : Type 0 where
   pub request : Request
   pub reply : Option Reply
 
-abbrev pub is_refusal : Answer → Bool
+abbrev pub is_refusal : ReplyBody → Bool
 is_refusal (Refused code) = true
 is_refusal answer = false
 

@@ -1,10 +1,10 @@
 //! `load` and `session`: what a client of a service sends, and what it prints for the replies.
 ghost use Rattle.std.specs.Prelude.{◌≡◌, ◌||◌, [], ◌∷◌, map, Ok, IfOk, IfErr, string_bytes};
 ghost use Rattle.keysym_core.specs.Core.{core_names};
-ghost use Rattle.compose_migration.specs.MigrationGives.{named_parts};
+ghost use Rattle.compose_migration.specs.MigrationReturns.{named_parts};
 ghost use Rattle.compose_answer.specs.Parts.{given_key_names};
-ghost use Rattle.compose_answer.specs.Refused.{Gives};
-ghost use Rattle.compose_session.specs.Asked.{LoadGives};
+ghost use Rattle.compose_answer.specs.Refused.{Returns};
+ghost use Rattle.compose_session.specs.AskedSession.{LoadReturns};
 ghost use Rattle.compose_service_runs.specs.Clients.{AsksSession, FailsLoad, FailsSession, IsExchange, IsKeysReported, IsLoadRun, IsSessionBy, IsSessionOf, IsSessionRun, IsUnsendable, LoadsTable, bundle_of};
 ghost use Rattle.compose_service_runs.specs.Turns as words;
 ghost use Rattle.compose_service_runs.specs.Turns.{then_turns, turns_of};
@@ -21,9 +21,9 @@ use compose_report::{Outcome, exchange_outcome, worded_outcome};
 use compose_runs::{
     Environment, NotedTable, Options, borrowed, key_names, read_names_for, read_table,
 };
-use compose_session::{Asked, load_request, report_replies, session_requests};
+use compose_session::{AskedSession, load_request, report_replies, session_requests};
 use compose_tree::ComposeTable;
-use compose_wire::{Answer, Reply, Request};
+use compose_wire::{Reply, ReplyBody, Request};
 use keysym_core::Names;
 use std::alloc::{AllocError, Global};
 
@@ -92,7 +92,7 @@ fn noted_load(
 /// Returns the request that loads this table with this certificate.
 fn request_to_load(alloc: Global, table: &TableFiles, certificate: &[u8]) -> Result<Request, Fault>
     ensures loads { IfOk result
-        (λ request. LoadGives (Ok request) table.now.rule (bundle_of table.now certificate.now)) }
+        (λ request. LoadReturns (Ok request) table.now.rule (bundle_of table.now certificate.now)) }
     ensures fault { IfErr result (λ fault. IsUnsendable (bundle_of table.now certificate.now) fault) }
 {
     match load_request(alloc, &table.sources, table.rule, certificate) {
@@ -177,7 +177,7 @@ fn session_by<T: ComposeTable>(
 
 /// Returns the names of a header, and the keysyms of key names.
 fn read_keys(alloc: Global, header: &[u8], key_names: &[&str]) -> Result<Named, Refusal>
-    ensures { Gives (λ said read. said ≡ named_parts read) result
+    ensures { Returns (λ expected read. expected ≡ named_parts read) result
         (given_key_names header.now (map (λ name. name.now) key_names.now)) }
 {
     match Named::read(alloc, header, key_names) {
@@ -194,7 +194,7 @@ fn requests_of(
 ) -> Result<ClientRequests, AllocError>
     ensures { IfOk result (λ sent. AsksSession (named_parts named) arguments.now sent) }
 {
-    let asked = Asked {
+    let asked = AskedSession {
         session: arguments.session,
         open: arguments.open,
         reset: arguments.reset,
@@ -225,13 +225,13 @@ fn keys_outcome<T: ComposeTable>(
         refusal outcome) }
 {
     let given = Given::of(names, keys, &[]);
-    let detailed = tells_lines(verbose, are_files);
+    let detailed = wants_lines(verbose, are_files);
     worded_outcome::<T>(alloc, !are_files, detailed, &given, Err(refusal))
 }
 
 /// Returns whether each faulty line of a refusal is printed: if `verbose`, and with `--files`
 /// always.
-fn tells_lines(verbose: bool, are_files: bool) -> bool
+fn wants_lines(verbose: bool, are_files: bool) -> bool
     ensures { result ≡ verbose || are_files }
 {
     verbose || are_files
@@ -280,8 +280,8 @@ fn replies_of<P: Peer>(
 }
 
 /// Returns whether the answer is a refusal.
-fn is_refusal(answer: &Answer) -> bool
+fn is_refusal(answer: &ReplyBody) -> bool
     ensures { result ≡ words.is_refusal answer.now }
 {
-    matches!(answer, Answer::Refused(_))
+    matches!(answer, ReplyBody::Refused(_))
 }

@@ -8,10 +8,10 @@ use Rattle.compose_cert.specs.Repertoire.{repertoire_of}
 use Rattle.compose_model.specs.declared.Rule.{Rule}
 use Rattle.compose_read.specs.Lines.{Source}
 use Rattle.compose_cert.specs.Reading.{certificate_of}
-use Rattle.compose_tree.specs.TableGives.{NoTable, first_table}
-use Rattle.compose_migration.specs.MigrationGives.{TableFails}
+use Rattle.compose_tree.specs.TableReturns.{NoTable, first_table}
+use Rattle.compose_migration.specs.MigrationReturns.{TableFails}
 use Rattle.compose_machine.specs.Machine.{ServiceState}
-use Rattle.compose_service.specs.Start.{NoStart, without_table, without_certificate, not_valid, Begun, StartGives, started}
+use Rattle.compose_service.specs.Start.{NoStart, without_table, without_certificate, not_valid, Begun, StartReturns, started}
 use Rattle.compose_answer.specs.declared.refusal.Refusal.{Refusal}
 use Rattle.compose_answer.specs.declared.refusal.Refusal.TheVariants as refusals
 use Rattle.keysym_core.specs.declared.fault.NameFault.{NameFault}
@@ -38,7 +38,7 @@ pub record AreRead (header bytes : List ℕ) (names : KeysymNames) (repertoire :
 
 -- the names and the repertoire are read, and the start is this
 abbrev pub StartIs : List ℕ → List ℕ → Start → Result Begun NoStart → Type 0
-StartIs header bytes start said = (names : KeysymNames) × (repertoire : Repertoire) × AreRead header bytes names repertoire × (start names repertoire ≡ said)
+StartIs header bytes start expected = (names : KeysymNames) × (repertoire : Repertoire) × AreRead header bytes names repertoire × (start names repertoire ≡ expected)
 
 -- the refusal names the first part that is refused, and the reason
 abbrev pub IsRefused : List ℕ → List ℕ → Start → Refusal → Type 0
@@ -51,11 +51,11 @@ IsRefused header bytes start _ = ⊥
 
 -- the service that starts; or that its certificate is not valid, with the first condition that it does not meet; or the
 -- first part that is refused
-abbrev pub BeginGives : List ℕ → List ℕ → Start → Result ServiceState BeginFault → Type 0
-BeginGives header bytes start (Ok service) =
-    (names : KeysymNames) × (repertoire : Repertoire) × AreRead header bytes names repertoire × StartGives names repertoire (Ok service) (start names repertoire)
-BeginGives header bytes start (Err (Invalid fault)) = StartIs header bytes start (Err (not_valid fault))
-BeginGives header bytes start (Err (Refused refusal)) = IsRefused header bytes start refusal
+abbrev pub BeginReturns : List ℕ → List ℕ → Start → Result ServiceState BeginFault → Type 0
+BeginReturns header bytes start (Ok service) =
+    (names : KeysymNames) × (repertoire : Repertoire) × AreRead header bytes names repertoire × StartReturns names repertoire (Ok service) (start names repertoire)
+BeginReturns header bytes start (Err (Invalid fault)) = StartIs header bytes start (Err (not_valid fault))
+BeginReturns header bytes start (Err (Refused refusal)) = IsRefused header bytes start refusal
 
 -- ---- a fault of the layers below as a refusal
 

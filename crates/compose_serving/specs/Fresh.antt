@@ -6,7 +6,7 @@ use Rattle.compose_answer.specs.declared.refusal.Refusal.TheVariants.{Key, NoMem
 
 -- the service with the keysyms of the names as those that a load may list, or the first name that has none
 abbrev pub Allows : ServiceState → Result ServiceState Refusal → Result (List ℕ) ℕ → Type 0
-Allows service (Ok allowed) said = (keysyms : List ℕ) × (said ≡ Ok keysyms) × (allowed ≡ record service { allowed = Some keysyms })
-Allows service (Err (Key index)) said = said ≡ Err index
-Allows service (Err NoMemory) said = Unit {0}
-Allows service (Err refusal) said = ⊥
+Allows service (Ok allowed) expected = (keysyms : List ℕ) × (expected ≡ Ok keysyms) × (allowed ≡ record service { allowed = Some keysyms })
+Allows service (Err (Key index)) expected = expected ≡ Err index
+Allows service (Err NoMemory) expected = Unit {0}
+Allows service (Err refusal) expected = ⊥

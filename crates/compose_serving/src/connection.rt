@@ -3,7 +3,7 @@ ghost use Rattle.std.specs.Prelude.{◌≡◌, ◌++◌, IfOk, string_bytes};
 ghost use Rattle.compose_serving.specs.Connection as lines;
 
 use compose_hub::ConnectionEnd;
-use compose_serve::{Ended, ServeFault};
+use compose_serve::{ServeFault, StreamEnd};
 use std::alloc::{AllocError, Global};
 
 /// Returns what is printed at the end of the connection with this number, from 1: the number of
@@ -57,8 +57,8 @@ fn end_words(how: ConnectionEnd) -> &'static str
     ensures { result.now ≡ lines.end_words how }
 {
     match how {
-        ConnectionEnd::Served(Ok(Ended::InputEnd)) => "ended",
-        ConnectionEnd::Served(Ok(Ended::Malformed)) => "malformed",
+        ConnectionEnd::Served(Ok(StreamEnd::InputEnd)) => "ended",
+        ConnectionEnd::Served(Ok(StreamEnd::Malformed)) => "malformed",
         ConnectionEnd::Served(Err(ServeFault::Read)) => "fault 1 Read",
         ConnectionEnd::Served(Err(ServeFault::Write)) => "fault 2 Write",
         ConnectionEnd::Served(Err(ServeFault::Cut)) => "fault 3 Cut",

@@ -1,7 +1,7 @@
 //! How a service begins.
 ghost use Rattle.std.specs.Prelude.{◌≡◌, Ok};
 ghost use Rattle.keysym_core.specs.Header.{names_of};
-ghost use Rattle.compose_serving.specs.Begin.{AreRead, BeginGives, names_refused, repertoire_refused, start_over, start_refused};
+ghost use Rattle.compose_serving.specs.Begin.{AreRead, BeginReturns, names_refused, repertoire_refused, start_over, start_refused};
 
 use compose_answer::Refusal;
 use compose_cert::{Repertoire, RepertoireFault};
@@ -48,7 +48,7 @@ pub fn begin<T: ComposeTable>(
     input: &BeginInput<'_>,
     sources: Sources,
 ) -> Result<Service<T>, BeginFault>
-    ensures { BeginGives input.entry.now.header.now input.entry.now.repertoire.now
+    ensures { BeginReturns input.entry.now.header.now input.entry.now.repertoire.now
         (start_over sources input.entry.now.rule input.entry.now.certificate.now) result }
 {
     match Names::read(alloc, input.header) {
@@ -65,7 +65,7 @@ fn begin_with<T: ComposeTable>(
     names: Names,
 ) -> Result<Service<T>, BeginFault>
     ensures { names_of input.entry.now.header.now ≡ Ok names
-        → BeginGives input.entry.now.header.now input.entry.now.repertoire.now
+        → BeginReturns input.entry.now.header.now input.entry.now.repertoire.now
         (start_over sources input.entry.now.rule input.entry.now.certificate.now) result }
 {
     match Repertoire::read(alloc, input.repertoire) {
@@ -83,7 +83,7 @@ fn start_with<T: ComposeTable>(
     repertoire: Repertoire,
 ) -> Result<Service<T>, BeginFault>
     ensures { AreRead input.entry.now.header.now input.entry.now.repertoire.now names repertoire
-        → BeginGives input.entry.now.header.now input.entry.now.repertoire.now
+        → BeginReturns input.entry.now.header.now input.entry.now.repertoire.now
         (start_over sources input.entry.now.rule input.entry.now.certificate.now) result }
 {
     match Service::start(

@@ -5,9 +5,9 @@ use Rattle.std.proofs.lemmas.List.{drop_more, drop_all}
 use Rattle.keysym_core.specs.Names.{KeysymNames}
 use Rattle.compose_wire.specs.declared.request.Request.{Request}
 use Rattle.compose_wire.specs.declared.reply.Reply.{Reply}
-use Rattle.compose_session.specs.declared.told.End.{End}
-use Rattle.compose_session.specs.declared.told.End.TheVariants.{Answered, Closed}
-use Rattle.compose_session.specs.Told.{Reported, goes_on, ended, after, told, course_of, reported_on}
+use Rattle.compose_session.specs.declared.reply_line.End.{End}
+use Rattle.compose_session.specs.declared.reply_line.End.TheVariants.{Answered, Closed}
+use Rattle.compose_session.specs.ReplyLine.{Reported, goes_on, ended, after, reply_line, course_of, reported_on}
 
 -- nothing follows the end of an exchange
 stopped : (names : KeysymNames) (requests : List Request) (replies : List Reply) (report : Reported) → reported_on names requests replies (ended report) ≡ report
@@ -26,7 +26,7 @@ module _ (names : KeysymNames) (requests : List Request) (replies : List Reply) 
   answered end = sym (ap (λ qs. reported_on names qs (drop i replies) (goes_on text)) (drop_all i requests end)) ∙ so_far
 
   module _ (q : Request) (r : Reply) (less : i < length requests) (there : i < length replies) (more : List ℕ) (end : Option End)
-      (is : course_of more end ≡ after text (told names (get_or requests i q) (get_or replies i r))) where
+      (is : course_of more end ≡ after text (reply_line names (get_or requests i q) (get_or replies i r))) where
     one_more : reported_on names (drop (i + 1) requests) (drop (i + 1) replies) (course_of more end) ≡ all
     one_more =
         ap (reported_on names (drop (i + 1) requests) (drop (i + 1) replies)) is

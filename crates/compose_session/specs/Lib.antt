@@ -1,3 +1,3 @@
-pub mod Asked
+pub mod AskedSession
 pub mod Refusals
-pub mod Told
+pub mod ReplyLine

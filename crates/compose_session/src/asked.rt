@@ -1,6 +1,6 @@
 //! The requests of a command.
 ghost use Rattle.std.specs.Prelude.{◌≡◌, ◌++◌, IfOk, if◌then◌else◌, [], ◌∷◌, map};
-ghost use Rattle.compose_session.specs.Asked.{bodies_of, asks, LoadGives};
+ghost use Rattle.compose_session.specs.AskedSession.{bodies_of, asks, LoadReturns};
 
 use compose_bundle::{BundleFault, write_bundle};
 use compose_model::Rule;
@@ -12,7 +12,7 @@ use std::alloc::{AllocError, Global};
 /// The requests of a session, in the order in which they are sent: open it, reset it, type keys,
 /// ask for its state, close it.
 #[derive(Clone, Copy)]
-pub struct Asked<'k> {
+pub struct AskedSession<'k> {
     /// The number of the session.
     pub session: u32,
     /// Whether the session is opened.
@@ -29,7 +29,7 @@ pub struct Asked<'k> {
 
 /// Returns the requests of a session, in the order in which they are sent. O(keys).
 /// Errors: `AllocError` if memory runs out.
-pub fn session_requests(alloc: Global, asked: &Asked<'_>) -> Result<Vec<Request>, AllocError>
+pub fn session_requests(alloc: Global, asked: &AskedSession<'_>) -> Result<Vec<Request>, AllocError>
     ensures { IfOk result
         (λ requests. requests.items
         ≡ map (asks asked.entry.now.session) (bodies_of asked.entry.now)) }
@@ -85,7 +85,7 @@ pub fn load_request(
     rule: Rule,
     certificate: &[u8],
 ) -> Result<Request, BundleFault>
-    ensures { LoadGives result rule
+    ensures { LoadReturns result rule
         (record { sources = sources.now; certificate = certificate.now }) }
 {
     let payload = Payload::new(write_bundle(alloc, sources, certificate)?);

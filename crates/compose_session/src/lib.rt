@@ -15,8 +15,8 @@
 
 mod asked;
 mod refusals;
-mod told;
+mod reply_line;
 
-pub use asked::{Asked, load_request, session_requests};
+pub use asked::{AskedSession, load_request, session_requests};
 pub use refusals::refusal_words;
-pub use told::{End, Report, report_replies};
+pub use reply_line::{End, ExchangeReport, report_replies};

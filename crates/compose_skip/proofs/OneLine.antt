@@ -15,7 +15,7 @@ use Rattle.compose_lex.specs.Escape.{text_of}
 use Rattle.compose_lex.specs.Fault.{reading_of}
 use Rattle.compose_lex.specs.declared.LexFault.{LexFault}
 use Rattle.compose_read.specs.Lines.{Visit}
-use Rattle.compose_read.specs.Read.{at_line, definition_of, event_keysym, result_text, said, sequence_of, string_text}
+use Rattle.compose_read.specs.Read.{at_line, definition_of, event_keysym, result_text, reading_result, sequence_of, string_text}
 use Rattle.compose_read.specs.declared.ReadFault.{ReadFault}
 use Rattle.compose_read.specs.declared.ReadFault.TheVariants.{NotUtf8, Lex, UnknownKeysym, IgnoredKeysym}
 use Rattle.compose_skip.specs.Faulty.{own, own_fault}
@@ -75,14 +75,14 @@ module _ (names : KeysymNames) (v : Visit) where
   pub not_utf8 : (IsUtf8 v.bytes → ⊥) → Some (NotUtf8 v.source v.line) ≡ own_fault names v
   not_utf8 n = elim (cases_Bool (is_utf8 v.bytes)) [
     | inl h ↦ absurd (n (IsUtf8-from_is_utf8 v.bytes h))
-    | inr h ↦ sym (ap (λ b. own (result_err (cond b (at_line v (reading_of v.bytes) >>= said names [] v) (Err (NotUtf8 v.source v.line))))) h)
+    | inr h ↦ sym (ap (λ b. own (result_err (cond b (at_line v (reading_of v.bytes) >>= reading_result names [] v) (Err (NotUtf8 v.source v.line))))) h)
   ]
 
   module _ (u : IsUtf8 v.bytes) where
-    given : (r : Result Reading LexFault) → reading_of v.bytes ≡ r → own_fault names v ≡ own (result_err (at_line v r >>= said names [] v))
+    given : (r : Result Reading LexFault) → reading_of v.bytes ≡ r → own_fault names v ≡ own (result_err (at_line v r >>= reading_result names [] v))
     given r h =
-        ap (λ b. own (result_err (cond b (at_line v (reading_of v.bytes) >>= said names [] v) (Err (NotUtf8 v.source v.line))))) (is_utf8-from_IsUtf8 v.bytes u)
-        ∙ ap (λ r. own (result_err (at_line v r >>= said names [] v))) h
+        ap (λ b. own (result_err (cond b (at_line v (reading_of v.bytes) >>= reading_result names [] v) (Err (NotUtf8 v.source v.line))))) (is_utf8-from_IsUtf8 v.bytes u)
+        ∙ ap (λ r. own (result_err (at_line v r >>= reading_result names [] v))) h
 
     pub blank_line : reading_of v.bytes ≡ Ok blank → None ≡ own_fault names v
     blank_line h = sym (given (Ok blank) h)

@@ -18,7 +18,7 @@ use Rattle.compose_lex.specs.declared.LexFault.{LexFault}
 use Rattle.compose_model.specs.Table.{Definition}
 use Rattle.compose_read.specs.Kept.{definitions_in, given}
 use Rattle.compose_read.specs.Lines.{Source, Visit, included, included_by, max_depth, numbered, own_lines, source_lines, source_named, visits, visits_below}
-use Rattle.compose_read.specs.Read.{at_line, event_keysym, definition_of, definitions_of, include_fault, line_gives, read_on, result_text, said, sequence_of, string_text}
+use Rattle.compose_read.specs.Read.{at_line, event_keysym, definition_of, definitions_of, include_fault, line_result, read_on, result_text, reading_result, sequence_of, string_text}
 use Rattle.compose_read.specs.declared.ReadFault.{ReadFault}
 use Rattle.compose_read.specs.declared.ReadFault.TheVariants.{NotUtf8, MissingRoot, MissingInclude, IncludeDepth}
 use Rattle.compose_read.proofs.Faultless.{read_to_end}
@@ -63,8 +63,8 @@ same_definition names v depth events raw name =
 same_own : (names : KeysymNames) (v : Visit) (depth : ℕ) → own_fault names (deeper v depth) ≡ own_fault names v
 same_own names v depth = ap (λ f. own (result_err (cond (is_utf8 v.bytes) f (Err (NotUtf8 v.source v.line))))) refl ∙ go (is_utf8 v.bytes) (reading_of v.bytes)
   where
-    go : (utf8 : Bool) (r : Result Reading LexFault) → own (result_err (cond utf8 (at_line (deeper v depth) r >>= said names [] (deeper v depth)) (Err (NotUtf8 v.source v.line))))
-        ≡ own (result_err (cond utf8 (at_line v r >>= said names [] v) (Err (NotUtf8 v.source v.line))))
+    go : (utf8 : Bool) (r : Result Reading LexFault) → own (result_err (cond utf8 (at_line (deeper v depth) r >>= reading_result names [] (deeper v depth)) (Err (NotUtf8 v.source v.line))))
+        ≡ own (result_err (cond utf8 (at_line v r >>= reading_result names [] v) (Err (NotUtf8 v.source v.line))))
     go false r = refl
     go true (Err e) = refl
     go true (Ok blank) = refl
@@ -88,9 +88,9 @@ numbered_kept names source depth number (line ∷ lines) =
 empty_is_text : is_utf8 [] ≡ true
 empty_is_text = is_utf8-from_IsUtf8 [] IsUtf8-nil
 
-empty_gives : (names : KeysymNames) (sources : List Source) (source line depth : ℕ)
-    → line_gives names sources (record { source = source; line = line; bytes = []; depth = depth }) ≡ Ok None
-empty_gives names sources source line depth = ap (λ b. let g : Result (Option Definition) ReadFault = cond b (Ok None) (Err (NotUtf8 source line)) in g) empty_is_text
+empty_result : (names : KeysymNames) (sources : List Source) (source line depth : ℕ)
+    → line_result names sources (record { source = source; line = line; bytes = []; depth = depth }) ≡ Ok None
+empty_result names sources source line depth = ap (λ b. let g : Result (Option Definition) ReadFault = cond b (Ok None) (Err (NotUtf8 source line)) in g) empty_is_text
 
 empty_includes : (sources : List Source) → included sources [] ≡ None
 empty_includes sources = ap (λ b. let o : Option ℕ = cond b None None in o) empty_is_text
@@ -129,23 +129,23 @@ module _ (names : KeysymNames) (sources others : List Source) (are : AreOthers n
       ap₂ (λ i n. let r : Result (Option Definition) ReadFault = cond (not (nat_lt i n)) (Err (MissingInclude v.source v.line)) (cond (nat_lt v.depth max_depth) (Ok None) (Err (IncludeDepth v.source v.line))) in r)
       (same_named names 0 sources others name are) (same_count names 0 sources others are)
 
-  pub same_line : (v : Visit) → line_gives names others v ≡ line_gives names sources v
+  pub same_line : (v : Visit) → line_result names others v ≡ line_result names sources v
   same_line v = ap (λ r. let g : Result (Option Definition) ReadFault = cond (is_utf8 v.bytes) r (Err (NotUtf8 v.source v.line)) in g) (go (reading_of v.bytes))
     where
-      go : (r : Result Reading LexFault) → (at_line v r >>= said names others v) ≡ (at_line v r >>= said names sources v)
+      go : (r : Result Reading LexFault) → (at_line v r >>= reading_result names others v) ≡ (at_line v r >>= reading_result names sources v)
       go (Err e) = refl
       go (Ok blank) = refl
       go (Ok (include name)) = same_include v name
       go (Ok (production events raw name)) = refl
 
   -- a faulty line that is left empty defines nothing, and any other one has the same result as before
-  pub kept_gives : (v : Visit) → line_gives names others (kept_visit names v) ≡ cond (is_faulty names v) (Ok None) (line_gives names sources v)
-  kept_gives v = elim (cases_Bool (is_faulty names v)) [
-    | inl h ↦ ap (λ b. line_gives names others (record { source = v.source; line = v.line; bytes = cond b [] v.bytes; depth = v.depth })) h
-        ∙ empty_gives names others v.source v.line v.depth
-        ∙ sym (ap (λ b. let g : Result (Option Definition) ReadFault = cond b (Ok None) (line_gives names sources v) in g) h)
-    | inr h ↦ ap (λ b. line_gives names others (record { source = v.source; line = v.line; bytes = cond b [] v.bytes; depth = v.depth })) h ∙ same_line v
-        ∙ sym (ap (λ b. let g : Result (Option Definition) ReadFault = cond b (Ok None) (line_gives names sources v) in g) h)
+  pub kept_result : (v : Visit) → line_result names others (kept_visit names v) ≡ cond (is_faulty names v) (Ok None) (line_result names sources v)
+  kept_result v = elim (cases_Bool (is_faulty names v)) [
+    | inl h ↦ ap (λ b. line_result names others (record { source = v.source; line = v.line; bytes = cond b [] v.bytes; depth = v.depth })) h
+        ∙ empty_result names others v.source v.line v.depth
+        ∙ sym (ap (λ b. let g : Result (Option Definition) ReadFault = cond b (Ok None) (line_result names sources v) in g) h)
+    | inr h ↦ ap (λ b. line_result names others (record { source = v.source; line = v.line; bytes = cond b [] v.bytes; depth = v.depth })) h ∙ same_line v
+        ∙ sym (ap (λ b. let g : Result (Option Definition) ReadFault = cond b (Ok None) (line_result names sources v) in g) h)
   ]
 
   -- ---- what a line includes
@@ -166,7 +166,7 @@ module _ (names : KeysymNames) (sources others : List Source) (are : AreOthers n
   faulty_includes_none : (v : Visit) → is_faulty names v ≡ true → included sources v.bytes ≡ None
   faulty_includes_none v h = go (is_utf8 v.bytes) (reading_of v.bytes) h
     where
-      go : (utf8 : Bool) (r : Result Reading LexFault) → is_some (own (result_err (cond utf8 (at_line v r >>= said names [] v) (Err (NotUtf8 v.source v.line))))) ≡ true
+      go : (utf8 : Bool) (r : Result Reading LexFault) → is_some (own (result_err (cond utf8 (at_line v r >>= reading_result names [] v) (Err (NotUtf8 v.source v.line))))) ≡ true
           → cond utf8 (included_by sources r) None ≡ None
       go false r h = refl
       go true (Err e) h = refl
@@ -228,16 +228,16 @@ module _ (names : KeysymNames) (sources others : List Source) (are : AreOthers n
 
   -- ---- the definitions
 
-  put_given : (faulty : Bool) (r : Result (Option Definition) ReadFault) (v : Visit) (vs : List Visit) → line_gives names sources v ≡ r
-      → definitions_in (cond faulty (Ok None) r) ++ flat_map (λ v. definitions_in (line_gives names sources v)) (filter (λ v. not (is_faulty names v)) vs)
-      ≡ flat_map (λ v. definitions_in (line_gives names sources v)) (cond (not faulty) (v ∷ filter (λ v. not (is_faulty names v)) vs) (filter (λ v. not (is_faulty names v)) vs))
+  put_given : (faulty : Bool) (r : Result (Option Definition) ReadFault) (v : Visit) (vs : List Visit) → line_result names sources v ≡ r
+      → definitions_in (cond faulty (Ok None) r) ++ flat_map (λ v. definitions_in (line_result names sources v)) (filter (λ v. not (is_faulty names v)) vs)
+      ≡ flat_map (λ v. definitions_in (line_result names sources v)) (cond (not faulty) (v ∷ filter (λ v. not (is_faulty names v)) vs) (filter (λ v. not (is_faulty names v)) vs))
   put_given true r v vs e = refl
-  put_given false r v vs e = ap (λ r. definitions_in r ++ flat_map (λ v. definitions_in (line_gives names sources v)) (filter (λ v. not (is_faulty names v)) vs)) (sym e)
+  put_given false r v vs e = ap (λ r. definitions_in r ++ flat_map (λ v. definitions_in (line_result names sources v)) (filter (λ v. not (is_faulty names v)) vs)) (sym e)
 
-  given_kept : (vs : List Visit) → given names others (map (kept_visit names) vs) ≡ flat_map (λ v. definitions_in (line_gives names sources v)) (filter (λ v. not (is_faulty names v)) vs)
+  given_kept : (vs : List Visit) → given names others (map (kept_visit names) vs) ≡ flat_map (λ v. definitions_in (line_result names sources v)) (filter (λ v. not (is_faulty names v)) vs)
   given_kept [] = refl
   given_kept (v ∷ vs) =
-      ap₂ (λ r ds. definitions_in r ++ ds) (kept_gives v) (given_kept vs) ∙ put_given (is_faulty names v) (line_gives names sources v) v vs refl
+      ap₂ (λ r ds. definitions_in r ++ ds) (kept_result v) (given_kept vs) ∙ put_given (is_faulty names v) (line_result names sources v) v vs refl
 
   pub table_of_others : (root : List ℕ) (table : List Definition) → definitions_of names others root ≡ Ok table → table ≡ other_definitions names sources root
   table_of_others root table h = go (nat_lt (source_named others root) (length others)) refl h
@@ -259,7 +259,7 @@ module _ (names : KeysymNames) (sources others : List Source) (are : AreOthers n
 kept_is_right : (names : KeysymNames) (v : Visit) → own_fault names (kept_visit names v) ≡ None
 kept_is_right names v = elim (cases_Bool (is_faulty names v)) [
   | inl h ↦ ap (λ b. own_fault names (record { source = v.source; line = v.line; bytes = cond b [] v.bytes; depth = v.depth })) h
-      ∙ ap (λ r. own (result_err r)) (empty_gives names [] v.source v.line v.depth)
+      ∙ ap (λ r. own (result_err r)) (empty_result names [] v.source v.line v.depth)
   | inr h ↦ ap (λ b. own_fault names (record { source = v.source; line = v.line; bytes = cond b [] v.bytes; depth = v.depth })) h ∙ none (own_fault names v) h
 ]
   where

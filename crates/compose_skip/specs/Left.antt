@@ -4,7 +4,7 @@ use Rattle.keysym_core.specs.Names.{KeysymNames}
 use Rattle.compose_model.specs.Table.{Definition}
 use Rattle.compose_read.specs.Kept.{definitions_in}
 use Rattle.compose_read.specs.Lines.{Source, Visit, source_named, visits}
-use Rattle.compose_read.specs.Read.{line_gives}
+use Rattle.compose_read.specs.Read.{line_result}
 use Rattle.compose_skip.specs.Faulty.{is_faulty, kept_line}
 
 -- the line as it is visited; a faulty one is left empty
@@ -17,4 +17,4 @@ other_visits names sources root = filter (λ v. not (is_faulty names v)) (visits
 
 -- the definitions on these lines
 abbrev pub other_definitions : KeysymNames → List Source → List ℕ → List Definition
-other_definitions names sources root = flat_map (λ v. definitions_in (line_gives names sources v)) (other_visits names sources root)
+other_definitions names sources root = flat_map (λ v. definitions_in (line_result names sources v)) (other_visits names sources root)

@@ -17,7 +17,7 @@ ghost use Rattle.std.specs.Prelude.{◌≡◌, if◌then◌else◌, [], List, No
 ghost use Rattle.keysym_core.specs.Names.{KeysymNames};
 ghost use Rattle.compose_model.specs.Table.{Definition};
 ghost use Rattle.compose_read.specs.Lines.{Source, Visit};
-ghost use Rattle.compose_read.specs.Read.{definitions_of, line_gives};
+ghost use Rattle.compose_read.specs.Read.{definitions_of, line_result};
 ghost use Rattle.compose_skip.specs.Faulty.{AreOthers, is_faulty, own_faults};
 ghost use Rattle.compose_skip.specs.Left.{kept_visit, other_definitions};
 
@@ -37,8 +37,8 @@ pub fn law_other_lines()
         → table ≡ other_definitions names sources root }
     ensures lines { (names : KeysymNames) (sources others : List Source) (v : Visit)
         → AreOthers names sources others
-        → line_gives names others (kept_visit names v)
-        ≡ (if is_faulty names v then Ok None else line_gives names sources v) }
+        → line_result names others (kept_visit names v)
+        ≡ (if is_faulty names v then Ok None else line_result names sources v) }
     ensures faultless { (names : KeysymNames) (sources others : List Source)
         → AreOthers names sources others → own_faults names others ≡ [] }
 {}

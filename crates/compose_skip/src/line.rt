@@ -8,7 +8,7 @@ ghost use Rattle.compose_skip.specs.Faulty.{own_fault};
 ghost use Rattle.compose_skip.specs.Places.{visit};
 
 use arrayvec::ArrayVec;
-use compose_lex::{LexFault, Said, lex_line_into, unescape};
+use compose_lex::{LexFault, LineContent, lex_line_into, unescape};
 use compose_read::ReadFault;
 use keysym_core::Names;
 use std::alloc::{AllocError, Global};
@@ -39,10 +39,10 @@ pub(crate) fn line_fault<'a>(
     };
     match lex_line_into(text, events) {
         Err(fault) => Ok(Some(lex_fault(place, fault))),
-        Ok(Said::Blank) => Ok(None),
-        Ok(Said::Include(_raw)) => Ok(None),
+        Ok(LineContent::Blank) => Ok(None),
+        Ok(LineContent::Include(_raw)) => Ok(None),
         Ok(
-            Said::Production {
+            LineContent::Production {
                 raw_text,
                 result_name,
             },

@@ -5,7 +5,7 @@ use Rattle.std.specs.Option.{option_map_or}
 use Rattle.compose_read.specs.Lines.{Source}
 use Rattle.compose_read.specs.declared.ReadFault.{ReadFault}
 use Rattle.compose_shown.specs.Shown.{shown_text}
-use Rattle.compose_messages.specs.Messages.{position_text, read_said}
+use Rattle.compose_messages.specs.Messages.{position_text, read_message_text}
 use Rattle.compose_messages.specs.Places.{position_of}
 use Rattle.compose_messages.specs.declared.position.Position.{Position}
 use Rattle.compose_input.specs.declared.tables.TableFiles.{TableFiles}
@@ -18,12 +18,12 @@ abbrev pub path_of : List (List ℕ) → ℕ → List ℕ
 path_of paths source = get_or paths source []
 
 -- a file, a place in it, and a message (code 10 ends the line)
-abbrev pub said_at : List ℕ → Position → List ℕ → List ℕ
-said_at path position said = codes "composecheck: " ++ shown_text path ++ position_text (Some position) ++ codes ": " ++ said ++ 10 ∷ []
+abbrev pub message_at : List ℕ → Position → List ℕ → List ℕ
+message_at path position sentence = codes "composecheck: " ++ shown_text path ++ position_text (Some position) ++ codes ": " ++ sentence ++ 10 ∷ []
 
 -- the line of a fault
 abbrev pub skipped_line : List Source → List (List ℕ) → ReadFault → List ℕ
-skipped_line sources paths fault = option_map_or (λ (at : ℕ × Position). said_at (path_of paths at.0) at.1 (read_said sources fault)) (position_of sources fault) []
+skipped_line sources paths fault = option_map_or (λ (at : ℕ × Position). message_at (path_of paths at.0) at.1 (read_message_text sources fault)) (position_of sources fault) []
 
 abbrev pub fault_lines : TableFiles → List ReadFault → List ℕ
 fault_lines table faults = flat_map (skipped_line table.sources (map string_bytes table.paths.items)) faults

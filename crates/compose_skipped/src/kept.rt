@@ -5,7 +5,7 @@ ghost use Rattle.compose_skipped.specs.Kept as words;
 ghost use Rattle.compose_skipped.specs.Kept.{AreOtherLines, IsKept, IsOtherTable};
 ghost use Rattle.compose_skipped.specs.Reported.{with_faults};
 
-use crate::report::Report;
+use crate::report::SkippedReport;
 use compose_input::TableFiles;
 use compose_read::Sources;
 use compose_skip::{OtherLines, other_lines};
@@ -19,7 +19,7 @@ pub fn kept_table(
     alloc: Global,
     header: &[u8],
     table: TableFiles,
-    report: &mut Report,
+    report: &mut SkippedReport,
 ) -> Result<TableFiles, AllocError>
     ensures kept { IfOk result (λ kept. IsKept (names_of header.now) table kept) }
     ensures report { OnOk result

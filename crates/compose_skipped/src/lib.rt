@@ -11,4 +11,4 @@ mod kept;
 mod report;
 
 pub use kept::kept_table;
-pub use report::Report;
+pub use report::SkippedReport;

@@ -13,12 +13,12 @@ use std::marker::Model;
 
 /// The report of skipped lines: a line for each, and their number.
 #[derive(Drop)]
-pub struct Report {
+pub struct SkippedReport {
     lines: String,
     count: usize,
 }
 
-impl Model for Report {
+impl Model for SkippedReport {
     ghost use Rattle.std.specs.Prelude.{string_bytes};
     ghost use Rattle.compose_skipped.specs.Reported as words;
 
@@ -27,16 +27,16 @@ impl Model for Report {
     ghost view = { λ r. record { lines = string_bytes r.lines; count = r.count } };
 }
 
-impl Report {
+impl SkippedReport {
     ghost use Rattle.std.specs.Prelude.{◌≡◌, IfOk, OnOk, string_bytes};
     ghost use Rattle.compose_skipped.specs.Reported as words;
     ghost use Rattle.compose_skipped.specs.Kept as kept_words;
 
     /// Returns the report without any lines.
-    pub fn new(alloc: Global) -> Report
+    pub fn new(alloc: Global) -> SkippedReport
         ensures { result ≡ words.nothing }
     {
-        Report {
+        SkippedReport {
             lines: String::new(alloc),
             count: 0,
         }
@@ -123,12 +123,12 @@ fn push_fault(
     let Some((source, position)) = fault_position(sources, fault) else {
         return Ok(());
     };
-    let told = FileMessage {
+    let reported = FileMessage {
         path: path_of(paths, source),
         position: Some(position),
         message,
     };
-    writeln!(lines, "{told}")?;
+    writeln!(lines, "{reported}")?;
     Ok(())
 }
 

@@ -85,7 +85,7 @@ impl ComposeState {
         keysym: Keysym,
     ) -> Fed<'t>
         ensures state { self.new ≡ fed (T.definitions table.now) self.old keysym }
-        ensures told { IsFed names.now (T.definitions table.now) self.old keysym result }
+        ensures reported { IsFed names.now (T.definitions table.now) self.old keysym result }
     {
         if keysym.is_ignored() {
             return Fed {
@@ -127,7 +127,7 @@ impl ComposeState {
     #[inline(always)]
     pub fn feed_alone<'t, T: ComposeTable>(&mut self, table: &'t T, keysym: Keysym) -> Fed<'t>
         ensures state { self.new ≡ fed (T.definitions table.now) self.old keysym }
-        ensures told { IsFedAlone (T.definitions table.now) self.old keysym result }
+        ensures reported { IsFedAlone (T.definitions table.now) self.old keysym result }
     {
         let ignored = keysym.is_ignored();
         if ignored {
@@ -156,7 +156,7 @@ impl ComposeState {
     ) -> Fed<'t>
         ensures state { self.new
             ≡ fed (T.definitions table.now) (loaded (T.definitions table.now) self.old) keysym }
-        ensures told { IsFed names.now (T.definitions table.now)
+        ensures reported { IsFed names.now (T.definitions table.now)
             (loaded (T.definitions table.now) self.old) keysym result }
     {
         if !self.pending.is_empty() && !keysym.is_ignored() {
@@ -225,7 +225,7 @@ impl ComposeState {
         requires leaf { (leaf : _) → target ≡ Target.Leaf leaf
             → leaf.0 < length (leaves (T.definitions table.now)) }
         ensures state { self.new ≡ fed (T.definitions table.now) self.old keysym }
-        ensures told { (names : KeysymNames)
+        ensures reported { (names : KeysymNames)
             → IsFed names (T.definitions table.now) self.old keysym result }
     {
         match target {

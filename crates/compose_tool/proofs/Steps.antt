@@ -8,7 +8,7 @@ use Rattle.compose_text.specs.Results.{◌>>=◌}
 use Rattle.compose_model.specs.Table.{Definition}
 use Rattle.compose_model.specs.Nodes.{rising}
 use Rattle.compose_model.specs.Certificate.{Certificate, Repertoire}
-use Rattle.compose_tree.specs.TableGives.{first_table}
+use Rattle.compose_tree.specs.TableReturns.{first_table}
 use Rattle.compose_cert.specs.Repertoire.{repertoire_of}
 use Rattle.compose_migration.specs.Migration.{GivenMigration, NamedParts, TableSources, Parts, or_because, migration_of}
 use Rattle.compose_cert.specs.Reading.{certificate_of}
@@ -16,7 +16,7 @@ use Rattle.compose_cert.specs.declared.CertFault.{CertFault}
 use Rattle.compose_check.specs.Input as checks
 use Rattle.compose_check.specs.Input.{Unread, no_repertoire, no_certificate, parts_of}
 use Rattle.compose_answer.specs.Parts.{NoAnswer, TypedParts, AllowedParts, allowed_parts, Explainable, Needs, unread, no_only_table, given_key_names, type_parts, migration_parts, explainable, explain_parts, makeable, make_parts}
-use Rattle.compose_answer.specs.Refused.{IsRefused, Gives}
+use Rattle.compose_answer.specs.Refused.{IsRefused, Returns}
 use Rattle.compose_tool.specs.Answers.{IsChecked, IsCheckedFor, among_parts, needs_of}
 use Rattle.compose_answer.specs.declared.answer.Answer.{Answer}
 use Rattle.compose_answer.specs.declared.answer.Answer.TheVariants.{Yes, No, Invalid, FreshNotAllowed}
@@ -25,14 +25,14 @@ use Rattle.compose_answer.specs.declared.refusal.Refusal.TheVariants as refusals
 
 -- this is read
 abbrev pub IsRead : {A : Type 0} → Result A NoAnswer → A → Type 0
-IsRead {A} said x = (a : A) × (said ≡ Ok a) × (a ≡ x)
+IsRead {A} expected x = (a : A) × (expected ≡ Ok a) × (a ≡ x)
 
-is_read : {A : Type 0} (said : Result A NoAnswer) (x : A) → IsRead said x → said ≡ Ok x
-is_read said x h = h.1 ∙ ap (λ a. Ok a) h.2
+is_read : {A : Type 0} (expected : Result A NoAnswer) (x : A) → IsRead expected x → expected ≡ Ok x
+is_read expected x h = h.1 ∙ ap (λ a. Ok a) h.2
 
 -- what is read is one thing
-pub one_read : {A : Type 0} (said : Result A NoAnswer) (x y : A) → IsRead said x → said ≡ Ok y → y ≡ x
-one_read {A} said x y h e = let first : Ok y ≡ Ok h.0 = sym e ∙ h.1 in let same : y ≡ h.0 = cc in same ∙ h.2
+pub one_read : {A : Type 0} (expected : Result A NoAnswer) (x y : A) → IsRead expected x → expected ≡ Ok y → y ≡ x
+one_read {A} expected x y h e = let first : Ok y ≡ Ok h.0 = sym e ∙ h.1 in let same : y ≡ h.0 = cc in same ∙ h.2
 
 -- a refusal of one step is the refusal of the whole
 step_refused : {A B : Type 0} (refusal : Refusal) (r : Result A NoAnswer) (f : A → Result B NoAnswer) → IsRefused refusal r → IsRefused refusal (r >>= f)
@@ -47,10 +47,10 @@ step_refused refusals.TooManyFresh r f h = ap (λ r. r >>= f) h
 step_refused refusals.NoMemory r f h = tt
 
 -- an answer that is this refusal has the meaning of the refusal
-pub refusal_gives : {P A : Type 0} (answers : P → A → Type 0) (r : Result A Refusal) (refusal : Refusal) (said : Result P NoAnswer) → IsErrAnd r (λ e. e ≡ refusal) → IsRefused refusal said
-    → Gives answers r said
-refusal_gives answers (Ok x) refusal said h g = absurd h
-refusal_gives answers (Err e) refusal said h g = subst (λ (x : Refusal). IsRefused x said) (sym h) g
+pub refusal_gives : {P A : Type 0} (answers : P → A → Type 0) (r : Result A Refusal) (refusal : Refusal) (expected : Result P NoAnswer) → IsErrAnd r (λ e. e ≡ refusal) → IsRefused refusal expected
+    → Returns answers r expected
+refusal_gives answers (Ok x) refusal expected h g = absurd h
+refusal_gives answers (Err e) refusal expected h g = subst (λ (x : Refusal). IsRefused x expected) (sym h) g
 
 -- ---- type
 
@@ -83,16 +83,16 @@ module _ (header : List ℕ) (key_names : List (List ℕ)) (given : TableSources
 -- ---- check, with the keysyms that may be fresh
 
 -- a part that can be read is refused only for lack of memory
-pub unrefused : {A B : Type 0} (refusal : Refusal) (x : A) (said : Result B NoAnswer) → IsRefused {P = A} refusal (Ok x) → IsRefused refusal said
-unrefused (refusals.Names fault) x said h = cc
-unrefused (refusals.Key index) x said h = cc
-unrefused (refusals.Table fault) x said h = let e = h.1 in cc
-unrefused (refusals.Side side fault) x said h = let e = h.1 in cc
-unrefused (refusals.Repertoire fault) x said h = cc
-unrefused (refusals.Certificate fault) x said h = cc
-unrefused (refusals.Fresh fault) x said h = cc
-unrefused refusals.TooManyFresh x said h = cc
-unrefused refusals.NoMemory x said h = tt
+pub unrefused : {A B : Type 0} (refusal : Refusal) (x : A) (expected : Result B NoAnswer) → IsRefused {P = A} refusal (Ok x) → IsRefused refusal expected
+unrefused (refusals.Names fault) x expected h = cc
+unrefused (refusals.Key index) x expected h = cc
+unrefused (refusals.Table fault) x expected h = let e = h.1 in cc
+unrefused (refusals.Side side fault) x expected h = let e = h.1 in cc
+unrefused (refusals.Repertoire fault) x expected h = cc
+unrefused (refusals.Certificate fault) x expected h = cc
+unrefused (refusals.Fresh fault) x expected h = cc
+unrefused refusals.TooManyFresh x expected h = cc
+unrefused refusals.NoMemory x expected h = tt
 
 -- the parts of a check have the certificate of its text
 pub certificate_read : (input : checks.Input) (p : checks.Parts) → or_because unread (parts_of input) ≡ Ok p

@@ -16,9 +16,9 @@ line_regrouped : (s word number tables : List ℕ) → s ++ (word ++ (number ++ 
 line_regrouped s word number tables = simp append_assoc
 
 -- one write after what was printed adds the line of a character that can't be typed
-pub told : (old : List ℕ) (c : ℕ) (s h tables : List ℕ) → tables ≡ tables_words old c → h ≡ s
+pub reported : (old : List ℕ) (c : ℕ) (s h tables : List ℕ) → tables ≡ tables_words old c → h ≡ s
     ++ (codes "unreachable U+" ++ (at_least_four (digits 16 true c) ++ (tables ++ 10 ∷ []))) → h ≡ s ++ untypable_line old c
-told old c s h tables et e = rw et at (e ∙ line_regrouped s (codes "unreachable U+") (at_least_four (digits 16 true c)) tables)
+reported old c s h tables et e = rw et at (e ∙ line_regrouped s (codes "unreachable U+") (at_least_four (digits 16 true c)) tables)
 
 -- one line more
 pub more_lines : (old new : List ℕ) (i c : ℕ) (s a b : List ℕ) → i < length new → c ≡ get_or new i c → a ≡ s ++ each_untypable old (take i new) → b ≡ a ++ untypable_line old c
@@ -40,8 +40,8 @@ counted old new s h alone both ea eb e =
     rw (ea, eb) at (e ∙ count_regrouped s (decimal (length new)) (decimal alone) (decimal both) (codes " unreachable: ") (codes " in the new table alone, ") (codes " in both tables"))
 
 -- all lines
-pub all_told : {E : Type 0} (move : Parts) (repertoire : Repertoire) (old new before after : List ℕ) (r : Result (String Global) E) → AreUntypable move.names move.old repertoire old
+pub all_reported : {E : Type 0} (move : Parts) (repertoire : Repertoire) (old new before after : List ℕ) (r : Result (String Global) E) → AreUntypable move.names move.old repertoire old
     → AreUntypable move.names move.new repertoire new
     → before ≡ old → after ≡ new → IfOk r (λ text. string_bytes text ≡ untypable_lines before after) → IfOk r (λ text. IsUntypableText move repertoire (string_bytes text))
-all_told move repertoire old new before after (Ok text) o n same_old same_new h = record { old = old; are_old = o; new = new; are_new = n; is = rw (same_old, same_new) at h }
-all_told move repertoire old new before after (Err fault) o n same_old same_new h = tt
+all_reported move repertoire old new before after (Ok text) o n same_old same_new h = record { old = old; are_old = o; new = new; are_new = n; is = rw (same_old, same_new) at h }
+all_reported move repertoire old new before after (Err fault) o n same_old same_new h = tt

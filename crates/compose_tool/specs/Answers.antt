@@ -73,7 +73,7 @@ IsCheckedFor p answer = IsChecked p.checked answer
 -- ---- explain
 
 -- the new table does not follow, and the bytes are the four lines of the least of the shortest counterexamples
-pub record TellsLeast (names : KeysymNames) (fresh : List ℕ) (old new : List Definition) (bytes : List ℕ) : Type 0 where
+pub record ReportsLeast (names : KeysymNames) (fresh : List ℕ) (old new : List Definition) (bytes : List ℕ) : Type 0 where
   pub differs : model.Follows names fresh old new → ⊥
   pub evidence : Evidence
   pub least : IsLeast names fresh old new evidence
@@ -82,12 +82,12 @@ pub record TellsLeast (names : KeysymNames) (fresh : List ℕ) (old new : List D
 -- `follows`, or the four lines
 abbrev pub IsExplained : Explainable → Answer → Type 0
 IsExplained e (Yes text) = model.Follows e.move.names e.fresh e.move.old e.move.new × (string_bytes text ≡ one_line (codes "follows"))
-IsExplained e (No text) = TellsLeast e.move.names e.fresh e.move.old e.move.new (string_bytes text)
+IsExplained e (No text) = ReportsLeast e.move.names e.fresh e.move.old e.move.new (string_bytes text)
 IsExplained e (Invalid fault) = ⊥
 IsExplained e (FreshNotAllowed keysym) = ⊥
 
 -- the tables differ, and the bytes list all their differences and count them
-pub record TellsAll (names : KeysymNames) (fresh : List ℕ) (old new : List Definition) (bytes : List ℕ) : Type 0 where
+pub record ReportsAll (names : KeysymNames) (fresh : List ℕ) (old new : List Definition) (bytes : List ℕ) : Type 0 where
   pub differences : List Evidence
   pub are : AreDifferences names fresh old new differences
   pub some : differences ≢ []
@@ -96,7 +96,7 @@ pub record TellsAll (names : KeysymNames) (fresh : List ℕ) (old new : List Def
 -- `follows` if there are no differences; otherwise all of them
 abbrev pub IsAllExplained : Explainable → Answer → Type 0
 IsAllExplained e (Yes text) = AreDifferences e.move.names e.fresh e.move.old e.move.new [] × (string_bytes text ≡ one_line (codes "follows"))
-IsAllExplained e (No text) = TellsAll e.move.names e.fresh e.move.old e.move.new (string_bytes text)
+IsAllExplained e (No text) = ReportsAll e.move.names e.fresh e.move.old e.move.new (string_bytes text)
 IsAllExplained e (Invalid fault) = ⊥
 IsAllExplained e (FreshNotAllowed keysym) = ⊥
 
@@ -115,7 +115,7 @@ pub record SpellsMade (needs : Needs) (bytes : List ℕ) : Type 0 where
   pub spells : Spells bytes certificate
 
 -- the new table follows, this character is the least one that no list of keys types, and the bytes name it
-pub record TellsUnreachable (needs : Needs) (bytes : List ℕ) : Type 0 where
+pub record ReportsUnreachable (needs : Needs) (bytes : List ℕ) : Type 0 where
   pub follows : model.Follows needs.move.names needs.fresh needs.move.old needs.move.new
   pub character : ℕ
   pub unreachable : IsUnreachable needs.move.names needs.move.new needs.repertoire character
@@ -125,7 +125,7 @@ pub record TellsUnreachable (needs : Needs) (bytes : List ℕ) : Type 0 where
 -- has no typing
 abbrev pub IsMadeText : Needs → Answer → Type 0
 IsMadeText needs (Yes text) = SpellsMade needs (string_bytes text)
-IsMadeText needs (No text) = TellsLeast needs.move.names needs.fresh needs.move.old needs.move.new (string_bytes text) ⊎ TellsUnreachable needs (string_bytes text)
+IsMadeText needs (No text) = ReportsLeast needs.move.names needs.fresh needs.move.old needs.move.new (string_bytes text) ⊎ ReportsUnreachable needs (string_bytes text)
 IsMadeText needs (Invalid fault) = ⊥
 IsMadeText needs (FreshNotAllowed keysym) = ⊥
 
@@ -167,16 +167,16 @@ pub record IsUntypableText (move : Parts) (repertoire : certificates.Repertoire)
   pub is : bytes ≡ untypable_lines old new
 
 -- the new table follows, no list of keys types some character, and the bytes list all such characters
-pub record TellsUntypable (needs : Needs) (bytes : List ℕ) : Type 0 where
+pub record ReportsUntypable (needs : Needs) (bytes : List ℕ) : Type 0 where
   pub follows : model.Follows needs.move.names needs.fresh needs.move.old needs.move.new
   pub least : ℕ
   pub unreachable : IsUnreachable needs.move.names needs.move.new needs.repertoire least
-  pub tells : IsUntypableText needs.move needs.repertoire bytes
+  pub reports : IsUntypableText needs.move needs.repertoire bytes
 
 -- a certificate's text; or the least counterexample's, if the new table does not follow; or all characters that have no
 -- typing
 abbrev pub IsAllMadeText : Needs → Answer → Type 0
 IsAllMadeText needs (Yes text) = SpellsMade needs (string_bytes text)
-IsAllMadeText needs (No text) = TellsLeast needs.move.names needs.fresh needs.move.old needs.move.new (string_bytes text) ⊎ TellsUntypable needs (string_bytes text)
+IsAllMadeText needs (No text) = ReportsLeast needs.move.names needs.fresh needs.move.old needs.move.new (string_bytes text) ⊎ ReportsUntypable needs (string_bytes text)
 IsAllMadeText needs (Invalid fault) = ⊥
 IsAllMadeText needs (FreshNotAllowed keysym) = ⊥

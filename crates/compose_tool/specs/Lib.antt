@@ -1,3 +1,3 @@
 pub mod Typed
 pub mod Answers
-pub mod TypeGives
+pub mod TypeReturns

@@ -3,9 +3,9 @@ ghost use Rattle.std.specs.Prelude.{◌≡◌, map};
 ghost use Rattle.compose_cert.specs.Reading.{certificate_of};
 ghost use Rattle.compose_migration.specs.Migration.{or_because};
 ghost use Rattle.compose_check.specs.Input.{parts_of, no_certificate};
-ghost use Rattle.compose_check.specs.CheckGives.{input_of};
+ghost use Rattle.compose_check.specs.CheckReturns.{input_of};
 ghost use Rattle.compose_answer.specs.Parts.{unread, allowed_parts};
-ghost use Rattle.compose_answer.specs.Refused.{Gives};
+ghost use Rattle.compose_answer.specs.Refused.{Returns};
 ghost use Rattle.compose_tool.specs.Answers.{IsChecked, IsCheckedFor, among_parts, first_not_among};
 
 use crate::parts::read_named;
@@ -25,7 +25,7 @@ pub fn check_migration<T: ComposeTable>(
     alloc: Global,
     input: &CheckInput<'_>,
 ) -> Result<Answer, Refusal>
-    ensures { Gives IsChecked result (or_because unread (parts_of (input_of input.entry.now))) }
+    ensures { Returns IsChecked result (or_because unread (parts_of (input_of input.entry.now))) }
 {
     match check_bytes::<T>(alloc, input) {
         Ok(Verdict::Yes) => Ok(Answer::Yes(String::from_str(alloc, "yes\n")?)),
@@ -46,7 +46,7 @@ pub fn check_allowed<T: ComposeTable>(
     input: &CheckInput<'_>,
     key_names: &[&str],
 ) -> Result<Answer, Refusal>
-    ensures { Gives IsCheckedFor result
+    ensures { Returns IsCheckedFor result
         (allowed_parts (map (λ word. word.now) key_names.now) (input_of input.entry.now)) }
 {
     let named = read_named(alloc, input.header, key_names)?;
@@ -59,7 +59,7 @@ fn check_among<T: ComposeTable>(
     input: &CheckInput<'_>,
     allowed: &[Keysym],
 ) -> Result<Answer, Refusal>
-    ensures { Gives IsCheckedFor result (among_parts allowed.now (input_of input.entry.now)) }
+    ensures { Returns IsCheckedFor result (among_parts allowed.now (input_of input.entry.now)) }
 {
     match check_migration::<T>(alloc, input)? {
         Answer::Yes(text) => match fresh_not_allowed(alloc, input.certificate, allowed)? {
@@ -76,7 +76,7 @@ fn fresh_not_allowed(
     certificate: &[u8],
     allowed: &[Keysym],
 ) -> Result<Option<Keysym>, Refusal>
-    ensures { Gives (λ said found. found ≡ first_not_among allowed.now said.fresh) result
+    ensures { Returns (λ expected found. found ≡ first_not_among allowed.now expected.fresh) result
         (or_because (λ why. unread (no_certificate why)) (certificate_of certificate.now)) }
 {
     let certificate = read_certificate(alloc, certificate)?;
@@ -85,7 +85,7 @@ fn fresh_not_allowed(
 
 /// Reads the certificate from its text.
 fn read_certificate(alloc: Global, bytes: &[u8]) -> Result<Certificate, Refusal>
-    ensures { Gives (λ said read. said ≡ read) result
+    ensures { Returns (λ expected read. expected ≡ read) result
         (or_because (λ why. unread (no_certificate why)) (certificate_of bytes.now)) }
 {
     match Certificate::read(alloc, bytes) {

@@ -1,9 +1,9 @@
 //! `explain`: the keys on which two tables differ.
 ghost use Rattle.std.specs.Prelude.{◌≡◌, string_bytes, IfOk};
-ghost use Rattle.compose_migration.specs.MigrationGives.{given_of, parts};
+ghost use Rattle.compose_migration.specs.MigrationReturns.{given_of, parts};
 ghost use Rattle.compose_walk.specs.Explained.{explained, all_explained};
 ghost use Rattle.compose_answer.specs.Parts.{explainable, explain_parts};
-ghost use Rattle.compose_answer.specs.Refused.{Gives};
+ghost use Rattle.compose_answer.specs.Refused.{Returns};
 ghost use Rattle.compose_tool.specs.Answers.{IsExplained, IsAllExplained};
 
 use crate::parts::{in_rising_order, read_migration};
@@ -24,7 +24,7 @@ pub fn explain_migration<T: ComposeTable>(
     alloc: Global,
     input: &MigrationInput<'_, '_>,
 ) -> Result<Answer, Refusal>
-    ensures { Gives IsExplained result (explain_parts (given_of input.entry.now)) }
+    ensures { Returns IsExplained result (explain_parts (given_of input.entry.now)) }
 {
     let migration: Migration<T> = read_migration(alloc, input)?;
     let fresh = in_rising_order(alloc, &migration.keys)?;
@@ -37,12 +37,12 @@ fn explain_tables<T: ComposeTable>(
     migration: &Migration<T>,
     fresh: &[Keysym],
 ) -> Result<Answer, Refusal>
-    ensures { Gives IsExplained result (explainable (parts T.definitions migration.now) fresh.now) }
+    ensures { Returns IsExplained result (explainable (parts T.definitions migration.now) fresh.now) }
 {
     let names = &migration.names;
     let found = walk(alloc, &migration.old, &migration.new, names, fresh)?;
     match found {
-        Walk::Differs(least) => Ok(Answer::No(tell(alloc, names, &least)?)),
+        Walk::Differs(least) => Ok(Answer::No(counterexample_text(alloc, names, &least)?)),
         Walk::Follows(_pairs) => Ok(Answer::Yes(String::from_str(alloc, "follows\n")?)),
     }
 }
@@ -56,7 +56,7 @@ pub fn explain_all_migration<T: ComposeTable>(
     alloc: Global,
     input: &MigrationInput<'_, '_>,
 ) -> Result<Answer, Refusal>
-    ensures { Gives IsAllExplained result (explain_parts (given_of input.entry.now)) }
+    ensures { Returns IsAllExplained result (explain_parts (given_of input.entry.now)) }
 {
     let migration: Migration<T> = read_migration(alloc, input)?;
     let fresh = in_rising_order(alloc, &migration.keys)?;
@@ -69,7 +69,7 @@ fn explain_all_tables<T: ComposeTable>(
     migration: &Migration<T>,
     fresh: &[Keysym],
 ) -> Result<Answer, Refusal>
-    ensures { Gives IsAllExplained result
+    ensures { Returns IsAllExplained result
         (explainable (parts T.definitions migration.now) fresh.now) }
 {
     let names = &migration.names;
@@ -77,11 +77,11 @@ fn explain_all_tables<T: ComposeTable>(
     if found.is_empty() {
         return Ok(Answer::Yes(String::from_str(alloc, "follows\n")?));
     }
-    Ok(Answer::No(tell_all(alloc, names, &found)?))
+    Ok(Answer::No(print_differences(alloc, names, &found)?))
 }
 
 /// Returns the four lines of a counterexample. `Err(AllocError)` if memory runs out.
-pub fn tell(
+pub fn counterexample_text(
     alloc: Global,
     names: &Names,
     counterexample: &Counterexample,
@@ -95,7 +95,11 @@ pub fn tell(
 }
 
 /// Returns the lines of all differences.
-fn tell_all(alloc: Global, names: &Names, differences: &Differences) -> Result<String, AllocError>
+fn print_differences(
+    alloc: Global,
+    names: &Names,
+    differences: &Differences,
+) -> Result<String, AllocError>
     ensures { IfOk result (λ text. string_bytes text ≡ all_explained names.now differences.now) }
 {
     match explain_all(alloc, names, differences) {

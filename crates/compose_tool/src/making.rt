@@ -2,13 +2,13 @@
 ghost use Rattle.std.specs.Prelude.{◌≡◌, ◌++◌, string_bytes, codes, true, IfOk};
 ghost use Rattle.std.specs.Fmt.{digits};
 ghost use Rattle.keysym_core.specs.Printed.{at_least_four};
-ghost use Rattle.compose_migration.specs.MigrationGives.{given_of, parts};
+ghost use Rattle.compose_migration.specs.MigrationReturns.{given_of, parts};
 ghost use Rattle.compose_cert.specs.Spelling.{Spells};
 ghost use Rattle.compose_answer.specs.Parts.{makeable, make_parts};
-ghost use Rattle.compose_answer.specs.Refused.{Gives};
+ghost use Rattle.compose_answer.specs.Refused.{Returns};
 ghost use Rattle.compose_tool.specs.Answers.{IsMadeText, needs_of, one_line};
 
-use crate::explaining::tell;
+use crate::explaining::counterexample_text;
 use crate::parts::{in_rising_order, read_migration, read_repertoire};
 use compose_answer::{Answer, Refusal};
 use compose_cert::{Certificate, Repertoire};
@@ -31,7 +31,7 @@ pub fn make_migration<T: ComposeTable>(
     input: &MigrationInput<'_, '_>,
     repertoire: &[u8],
 ) -> Result<Answer, Refusal>
-    ensures { Gives IsMadeText result (make_parts (given_of input.entry.now) repertoire.now) }
+    ensures { Returns IsMadeText result (make_parts (given_of input.entry.now) repertoire.now) }
 {
     let migration: Migration<T> = read_migration(alloc, input)?;
     make_from(alloc, &migration, repertoire)
@@ -43,21 +43,21 @@ fn make_from<T: ComposeTable>(
     migration: &Migration<T>,
     repertoire: &[u8],
 ) -> Result<Answer, Refusal>
-    ensures { Gives IsMadeText result (needs_of (parts T.definitions migration.now) repertoire.now) }
+    ensures { Returns IsMadeText result (needs_of (parts T.definitions migration.now) repertoire.now) }
 {
     let repertoire = read_repertoire(alloc, repertoire)?;
     let fresh = in_rising_order(alloc, &migration.keys)?;
-    tell_made(alloc, migration, &repertoire, &fresh)
+    print_made(alloc, migration, &repertoire, &fresh)
 }
 
 /// Answers with what is made from these tables.
-fn tell_made<T: ComposeTable>(
+fn print_made<T: ComposeTable>(
     alloc: Global,
     migration: &Migration<T>,
     repertoire: &Repertoire,
     fresh: &[Keysym],
 ) -> Result<Answer, Refusal>
-    ensures { Gives IsMadeText result
+    ensures { Returns IsMadeText result
         (makeable (parts T.definitions migration.now) repertoire.now fresh.now) }
 {
     let names = &migration.names;
@@ -71,7 +71,7 @@ fn tell_made<T: ComposeTable>(
     )?;
     match made {
         Made::Made(certificate) => Ok(Answer::Yes(spell(alloc, &certificate)?)),
-        Made::Differs(least) => Ok(Answer::No(tell(alloc, names, &least)?)),
+        Made::Differs(least) => Ok(Answer::No(counterexample_text(alloc, names, &least)?)),
         Made::Unreachable(character) => Ok(Answer::No(unreachable_line(alloc, character)?)),
     }
 }

@@ -1,13 +1,13 @@
 //! `make --all`: makes a certificate, or lists all characters that can't be typed.
 ghost use Rattle.std.specs.Prelude.{◌≡◌, ◌++◌, string_bytes, IfOk};
-ghost use Rattle.compose_migration.specs.MigrationGives.{given_of, parts};
+ghost use Rattle.compose_migration.specs.MigrationReturns.{given_of, parts};
 ghost use Rattle.compose_make.specs.Least.{AreUntypable};
 ghost use Rattle.compose_answer.specs.Parts.{makeable, make_parts};
-ghost use Rattle.compose_answer.specs.Refused.{Gives};
+ghost use Rattle.compose_answer.specs.Refused.{Returns};
 ghost use Rattle.compose_tool.specs.Answers as answers;
 ghost use Rattle.compose_tool.specs.Answers.{IsAllMadeText, IsUntypableText, count_alone, count_of_both, each_untypable, needs_of, tables_words, untypable_count, untypable_line};
 
-use crate::explaining::tell;
+use crate::explaining::counterexample_text;
 use crate::making::spell;
 use crate::parts::{in_rising_order, read_migration, read_repertoire};
 use compose_answer::{Answer, Refusal};
@@ -30,7 +30,7 @@ pub fn make_all_migration<T: ComposeTable>(
     input: &MigrationInput<'_, '_>,
     repertoire: &[u8],
 ) -> Result<Answer, Refusal>
-    ensures { Gives IsAllMadeText result (make_parts (given_of input.entry.now) repertoire.now) }
+    ensures { Returns IsAllMadeText result (make_parts (given_of input.entry.now) repertoire.now) }
 {
     let migration: Migration<T> = read_migration(alloc, input)?;
     make_all_from(alloc, &migration, repertoire)
@@ -42,21 +42,21 @@ fn make_all_from<T: ComposeTable>(
     migration: &Migration<T>,
     repertoire: &[u8],
 ) -> Result<Answer, Refusal>
-    ensures { Gives IsAllMadeText result (needs_of (parts T.definitions migration.now) repertoire.now) }
+    ensures { Returns IsAllMadeText result (needs_of (parts T.definitions migration.now) repertoire.now) }
 {
     let repertoire = read_repertoire(alloc, repertoire)?;
     let fresh = in_rising_order(alloc, &migration.keys)?;
-    tell_all_made(alloc, migration, &repertoire, &fresh)
+    print_all_made(alloc, migration, &repertoire, &fresh)
 }
 
 /// Answers with what is made from these tables, or with all characters that can't be typed.
-fn tell_all_made<T: ComposeTable>(
+fn print_all_made<T: ComposeTable>(
     alloc: Global,
     migration: &Migration<T>,
     repertoire: &Repertoire,
     fresh: &[Keysym],
 ) -> Result<Answer, Refusal>
-    ensures { Gives IsAllMadeText result
+    ensures { Returns IsAllMadeText result
         (makeable (parts T.definitions migration.now) repertoire.now fresh.now) }
 {
     let names = &migration.names;
@@ -70,13 +70,13 @@ fn tell_all_made<T: ComposeTable>(
     )?;
     match made {
         Made::Made(certificate) => Ok(Answer::Yes(spell(alloc, &certificate)?)),
-        Made::Differs(least) => Ok(Answer::No(tell(alloc, names, &least)?)),
-        Made::Unreachable(_least) => Ok(Answer::No(tell_untypable(alloc, migration, repertoire)?)),
+        Made::Differs(least) => Ok(Answer::No(counterexample_text(alloc, names, &least)?)),
+        Made::Unreachable(_least) => Ok(Answer::No(print_untypable(alloc, migration, repertoire)?)),
     }
 }
 
 /// Returns the lines of all characters that the new table can't type.
-fn tell_untypable<T: ComposeTable>(
+fn print_untypable<T: ComposeTable>(
     alloc: Global,
     migration: &Migration<T>,
     repertoire: &Repertoire,

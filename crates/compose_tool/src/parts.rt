@@ -2,13 +2,13 @@
 ghost use Rattle.std.specs.Prelude.{◌≡◌, map, IfOk};
 ghost use Rattle.std.specs.Ordering.{nat_cmp};
 ghost use Rattle.compose_model.specs.Nodes.{rising};
-ghost use Rattle.compose_tree.specs.TableGives.{first_table};
+ghost use Rattle.compose_tree.specs.TableReturns.{first_table};
 ghost use Rattle.compose_cert.specs.Repertoire.{repertoire_of};
 ghost use Rattle.compose_migration.specs.Migration.{or_because};
-ghost use Rattle.compose_migration.specs.MigrationGives.{given_of, named_parts, parts};
+ghost use Rattle.compose_migration.specs.MigrationReturns.{given_of, named_parts, parts};
 ghost use Rattle.compose_check.specs.Input.{no_repertoire};
 ghost use Rattle.compose_answer.specs.Parts.{unread, no_only_table, given_key_names, migration_parts};
-ghost use Rattle.compose_answer.specs.Refused.{Gives};
+ghost use Rattle.compose_answer.specs.Refused.{Returns};
 
 use compose_answer::Refusal;
 use compose_cert::{Repertoire, RepertoireFault};
@@ -22,7 +22,7 @@ use std::alloc::{AllocError, Global};
 /// Errors: `Names` if the header is refused, `Key` for the first key name that has no keysym,
 /// `NoMemory` if memory runs out.
 pub fn read_named(alloc: Global, header: &[u8], key_names: &[&str]) -> Result<Named, Refusal>
-    ensures { Gives (λ said read. said ≡ named_parts read) result
+    ensures { Returns (λ expected read. expected ≡ named_parts read) result
         (given_key_names header.now (map (λ word. word.now) key_names.now)) }
 {
     match Named::read(alloc, header, key_names) {
@@ -39,7 +39,7 @@ pub fn read_only_table<T: ComposeTable>(
     names: &Names,
     input: &TableInput<'_>,
 ) -> Result<T, Refusal>
-    ensures { Gives (λ said table. said ≡ T.definitions table) result
+    ensures { Returns (λ expected table. expected ≡ T.definitions table) result
         (or_because no_only_table
         (first_table names.now input.entry.now.sources.now input.entry.now.rule)) }
 {
@@ -58,7 +58,7 @@ pub fn read_migration<T: ComposeTable>(
     alloc: Global,
     input: &MigrationInput<'_, '_>,
 ) -> Result<Migration<T>, Refusal>
-    ensures { Gives (λ said read. said ≡ parts T.definitions read) result
+    ensures { Returns (λ expected read. expected ≡ parts T.definitions read) result
         (migration_parts (given_of input.entry.now)) }
 {
     match Migration::read(alloc, input) {
@@ -71,7 +71,7 @@ pub fn read_migration<T: ComposeTable>(
 ///
 /// Errors: `Repertoire` if the bytes are not a repertoire, `NoMemory` if memory runs out.
 pub fn read_repertoire(alloc: Global, bytes: &[u8]) -> Result<Repertoire, Refusal>
-    ensures { Gives (λ said repertoire. said ≡ repertoire) result
+    ensures { Returns (λ expected repertoire. expected ≡ repertoire) result
         (or_because (λ why. unread (no_repertoire why)) (repertoire_of bytes.now)) }
 {
     match Repertoire::read(alloc, bytes) {

@@ -2,12 +2,12 @@
 ghost use Rattle.std.specs.Prelude.{◌≡◌, ◌++◌, List, drop, map, take, Ok, OnOk, IfOk, string_bytes};
 ghost use Rattle.compose_model.specs.Table.{Definition};
 ghost use Rattle.compose_read.specs.Read.{definitions_of};
-ghost use Rattle.compose_tree.specs.TableGives.{table_of};
-ghost use Rattle.compose_tool.specs.TypeGives.{TypeGives};
-ghost use Rattle.compose_migration.specs.MigrationGives.{table_given};
+ghost use Rattle.compose_tree.specs.TableReturns.{table_of};
+ghost use Rattle.compose_tool.specs.TypeReturns.{TypeReturns};
+ghost use Rattle.compose_migration.specs.MigrationReturns.{table_given};
 ghost use Rattle.compose_tool.specs.Typed.{typed_lines, typed_list, typed_lists, fed_line};
 ghost use Rattle.compose_answer.specs.Parts.{type_parts};
-ghost use Rattle.compose_answer.specs.Refused.{Gives};
+ghost use Rattle.compose_answer.specs.Refused.{Returns};
 ghost use Rattle.compose_tool.specs.Answers.{AreListsTyped, IsTyped};
 
 use crate::parts::{read_named, read_only_table};
@@ -58,7 +58,7 @@ pub fn type_lines<T: ComposeTable>(
     keys: &[Keysym],
     rule: Rule,
 ) -> Result<String, TypeFault>
-    ensures exact { TypeGives names.now keys.now result
+    ensures exact { TypeReturns names.now keys.now result
         (table_of names.now sources.now root.now rule) }
     ensures as_read { IfOk result
         (λ text. (read : List Definition)
@@ -85,7 +85,7 @@ pub fn type_keys<T: ComposeTable>(
     key_names: &[&str],
     table: &TableInput<'_>,
 ) -> Result<Answer, Refusal>
-    ensures { Gives IsTyped result
+    ensures { Returns IsTyped result
         (type_parts header.now (map (λ word. word.now) key_names.now)
         (table_given table.entry.now)) }
 {
@@ -107,7 +107,7 @@ pub fn type_lists<T: ComposeTable>(
     counts: &[usize],
     table: &TableInput<'_>,
 ) -> Result<Answer, Refusal>
-    ensures { Gives (AreListsTyped counts.now) result
+    ensures { Returns (AreListsTyped counts.now) result
         (type_parts header.now (map (λ word. word.now) key_names.now)
         (table_given table.entry.now)) }
 {

@@ -41,9 +41,9 @@ key_at : (p rest : List ℕ) (k : ℕ) → get_or ((p ++ k ∷ []) ++ rest) (len
 key_at [] rest k = refl
 key_at (j ∷ p) rest k = key_at p rest k
 
-rest_behind : (p rest : List ℕ) (k : ℕ) → drop (suc (length p)) ((p ++ k ∷ []) ++ rest) ≡ rest
-rest_behind [] rest k = refl
-rest_behind (j ∷ p) rest k = rest_behind p rest k
+rest_after : (p rest : List ℕ) (k : ℕ) → drop (suc (length p)) ((p ++ k ∷ []) ++ rest) ≡ rest
+rest_after [] rest k = refl
+rest_after (j ∷ p) rest k = rest_after p rest k
 
 number_on : (f : List ℕ → ℕ) (p : List ℕ) (k : ℕ) → get_or (map f (proper_prefixes (p ++ k ∷ []))) (length p) 0 ≡ f p
 number_on f [] k = refl
@@ -75,7 +75,7 @@ module _ (table : List Definition) (d : Definition) (i : ℕ) (n : Next table d)
   key_is = sym (ap (λ s. get_or s (length n.prefix) 0) n.next.sequence ∙ key_at n.prefix n.rest n.key)
 
   rest_is : n.rest ≡ drop (length n.prefix + 1) d.sequence
-  rest_is = sym (rw add-one (ap (drop (suc (length n.prefix))) n.next.sequence ∙ rest_behind n.prefix n.rest n.key))
+  rest_is = sym (rw add-one (ap (drop (suc (length n.prefix))) n.next.sequence ∙ rest_after n.prefix n.rest n.key))
 
   way_at : take (length n.prefix + 1) (path_of table) ≡ map (number_of table) (proper_prefixes (n.prefix ++ n.key ∷ []))
   way_at = rw add-one n.way

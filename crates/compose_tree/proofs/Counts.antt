@@ -14,7 +14,7 @@ use Rattle.compose_read.specs.Settle.{IsSettled}
 use Rattle.compose_tree.specs.declared.edge.Edge.{Edge}
 use Rattle.compose_tree.specs.declared.edge.NodeEdge.{NodeEdge}
 use Rattle.compose_tree.specs.declared.table.Target.TheVariants.{Node, Leaf}
-use Rattle.compose_tree.specs.Rows.{NodeRow, rows_of, row_of, row_at, where_to, edge_of, target_number, next_target, new_rows, with_edge, path_of, sequence_at, edges_at, gathered, AreAtNodes, HaveNumbersBelow}
+use Rattle.compose_tree.specs.Rows.{NodeRow, rows_of, row_of, row_at, where_to, edge_of, target_number, next_target, new_rows, with_edge, path_of, sequence_at, edges_at, gathered_rows, AreAtNodes, HaveNumbersBelow}
 use Rattle.compose_tree.proofs.Gathering.{own_first, other_first, rows_count}
 use Rattle.compose_tree.proofs.Adding.{Adds, adds_at}
 
@@ -36,10 +36,10 @@ unfolding counted_if
 none_from i e es h = ap (counted_if i es e) (lt-leb i e.node h)
 
 -- the edges of a node, and those of the nodes after it
-pub of_node_and_behind : (i : ℕ) (es : List NodeEdge) → length (edges_at i es) + edges_from (i + 1) es ≡ edges_from i es
-of_node_and_behind i [] = omega arith
-of_node_and_behind i (e ∷ es) =
-    let rest = of_node_and_behind i es in
+pub node_and_later : (i : ℕ) (es : List NodeEdge) → length (edges_at i es) + edges_from (i + 1) es ≡ edges_from i es
+node_and_later i [] = omega arith
+node_and_later i (e ∷ es) =
+    let rest = node_and_later i es in
     elim (cases_lt e.node i) [
       | inl below ↦
           (let own = ap length (other_first i e es (λ at. omega (arith, at, below))) in let here = none_from i e es below in
@@ -78,15 +78,15 @@ abbrev edge_total : List NodeRow → ℕ
 edge_total [] = 0
 edge_total (row ∷ rows) = length row.edges + edge_total rows
 
-total_gathered : (i : ℕ) (ds : List ℕ) (es : List NodeEdge) → edge_total (gathered i ds es) + edges_from (i + length ds) es ≡ edges_from i es
+total_gathered : (i : ℕ) (ds : List ℕ) (es : List NodeEdge) → edge_total (gathered_rows i ds es) + edges_from (i + length ds) es ≡ edges_from i es
 total_gathered i [] es = let same = ap (λ n. edges_from n es) (add-zero i) in omega arith
 total_gathered i (d ∷ ds) es =
-    let first = of_node_and_behind i es in let rest = total_gathered (1 + i) ds es in
+    let first = node_and_later i es in let rest = total_gathered (1 + i) ds es in
     let next = let n : i + 1 ≡ 1 + i = omega arith in ap (λ n. edges_from n es) n in
     let end = let n : i + length (d ∷ ds) ≡ 1 + i + length ds = omega arith in ap (λ n. edges_from n es) n in
     omega (arith, first, rest, next, end)
 
-edges_total : (ds : List ℕ) (es : List NodeEdge) → AreAtNodes (length ds) es → length es ≡ edge_total (gathered 0 ds es)
+edges_total : (ds : List ℕ) (es : List NodeEdge) → AreAtNodes (length ds) es → length es ≡ edge_total (gathered_rows 0 ds es)
 edges_total ds es at_nodes =
     let total = total_gathered 0 ds es in let all = all_from es in
     let end = ap (λ n. edges_from n es) (zero-add (length ds)) ∙ nothing_from (length ds) es at_nodes in
@@ -133,7 +133,7 @@ total_prefix all (suc i) settled h =
     omega (arith, before, added, few, same)
 
 -- a settled table has at most 32 edges for each definition
-pub edges_few_in_all : (table : List Definition) (ds : List ℕ) (es : List NodeEdge) → IsSettled table → AreAtNodes (length ds) es → gathered 0 ds es ≡ rows_of table → length es ≤ 32 * length table
+pub edges_few_in_all : (table : List Definition) (ds : List ℕ) (es : List NodeEdge) → IsSettled table → AreAtNodes (length ds) es → gathered_rows 0 ds es ≡ rows_of table → length es ≤ 32 * length table
 edges_few_in_all table ds es settled at_nodes is =
     let total = edges_total ds es at_nodes in let same = ap edge_total is in
     let prefix = total_prefix table (length table) settled (omega arith) in let whole = ap (λ t. edge_total (rows_of t)) (take-length table) in
@@ -160,14 +160,14 @@ known_at P n (e ∷ es) all (suc k) d h at = known_at P n es (elim (cases_Bool (
   | inr other ↦ subst (All P) (other_first n e es (eqb-false e.node n other)) all
 ]) k d (omega arith) at
 
-row_gathered : (i n : ℕ) (ds : List ℕ) (es : List NodeEdge) (d : NodeRow) → n < length ds → (get_or (gathered i ds es) n d).edges ≡ edges_at (i + n) es
+row_gathered : (i n : ℕ) (ds : List ℕ) (es : List NodeEdge) (d : NodeRow) → n < length ds → (get_or (gathered_rows i ds es) n d).edges ≡ edges_at (i + n) es
 row_gathered i n [] es d h = absurd (omega arith)
 row_gathered i zero (c ∷ ds) es d h = ap (λ m. edges_at m es) (sym (add-zero i))
 row_gathered i (suc n) (c ∷ ds) es d h = let e : 1 + i + n ≡ i + suc n = omega arith in row_gathered (1 + i) n ds es d (omega arith) ∙ ap (λ m. edges_at m es) e
 
 -- each edge of the rows leads to one of the nodes or leaves
 pub numbers_few : (table : List Definition) (ds : List ℕ) (es : List NodeEdge) (end : ℕ) → length (nodes table) < end → length (leaves table) < end → AreAtNodes (length ds) es
-    → gathered 0 ds es ≡ rows_of table → HaveNumbersBelow end es
+    → gathered_rows 0 ds es ≡ rows_of table → HaveNumbersBelow end es
 numbers_few table ds es end n l at_nodes is k d h =
     let node = (get_or es k d).node in
     let none : NodeRow = record { depth = 0; edges = [] } in

@@ -5,7 +5,7 @@ use Rattle.std.specs.Option.{option_map}
 use Rattle.keysym_core.specs.Names.{KeysymNames}
 use Rattle.compose_model.specs.declared.Rule.{Rule}
 use Rattle.compose_read.specs.Lines.{Source}
-use Rattle.compose_tree.specs.TableGives.{first_table, table_of}
+use Rattle.compose_tree.specs.TableReturns.{first_table, table_of}
 
 -- the first source has the root's name
 pub root_named : (names : KeysymNames) (sources : List Source) (root : List ℕ) (rule : Rule) → Some root ≡ option_map (λ (s : Source). s.name) (slice_get sources 0)

@@ -8,7 +8,7 @@ use Rattle.std.proofs.lemmas.List.{append-nil, map-append, map-set, get_or-map}
 use Rattle.std.proofs.lemmas.List.Elements.{filter-append, All-head, All-tail}
 use Rattle.compose_tree.specs.declared.edge.Edge.{Edge}
 use Rattle.compose_tree.specs.declared.edge.NodeEdge.{NodeEdge}
-use Rattle.compose_tree.specs.Rows.{NodeRow, row_at, with_edge, counts_of, edges_at, gathered, AreAtNodes}
+use Rattle.compose_tree.specs.Rows.{NodeRow, row_at, with_edge, counts_of, edges_at, gathered_rows, AreAtNodes}
 
 -- ---- the edges of one node
 
@@ -49,7 +49,7 @@ no_edges i (e ∷ es) below =
 -- ---- one more edge
 
 -- an edge at none of these nodes changes none of their rows
-gathered_elsewhere : (i : ℕ) (ds : List ℕ) (es : List NodeEdge) (e : NodeEdge) → ((j : ℕ) → i ≤ j → j < i + length ds → e.node ≡ j → ⊥) → gathered i ds (es ++ e ∷ []) ≡ gathered i ds es
+gathered_elsewhere : (i : ℕ) (ds : List ℕ) (es : List NodeEdge) (e : NodeEdge) → ((j : ℕ) → i ≤ j → j < i + length ds → e.node ≡ j → ⊥) → gathered_rows i ds (es ++ e ∷ []) ≡ gathered_rows i ds es
 gathered_elsewhere i [] es e apart = refl
 gathered_elsewhere i (d ∷ ds) es e apart =
     let here = other_last i es e (apart i (omega arith) (omega arith)) in
@@ -57,7 +57,7 @@ gathered_elsewhere i (d ∷ ds) es e apart =
     λ t. record { depth = d; edges = here t } ∷ later t
 
 -- an edge at node k of these, which is number i + k of all
-gathered_edge : (i k : ℕ) (ds : List ℕ) (es : List NodeEdge) (e : NodeEdge) → e.node ≡ i + k → k < length ds → gathered i ds (es ++ e ∷ []) ≡ with_edge (gathered i ds es) k e.edge
+gathered_edge : (i k : ℕ) (ds : List ℕ) (es : List NodeEdge) (e : NodeEdge) → e.node ≡ i + k → k < length ds → gathered_rows i ds (es ++ e ∷ []) ≡ with_edge (gathered_rows i ds es) k e.edge
 gathered_edge i k [] es e at h = absurd (omega arith)
 gathered_edge i zero (d ∷ ds) es e at h =
     let here = own_last i es e (omega arith) in
@@ -69,34 +69,34 @@ gathered_edge i (suc k) (d ∷ ds) es e at h =
     λ t. record { depth = d; edges = here t } ∷ later t
 
 -- one more edge is at its node
-pub edge_gathered : (ds : List ℕ) (es : List NodeEdge) (e : NodeEdge) → e.node < length ds → gathered 0 ds (es ++ e ∷ []) ≡ with_edge (gathered 0 ds es) e.node e.edge
+pub edge_gathered : (ds : List ℕ) (es : List NodeEdge) (e : NodeEdge) → e.node < length ds → gathered_rows 0 ds (es ++ e ∷ []) ≡ with_edge (gathered_rows 0 ds es) e.node e.edge
 edge_gathered ds es e h = gathered_edge 0 e.node ds es e (omega arith) h
 
 -- there are as many rows as depths
-pub rows_count : (i : ℕ) (ds : List ℕ) (es : List NodeEdge) → length (gathered i ds es) ≡ length ds
+pub rows_count : (i : ℕ) (ds : List ℕ) (es : List NodeEdge) → length (gathered_rows i ds es) ≡ length ds
 rows_count i [] es = refl
 rows_count i (d ∷ ds) es = ap suc (rows_count (1 + i) ds es)
 
 -- ---- one more row
 
-gathered_row : (i : ℕ) (ds : List ℕ) (d : ℕ) (es : List NodeEdge) → gathered i (ds ++ d ∷ []) es ≡ gathered i ds es ++ record { depth = d; edges = edges_at (i + length ds) es } ∷ []
+gathered_row : (i : ℕ) (ds : List ℕ) (d : ℕ) (es : List NodeEdge) → gathered_rows i (ds ++ d ∷ []) es ≡ gathered_rows i ds es ++ record { depth = d; edges = edges_at (i + length ds) es } ∷ []
 gathered_row i [] d es = let e : i ≡ i + 0 = omega arith in λ t. record { depth = d; edges = edges_at (e t) es } ∷ []
 gathered_row i (c ∷ ds) d es =
     let row : NodeRow = record { depth = c; edges = edges_at i es } in
     let e : (1 + i) + length ds ≡ i + suc (length ds) = omega arith in
-    ap (λ rows. row ∷ rows) (gathered_row (1 + i) ds d es ∙ (λ t. gathered (1 + i) ds es ++ record { depth = d; edges = edges_at (e t) es } ∷ []))
+    ap (λ rows. row ∷ rows) (gathered_row (1 + i) ds d es ∙ (λ t. gathered_rows (1 + i) ds es ++ record { depth = d; edges = edges_at (e t) es } ∷ []))
 
 -- a row with one edge
 pub row_opened : (ds ds' : List ℕ) (es es' : List NodeEdge) (depth node : ℕ) (edge : Edge) → AreAtNodes (length ds) es → node ≡ length ds → ds' ≡ ds ++ depth ∷ []
     → es' ≡ es ++ record { node = node; edge = edge } ∷ []
-    → gathered 0 ds' es' ≡ gathered 0 ds es ++ record { depth = depth; edges = edge ∷ [] } ∷ []
+    → gathered_rows 0 ds' es' ≡ gathered_rows 0 ds es ++ record { depth = depth; edges = edge ∷ [] } ∷ []
 row_opened ds ds' es es' depth node edge below last longer more =
     let e : NodeEdge = record { node = node; edge = edge } in
     let one : edges_at (0 + length ds) (es ++ e ∷ []) ≡ edge ∷ [] =
     ap (λ n. edges_at n (es ++ e ∷ [])) (zero-add (length ds)) ∙ own_last (length ds) es e last ∙ ap (λ x. x ++ edge ∷ []) (no_edges (length ds) es below) in
-    ap (λ x. gathered 0 x es') longer ∙ ap (gathered 0 (ds ++ depth ∷ [])) more ∙ gathered_row 0 ds depth (es ++ e ∷ [])
+    ap (λ x. gathered_rows 0 x es') longer ∙ ap (gathered_rows 0 (ds ++ depth ∷ [])) more ∙ gathered_row 0 ds depth (es ++ e ∷ [])
     ∙ ap (λ rows. rows ++ record { depth = depth; edges = edges_at (0 + length ds) (es ++ e ∷ []) } ∷ []) (gathered_elsewhere 0 ds es e (λ j from under same. omega arith))
-    ∙ (λ t. gathered 0 ds es ++ record { depth = depth; edges = one t } ∷ [])
+    ∙ (λ t. gathered_rows 0 ds es ++ record { depth = depth; edges = one t } ∷ [])
 
 -- ---- along the edges
 
@@ -114,18 +114,18 @@ node_there ds es k e at_nodes h is = let n : e.node ≡ (get_or es k e).node = a
 
 -- the rows with the edges up to and with the one at an index
 pub next_gathered : (ds : List ℕ) (es : List NodeEdge) (k : ℕ) (e : NodeEdge) → AreAtNodes (length ds) es → k < length es → e ≡ get_or es k e
-    → gathered 0 ds (take (k + 1) es) ≡ with_edge (gathered 0 ds (take k es)) e.node e.edge
-next_gathered ds es k e at_nodes h is = ap (gathered 0 ds) (one_more_edge es k e h is) ∙ edge_gathered ds (take k es) e (node_there ds es k e at_nodes h is)
+    → gathered_rows 0 ds (take (k + 1) es) ≡ with_edge (gathered_rows 0 ds (take k es)) e.node e.edge
+next_gathered ds es k e at_nodes h is = ap (gathered_rows 0 ds) (one_more_edge es k e h is) ∙ edge_gathered ds (take k es) e (node_there ds es k e at_nodes h is)
 
 -- ---- counts
 
 -- without an edge each node has the count 0
-pub counts_none : (i : ℕ) (ds : List ℕ) → counts_of (gathered i ds []) ≡ replicate (length ds) 0
+pub counts_none : (i : ℕ) (ds : List ℕ) → counts_of (gathered_rows i ds []) ≡ replicate (length ds) 0
 counts_none i [] = refl
 counts_none i (d ∷ ds) = ap (λ x. 0 ∷ x) (counts_none (1 + i) ds)
 
 -- the count of a node is the number of its edges
-pub count_at : (i k d : ℕ) (ds : List ℕ) (es : List NodeEdge) → k < length ds → get_or (counts_of (gathered i ds es)) k d ≡ length (edges_at (i + k) es)
+pub count_at : (i k d : ℕ) (ds : List ℕ) (es : List NodeEdge) → k < length ds → get_or (counts_of (gathered_rows i ds es)) k d ≡ length (edges_at (i + k) es)
 count_at i k d [] es h = absurd (omega arith)
 count_at i zero d (c ∷ ds) es h = let e : i ≡ i + 0 = omega arith in ap (λ n. length (edges_at n es)) e
 count_at i (suc k) d (c ∷ ds) es h = let e : (1 + i) + k ≡ i + suc k = omega arith in count_at (1 + i) k d ds es (omega arith) ∙ ap (λ n. length (edges_at n es)) e

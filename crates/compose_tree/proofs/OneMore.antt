@@ -18,7 +18,7 @@ use Rattle.compose_model.proofs.NodeLemmas.{same_is, same_from, node_means, exte
 use Rattle.compose_model.proofs.Lift.{not_extended}
 use Rattle.compose_model.proofs.Sorted.{nodes_sorted, rising_sorted}
 use Rattle.compose_model.proofs.SameTable.{one_rising, extended_by}
-use Rattle.compose_tree.proofs.Prefixes.{Before, or_false, before_longer, not_before_prefix, prefix_before, root_before, last_before, prefix_of_joined, prefix_of_longer, begins, begins_at, last_is, behind_sorted, prefixes_sorted, joined_sorted, all_found, all_before_longer, all_found_keys, one_rising_keys}
+use Rattle.compose_tree.proofs.Prefixes.{Before, or_false, before_longer, not_before_prefix, prefix_before, root_before, last_before, prefix_of_joined, prefix_of_longer, begins, begins_at, last_is, after_sorted, prefixes_sorted, joined_sorted, all_found, all_before_longer, all_found_keys, one_rising_keys}
 use Rattle.compose_tree.specs.declared.table.Target.{Target}
 use Rattle.compose_tree.specs.declared.table.Target.TheVariants.{Node, Leaf}
 use Rattle.compose_tree.specs.Targets.{leaf_number}
@@ -90,29 +90,29 @@ index_in_prefix q (x ∷ xs) ys h = go (q x) h (index_in_prefix q xs ys)
     go false h f = ap (λ n. 1 + n) (f h)
 
 -- an index at which a test holds only in the second list comes after the first list
-pub index_behind : {X : Type 0} (q : X → Bool) (xs ys : List X) → list_any q xs ≡ false → position_or_len q (xs ++ ys) ≡ length xs + position_or_len q ys
-index_behind q [] ys h = omega arith
-index_behind q (x ∷ xs) ys h = go (q x) h (index_behind q xs ys)
+pub index_after : {X : Type 0} (q : X → Bool) (xs ys : List X) → list_any q xs ≡ false → position_or_len q (xs ++ ys) ≡ length xs + position_or_len q ys
+index_after q [] ys h = omega arith
+index_after q (x ∷ xs) ys h = go (q x) h (index_after q xs ys)
   where
     go : (b : Bool) → b || list_any q xs ≡ false → (list_any q xs ≡ false → position_or_len q (xs ++ ys) ≡ length xs + position_or_len q ys)
         → cond (not b) (1 + position_or_len q (xs ++ ys)) 0 ≡ length (x ∷ xs) + position_or_len q ys
     go true h f = cc
     go false h f = let e : position_or_len q (xs ++ ys) ≡ length xs + position_or_len q ys = f h in omega arith
 
-same_behind : (q x y : List ℕ) → same (q ++ x) (q ++ y) ≡ same x y
-same_behind [] x y = refl
-same_behind (k ∷ q) x y = rw (eq-eqb k k refl) (same_behind q x y)
+same_after_prefix : (q x y : List ℕ) → same (q ++ x) (q ++ y) ≡ same x y
+same_after_prefix [] x y = refl
+same_after_prefix (k ∷ q) x y = rw (eq-eqb k k refl) (same_after_prefix q x y)
 
 -- a common prefix doesn't change indexes
-pub index_behind_prefix : (q y : List ℕ) (zs : List (List ℕ)) → position_or_len (same (q ++ y)) (map (λ z. q ++ z) zs) ≡ position_or_len (same y) zs
-index_behind_prefix q y [] = refl
-index_behind_prefix q y (z ∷ zs) =
-    ap (λ b. cond (not b) (1 + position_or_len (same (q ++ y)) (map (λ z. q ++ z) zs)) 0) (same_behind q y z) ∙ ap (λ n. cond (not (same y z)) (1 + n) 0) (index_behind_prefix q y zs)
+pub index_after_prefix : (q y : List ℕ) (zs : List (List ℕ)) → position_or_len (same (q ++ y)) (map (λ z. q ++ z) zs) ≡ position_or_len (same y) zs
+index_after_prefix q y [] = refl
+index_after_prefix q y (z ∷ zs) =
+    ap (λ b. cond (not b) (1 + position_or_len (same (q ++ y)) (map (λ z. q ++ z) zs)) 0) (same_after_prefix q y z) ∙ ap (λ n. cond (not (same y z)) (1 + n) 0) (index_after_prefix q y zs)
 
 -- the index of a proper prefix is its length
 pub index_of_prefix : (y : List ℕ) (j : ℕ) (r : List ℕ) → position_or_len (same y) (proper_prefixes (y ++ j ∷ r)) ≡ length y
 index_of_prefix [] j r = refl
-index_of_prefix (i ∷ y) j r = ap (λ n. 1 + n) (index_behind_prefix (i ∷ []) y (proper_prefixes (y ++ j ∷ r)) ∙ index_of_prefix y j r) ∙ one-add (length y)
+index_of_prefix (i ∷ y) j r = ap (λ n. 1 + n) (index_after_prefix (i ∷ []) y (proper_prefixes (y ++ j ∷ r)) ∙ index_of_prefix y j r) ∙ one-add (length y)
 
 -- ---- small facts
 
@@ -187,7 +187,7 @@ module _ (table : List Definition) (d : Definition) (p : List ℕ) (k : ℕ) (re
   pub nodes_more : nodes (table ++ d ∷ []) ≡ nodes table ++ new_nodes
   nodes_more =
       one_rising (nodes (table ++ d ∷ [])) (nodes table ++ new_nodes) (nodes_sorted (table ++ d ∷ []))
-      (joined_sorted (slice_cmp nat_cmp) (nodes table) new_nodes (nodes_sorted table) (behind_sorted (p ++ k ∷ []) (proper_prefixes rest) (prefixes_sorted rest))
+      (joined_sorted (slice_cmp nat_cmp) (nodes table) new_nodes (nodes_sorted table) (after_sorted (p ++ k ∷ []) (proper_prefixes rest) (prefixes_sorted rest))
       (all_found (λ x. AllByRecursion (λ y. slice_cmp nat_cmp x y ≡ Less) new_nodes) (nodes table) (λ x h. all_before_longer x (p ++ k ∷ []) (proper_prefixes rest) (node_before x h))))
       node_more
 
@@ -219,8 +219,8 @@ module _ (table : List Definition) (d : Definition) (p : List ℕ) (k : ℕ) (re
   pub new_number : (y : List ℕ) (j : ℕ) (r : List ℕ) → rest ≡ y ++ j ∷ r → number_of (table ++ d ∷ []) ((p ++ k ∷ []) ++ y) ≡ length (nodes table) + length y
   new_number y j r e =
       let q = p ++ k ∷ [] in
-      ap (position_or_len (same (q ++ y))) nodes_more ∙ index_behind (same (q ++ y)) (nodes table) new_nodes (no_node y)
-      ∙ ap (λ i. length (nodes table) + i) (index_behind_prefix q y (proper_prefixes rest) ∙ ap (λ z. position_or_len (same y) (proper_prefixes z)) e ∙ index_of_prefix y j r)
+      ap (position_or_len (same (q ++ y))) nodes_more ∙ index_after (same (q ++ y)) (nodes table) new_nodes (no_node y)
+      ∙ ap (λ i. length (nodes table) + i) (index_after_prefix q y (proper_prefixes rest) ∙ ap (λ z. position_or_len (same y) (proper_prefixes z)) e ∙ index_of_prefix y j r)
 
   -- each prefix from which the next sequence continues is a node
   pub new_node : (y : List ℕ) (j : ℕ) (r : List ℕ) → rest ≡ y ++ j ∷ r → is_node (table ++ d ∷ []) ((p ++ k ∷ []) ++ y) ≡ true
@@ -296,8 +296,8 @@ module _ (table : List Definition) (d : Definition) (p : List ℕ) (k : ℕ) (re
       edges_are (table ++ d ∷ []) x (edges table x) (edges_sorted table x)
       (λ j. edge_at_node x j h ∙ ap (λ b. has_edge table x j || (b && j == k)) other ∙ or_false (has_edge table x j) ∙ sym (edge_is_listed table x j))
 
-  no_edge_behind : (y : List ℕ) (j : ℕ) → has_edge table ((p ++ k ∷ []) ++ y) j ≡ false
-  no_edge_behind y j =
+  no_edge_after : (y : List ℕ) (j : ℕ) → has_edge table ((p ++ k ∷ []) ++ y) j ≡ false
+  no_edge_after y j =
       let q = p ++ k ∷ [] in
       or_from (is_node table ((q ++ y) ++ j ∷ [])) (is_sequence table ((q ++ y) ++ j ∷ [])) (ap (is_node table) (append_assoc q y (j ∷ [])) ∙ no_node (y ++ j ∷ []))
       (ap (is_sequence table) (append_assoc q y (j ∷ [])) ∙ no_sequence (y ++ j ∷ []))
@@ -307,7 +307,7 @@ module _ (table : List Definition) (d : Definition) (p : List ℕ) (k : ℕ) (re
   edges_at_new y j r e =
       let q = p ++ k ∷ [] in
       edges_are (table ++ d ∷ []) (q ++ y) (j ∷ []) (one_sorted j)
-      (λ i. edge_more table d (q ++ y) i ∙ ap (λ b. b || begins ((q ++ y) ++ i ∷ []) d.sequence) (no_edge_behind y i)
+      (λ i. edge_more table d (q ++ y) i ∙ ap (λ b. b || begins ((q ++ y) ++ i ∷ []) d.sequence) (no_edge_after y i)
       ∙ ap (begins ((q ++ y) ++ i ∷ [])) (n.sequence ∙ ap (λ z. q ++ z) e ∙ sym (append_assoc q y (j ∷ r))) ∙ begins_at (q ++ y) i j r ∙ sym (or_false (i == j)))
 
   -- ---- leaves
@@ -347,6 +347,6 @@ module _ (table : List Definition) (d : Definition) (p : List ℕ) (k : ℕ) (re
       ∙ at_leaf (table ++ d ∷ []) d.sequence (node_means (table ++ d ∷ []) d.sequence ∙ or_from (same d.sequence []) (is_extended (table ++ d ∷ []) d.sequence)
       (ap (λ z. same z []) n.sequence ∙ never_root p k rest) (not_extended (table ++ d ∷ []) d.sequence n.free new_sequence))
       ∙ ap (λ i. Leaf (record { 0 = i })) (ap (position_or_len (same d.sequence)) leaves_more
-      ∙ index_behind (same d.sequence) (leaves table) (d.sequence ∷ []) (is_leaf table d.sequence ∙ ap (is_sequence table) n.sequence ∙ no_sequence rest)
+      ∙ index_after (same d.sequence) (leaves table) (d.sequence ∷ []) (is_leaf table d.sequence ∙ ap (is_sequence table) n.sequence ∙ no_sequence rest)
       ∙ ap (λ b. length (leaves table) + cond (not b) (1 + 0) 0) (same_from d.sequence d.sequence refl) ∙ add-zero (length (leaves table)))
   new_lead y (j ∷ r) e = at_node (table ++ d ∷ []) ((p ++ k ∷ []) ++ y) (new_node y j r e) ∙ ap (λ i. Node (record { 0 = i })) (new_number y j r e)

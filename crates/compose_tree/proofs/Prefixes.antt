@@ -45,19 +45,19 @@ before_longer (j ∷ x) [] y h = cc
 before_longer (j ∷ x) (k ∷ q) y h = then_step (nat_cmp j k) (slice_cmp nat_cmp x q) (slice_cmp nat_cmp x (q ++ y)) (before_longer x q y) h
 
 -- after the same first keysym the order is that of the rests
-behind_same : (k : ℕ) (x y : List ℕ) → slice_cmp nat_cmp (k ∷ x) (k ∷ y) ≡ slice_cmp nat_cmp x y
-behind_same k x y = ap (λ o. ordering_then o (slice_cmp nat_cmp x y)) (tied_itself nat_cmp_total k)
+after_same : (k : ℕ) (x y : List ℕ) → slice_cmp nat_cmp (k ∷ x) (k ∷ y) ≡ slice_cmp nat_cmp x y
+after_same k x y = ap (λ o. ordering_then o (slice_cmp nat_cmp x y)) (tied_itself nat_cmp_total k)
 
 -- lists after the same prefix compare as without it
 pub behind_prefix : (q x y : List ℕ) → slice_cmp nat_cmp (q ++ x) (q ++ y) ≡ slice_cmp nat_cmp x y
 behind_prefix [] x y = refl
-behind_prefix (k ∷ q) x y = behind_same k (q ++ x) (q ++ y) ∙ behind_prefix q x y
+behind_prefix (k ∷ q) x y = after_same k (q ++ x) (q ++ y) ∙ behind_prefix q x y
 
 -- no list is before a list that is a prefix of it
 pub not_before_prefix : (q y : List ℕ) → Before (q ++ y) q → ⊥
 not_before_prefix [] [] h = cc
 not_before_prefix [] (k ∷ y) h = cc
-not_before_prefix (k ∷ q) y h = not_before_prefix q y (sym (behind_same k (q ++ y) q) ∙ h)
+not_before_prefix (k ∷ q) y h = not_before_prefix q y (sym (after_same k (q ++ y) q) ∙ h)
 
 -- a proper prefix comes before its extensions
 pub prefix_before : (p s : List ℕ) → is_proper_prefix p s ≡ true → Before p s
@@ -66,7 +66,7 @@ prefix_before [] (k ∷ s) h = refl
 prefix_before (j ∷ p) (k ∷ s) h =
     let both = and_parts (j == k) (is_proper_prefix p s) h in
     let is : j ≡ k = eqb-true j k both.0 in
-    subst (λ (i : ℕ). slice_cmp nat_cmp (j ∷ p) (i ∷ s) ≡ Less) is (behind_same j p s ∙ prefix_before p s both.1)
+    subst (λ (i : ℕ). slice_cmp nat_cmp (j ∷ p) (i ∷ s) ≡ Less) is (after_same j p s ∙ prefix_before p s both.1)
 
 -- the empty list comes before every other
 pub root_before : (p : List ℕ) (k : ℕ) → Before [] (p ++ k ∷ [])
@@ -153,7 +153,7 @@ last_is (b ∷ x) j [] k y e h = absurd (let is : b ≡ k = cc in not_before_pre
 last_is (b ∷ x) j (a ∷ p) k y e h =
     let is : b ≡ a = cc in
     let tails : x ++ j ∷ [] ≡ (p ++ k ∷ []) ++ y = cc in
-    let less : Before x (p ++ k ∷ []) = sym (behind_same a x (p ++ k ∷ [])) ∙ ap (λ i. slice_cmp nat_cmp (i ∷ x) (a ∷ p ++ k ∷ [])) (sym is) ∙ h in
+    let less : Before x (p ++ k ∷ []) = sym (after_same a x (p ++ k ∷ [])) ∙ ap (λ i. slice_cmp nat_cmp (i ∷ x) (a ∷ p ++ k ∷ [])) (sym is) ∙ h in
     rw (eq-eqb b a is) (last_is x j p k y tails less)
 
 -- ---- the prefixes in order
@@ -167,20 +167,20 @@ all_weaker P Q f [] a = tt
 all_weaker P Q f (x ∷ xs) a = (f x a.0, all_weaker P Q f xs a.1)
 
 -- after a common prefix a sorted list stays sorted
-pub behind_sorted : (q : List ℕ) (xs : List (List ℕ)) → IsStrictlySortedBy (slice_cmp nat_cmp) xs → IsStrictlySortedBy (slice_cmp nat_cmp) (map (λ x. q ++ x) xs)
+pub after_sorted : (q : List ℕ) (xs : List (List ℕ)) → IsStrictlySortedBy (slice_cmp nat_cmp) xs → IsStrictlySortedBy (slice_cmp nat_cmp) (map (λ x. q ++ x) xs)
 unfolding IsStrictlySortedBy
-behind_sorted q [] s = tt
-behind_sorted q (x ∷ xs) s = (
+after_sorted q [] s = tt
+after_sorted q (x ∷ xs) s = (
   all_map (λ y. slice_cmp nat_cmp (q ++ x) y ≡ Less) (λ y. q ++ y) xs
       (all_weaker (λ y. slice_cmp nat_cmp x y ≡ Less) (λ y. slice_cmp nat_cmp (q ++ x) (q ++ y) ≡ Less) (λ y h. behind_prefix q x y ∙ h) xs s.0),
-  behind_sorted q xs s.1,
+  after_sorted q xs s.1,
 )
 
 -- the proper prefixes of a list are strictly increasing
 pub prefixes_sorted : (s : List ℕ) → IsStrictlySortedBy (slice_cmp nat_cmp) (proper_prefixes s)
 unfolding IsStrictlySortedBy
 prefixes_sorted [] = tt
-prefixes_sorted (k ∷ s) = (first (proper_prefixes s), behind_sorted (k ∷ []) (proper_prefixes s) (prefixes_sorted s))
+prefixes_sorted (k ∷ s) = (first (proper_prefixes s), after_sorted (k ∷ []) (proper_prefixes s) (prefixes_sorted s))
   where
     first : (xs : List (List ℕ)) → AllByRecursion (λ y. slice_cmp nat_cmp [] y ≡ Less) (map (λ p. k ∷ p) xs)
     first [] = tt

@@ -16,8 +16,8 @@ use Rattle.compose_model.proofs.SameTable.{one_rising, extended_from}
 use Rattle.compose_read.specs.Settle.{IsSettled}
 use Rattle.compose_tree.specs.declared.edge.Edge.{Edge}
 use Rattle.compose_tree.specs.Rows.{NodeRow, where_to, edge_of, row_of, rows_of}
-use Rattle.compose_tree.specs.Packed.{spelled, spelled_behind}
-use Rattle.compose_tree.proofs.Prefixes.{behind_sorted, joined_sorted, prefix_of_longer}
+use Rattle.compose_tree.specs.Packed.{spelled, spelled_after}
+use Rattle.compose_tree.proofs.Prefixes.{after_sorted, joined_sorted, prefix_of_longer}
 use Rattle.compose_tree.proofs.OneMore.{edges_sorted, edge_is_listed, is_leaf, leaves_sorted, at_node, at_leaf, not_root}
 use Rattle.compose_model.proofs.Definitions.{sequence_some}
 use Rattle.compose_tree.proofs.Lookups.{node_few}
@@ -61,20 +61,20 @@ all_append : {X : Type 0} (P : X → Type 0) (xs ys : List X) → AllByRecursion
 all_append P [] ys a b = b
 all_append P (x ∷ xs) ys a b = (a.0, all_append P xs ys a.1 b)
 
-all_behind_key : (x : List ℕ) (k j : ℕ) (vs : List (List ℕ)) → nat_cmp k j ≡ Less → AllByRecursion (λ y. slice_cmp nat_cmp (k ∷ x) y ≡ Less) (map (λ v. j ∷ v) vs)
-all_behind_key x k j [] h = tt
-all_behind_key x k j (v ∷ vs) h = (ap (λ o. ordering_then o (slice_cmp nat_cmp x v)) h, all_behind_key x k j vs h)
+all_after_key : (x : List ℕ) (k j : ℕ) (vs : List (List ℕ)) → nat_cmp k j ≡ Less → AllByRecursion (λ y. slice_cmp nat_cmp (k ∷ x) y ≡ Less) (map (λ v. j ∷ v) vs)
+all_after_key x k j [] h = tt
+all_after_key x k j (v ∷ vs) h = (ap (λ o. ordering_then o (slice_cmp nat_cmp x v)) h, all_after_key x k j vs h)
 
-all_behind_keys : (x : List ℕ) (k : ℕ) (g : ℕ → List (List ℕ)) (ks : List ℕ) → AllByRecursion (λ j. nat_cmp k j ≡ Less) ks
+all_after_keys : (x : List ℕ) (k : ℕ) (g : ℕ → List (List ℕ)) (ks : List ℕ) → AllByRecursion (λ j. nat_cmp k j ≡ Less) ks
     → AllByRecursion (λ y. slice_cmp nat_cmp (k ∷ x) y ≡ Less) (flat_map (λ j. map (λ v. j ∷ v) (g j)) ks)
-all_behind_keys x k g [] a = tt
-all_behind_keys x k g (j ∷ ks) a =
-    all_append (λ y. slice_cmp nat_cmp (k ∷ x) y ≡ Less) (map (λ v. j ∷ v) (g j)) (flat_map (λ j. map (λ v. j ∷ v) (g j)) ks) (all_behind_key x k j (g j) a.0) (all_behind_keys x k g ks a.1)
+all_after_keys x k g [] a = tt
+all_after_keys x k g (j ∷ ks) a =
+    all_append (λ y. slice_cmp nat_cmp (k ∷ x) y ≡ Less) (map (λ v. j ∷ v) (g j)) (flat_map (λ j. map (λ v. j ∷ v) (g j)) ks) (all_after_key x k j (g j) a.0) (all_after_keys x k g ks a.1)
 
 each_behind : (k : ℕ) (g : ℕ → List (List ℕ)) (ks : List ℕ) (xs : List (List ℕ)) → AllByRecursion (λ j. nat_cmp k j ≡ Less) ks
     → AllByRecursion (λ x. AllByRecursion (λ y. slice_cmp nat_cmp x y ≡ Less) (flat_map (λ j. map (λ v. j ∷ v) (g j)) ks)) (map (λ v. k ∷ v) xs)
 each_behind k g ks [] a = tt
-each_behind k g ks (x ∷ xs) a = (all_behind_keys x k g ks a, each_behind k g ks xs a)
+each_behind k g ks (x ∷ xs) a = (all_after_keys x k g ks a, each_behind k g ks xs a)
 
 -- sorted groups after increasing keysyms are sorted
 groups_sorted : (g : ℕ → List (List ℕ)) (ks : List ℕ) → IsStrictlySortedBy nat_cmp ks → ((k : ℕ) → IsStrictlySortedBy (slice_cmp nat_cmp) (g k))
@@ -82,7 +82,7 @@ groups_sorted : (g : ℕ → List (List ℕ)) (ks : List ℕ) → IsStrictlySort
 unfolding IsStrictlySortedBy
 groups_sorted g [] s h = tt
 groups_sorted g (k ∷ ks) s h =
-    joined_sorted (slice_cmp nat_cmp) (map (λ v. k ∷ v) (g k)) (flat_map (λ j. map (λ v. j ∷ v) (g j)) ks) (behind_sorted (k ∷ []) (g k) (h k)) (groups_sorted g ks s.1 h)
+    joined_sorted (slice_cmp nat_cmp) (map (λ v. k ∷ v) (g k)) (flat_map (λ j. map (λ v. j ∷ v) (g j)) ks) (after_sorted (k ∷ []) (g k) (h k)) (groups_sorted g ks s.1 h)
     (each_behind k g ks (g k) s.0)
 
 nothing_sorted : IsStrictlySortedBy (slice_cmp nat_cmp) []
@@ -96,13 +96,13 @@ one_list_sorted x = (tt, tt)
 module _ (table : List Definition) (s : IsSettled table) where
   -- the lists that continue after the keysym k of a node
   behind : ℕ → List ℕ → ℕ → List (List ℕ)
-  behind f p k = spelled_behind (where_to table (p ++ k ∷ [])) (λ n. spelled (rows_of table) f n)
+  behind f p k = spelled_after (where_to table (p ++ k ∷ [])) (λ n. spelled (rows_of table) f n)
 
   -- the lists spelled from a node, edge by edge
   spelled_at : (f : ℕ) (p : List ℕ) → is_node table p ≡ true → spelled (rows_of table) (suc f) (number_of table p) ≡ flat_map (λ k. map (λ w. k ∷ w) (behind f p k)) (edges table p)
   unfolding behind
   spelled_at f p h =
-      let g : Edge → List (List ℕ) = λ e. map (λ w. e.keysym ∷ w) (spelled_behind e.target (λ n. spelled (rows_of table) f n)) in
+      let g : Edge → List (List ℕ) = λ e. map (λ w. e.keysym ∷ w) (spelled_after e.target (λ n. spelled (rows_of table) f n)) in
       ap (λ (r : NodeRow). flat_map g r.edges)
       (get_or-map (row_of table) (nodes table) (number_of table p) [] (record { depth = 0; edges = [] }) (number_below table p h) ∙ ap (row_of table) (node_at_number table p h))
       ∙ flat_map_of_map g (edge_of table p) (edges table p)
@@ -113,13 +113,13 @@ module _ (table : List Definition) (s : IsSettled table) where
     | inr e ↦ e
   ]
 
-  node_behind : (f : ℕ) (p : List ℕ) (k : ℕ) → is_node table (p ++ k ∷ []) ≡ true → behind f p k ≡ spelled (rows_of table) f (number_of table (p ++ k ∷ []))
+  node_after : (f : ℕ) (p : List ℕ) (k : ℕ) → is_node table (p ++ k ∷ []) ≡ true → behind f p k ≡ spelled (rows_of table) f (number_of table (p ++ k ∷ []))
   unfolding behind
-  node_behind f p k h = ap (λ t. spelled_behind t (λ n. spelled (rows_of table) f n)) (at_node table (p ++ k ∷ []) h)
+  node_after f p k h = ap (λ t. spelled_after t (λ n. spelled (rows_of table) f n)) (at_node table (p ++ k ∷ []) h)
 
-  leaf_behind : (f : ℕ) (p : List ℕ) (k : ℕ) → is_node table (p ++ k ∷ []) ≡ false → behind f p k ≡ [] ∷ []
+  leaf_after : (f : ℕ) (p : List ℕ) (k : ℕ) → is_node table (p ++ k ∷ []) ≡ false → behind f p k ≡ [] ∷ []
   unfolding behind
-  leaf_behind f p k h = ap (λ t. spelled_behind t (λ n. spelled (rows_of table) f n)) (at_leaf table (p ++ k ∷ []) h)
+  leaf_after f p k h = ap (λ t. spelled_after t (λ n. spelled (rows_of table) f n)) (at_leaf table (p ++ k ∷ []) h)
 
   key_extends : (p : List ℕ) (k : ℕ) → is_node table (p ++ k ∷ []) ≡ true → is_extended table (p ++ k ∷ []) ≡ true
   key_extends p k h = ap (λ b. b || is_extended table (p ++ k ∷ [])) (sym (not_root p k)) ∙ sym (node_means table (p ++ k ∷ [])) ∙ h
@@ -157,9 +157,9 @@ module _ (table : List Definition) (s : IsSettled table) where
       ap (list_any (same (k ∷ w))) (spelled_at f p h) ∙ in_group k w (behind f p) (edges table p) ∙ ap (λ b. b && list_any (same w) (behind f p k)) (edge_is_listed table p k)
       ∙ elim (cases_Bool (is_node table q)) [
         | inl e ↦ (let n : length q ≡ length p + 1 = length-append p (k ∷ []) in
-            ap (λ b. (b || is_sequence table q) && list_any (same w) (behind f p k)) e ∙ ap (list_any (same w)) (node_behind f p k e)
+            ap (λ b. (b || is_sequence table q) && list_any (same w) (behind f p k)) e ∙ ap (list_any (same w)) (node_after f p k e)
             ∙ along_node q w (list_any (same w) (spelled (rows_of table) f (number_of table q))) (key_extends p k e) (spelled_means f q w e (omega arith)))
-        | inr e ↦ ap (λ b. (b || is_sequence table q) && list_any (same w) (behind f p k)) e ∙ ap (λ xs. is_sequence table q && list_any (same w) xs) (leaf_behind f p k e) ∙ along_leaf q w e
+        | inr e ↦ ap (λ b. (b || is_sequence table q) && list_any (same w) (behind f p k)) e ∙ ap (λ xs. is_sequence table q && list_any (same w) xs) (leaf_after f p k e) ∙ along_leaf q w e
       ]
       ∙ ap (is_sequence table) (append_assoc p (k ∷ []) w)
 
@@ -171,8 +171,8 @@ module _ (table : List Definition) (s : IsSettled table) where
       group : (k : ℕ) → ((q : List ℕ) → is_node table q ≡ true → IsStrictlySortedBy (slice_cmp nat_cmp) (spelled (rows_of table) f (number_of table q)))
           → IsStrictlySortedBy (slice_cmp nat_cmp) (behind f p k)
       group k later = elim (cases_Bool (is_node table (p ++ k ∷ []))) [
-        | inl e ↦ subst (IsStrictlySortedBy (slice_cmp nat_cmp)) (sym (node_behind f p k e)) (later (p ++ k ∷ []) e)
-        | inr e ↦ subst (IsStrictlySortedBy (slice_cmp nat_cmp)) (sym (leaf_behind f p k e)) (one_list_sorted [])
+        | inl e ↦ subst (IsStrictlySortedBy (slice_cmp nat_cmp)) (sym (node_after f p k e)) (later (p ++ k ∷ []) e)
+        | inr e ↦ subst (IsStrictlySortedBy (slice_cmp nat_cmp)) (sym (leaf_after f p k e)) (one_list_sorted [])
       ]
 
   never_empty : is_sequence table [] ≡ false

@@ -90,9 +90,9 @@ leads table p k = go (is_node table (p ++ k ∷ [])) (is_sequence table (p ++ k 
 
 -- the effect of a key with this target that is not ignored; the flag is true if nothing is pending
 abbrev pub effect_at : Bool → Option Target → Effect
-effect_at rests (Some (Node n)) = extends
-effect_at rests (Some (Leaf l)) = completes
-effect_at rests None = cond rests passes cancels
+effect_at nothing_pending (Some (Node n)) = extends
+effect_at nothing_pending (Some (Leaf l)) = completes
+effect_at nothing_pending None = cond nothing_pending passes cancels
 
 -- the effect of a key that isn't ignored depends only on its target and on whether anything is pending
 pub effect_by_target : (table : List Definition) (p : List ℕ) (k : ℕ) → is_ignored k ≡ false → effect table p k ≡ effect_at (is_empty p) (target_of table p k)

@@ -1,4 +1,4 @@
 pub mod Targets
 pub mod Rows
 pub mod Packed
-pub mod TableGives
+pub mod TableReturns

@@ -65,14 +65,14 @@ unpacked_texts (a ∷ []) bytes = []
 unpacked_texts (a ∷ b ∷ offsets) bytes = take (b - a) (drop a bytes) ∷ unpacked_texts (b ∷ offsets) bytes
 
 -- the lists of keysyms after an edge: all lists from a node, or the empty one from a leaf
-abbrev pub spelled_behind : Target → (ℕ → List (List ℕ)) → List (List ℕ)
-spelled_behind (Node n) more = more n.0
-spelled_behind (Leaf l) more = [] ∷ []
+abbrev pub spelled_after : Target → (ℕ → List (List ℕ)) → List (List ℕ)
+spelled_after (Node n) more = more n.0
+spelled_after (Leaf l) more = [] ∷ []
 
 -- the lists of keysyms that lead from a node to leaves, in order, up to a length
 abbrev pub spelled : List NodeRow → ℕ → ℕ → List (List ℕ)
 spelled rows zero i = []
-spelled rows (suc keysyms) i = flat_map (λ e. map (λ s. e.keysym ∷ s) (spelled_behind e.target (λ n. spelled rows keysyms n))) (row_at rows i).edges
+spelled rows (suc keysyms) i = flat_map (λ e. map (λ s. e.keysym ∷ s) (spelled_after e.target (λ n. spelled rows keysyms n))) (row_at rows i).edges
 
 abbrev pub with_texts : List (List ℕ) → List (List ℕ) → List Definition
 with_texts [] texts = []

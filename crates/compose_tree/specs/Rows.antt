@@ -49,9 +49,9 @@ abbrev pub edges_at : ℕ → List NodeEdge → List Edge
 edges_at i edges = map (λ e. e.edge) (filter (λ e. nat_eq e.node i) edges)
 
 -- the rows of the nodes of these depths, the first of which is node i
-abbrev pub gathered : ℕ → List ℕ → List NodeEdge → List NodeRow
-gathered i [] edges = []
-gathered i (depth ∷ depths) edges = record { depth = depth; edges = edges_at i edges } ∷ gathered (1 + i) depths edges
+abbrev pub gathered_rows : ℕ → List ℕ → List NodeEdge → List NodeRow
+gathered_rows i [] edges = []
+gathered_rows i (depth ∷ depths) edges = record { depth = depth; edges = edges_at i edges } ∷ gathered_rows (1 + i) depths edges
 
 -- each edge belongs to one of the first `count` nodes
 abbrev pub AreAtNodes : ℕ → List NodeEdge → Type 0

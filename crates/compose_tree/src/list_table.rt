@@ -1,7 +1,7 @@
 //! The plain form of a table: its sequences, and for each node a row of edges.
 ghost use Rattle.std.specs.Prelude.{◌≡◌, ◌<◌, ◌++◌, ℕ, [], ◌∷◌, length, nat_eq, option_map, slice_index, MatchOption, OnOk, IfOk};
 ghost use Rattle.std.specs.List.{find};
-ghost use Rattle.compose_tree.specs.Rows.{keysyms_of, with_edge, gathered, AreAtNodes};
+ghost use Rattle.compose_tree.specs.Rows.{keysyms_of, with_edge, gathered_rows, AreAtNodes};
 
 use crate::edge::{Edge, NodeEdge};
 use crate::rows::build_rows;
@@ -77,7 +77,7 @@ impl Model for ListTable {
 
 /// Returns a row without edges for each depth.
 fn open_rows(alloc: Global, depths: &[u32]) -> Result<Vec<Row>, AllocError>
-    ensures { IfOk result (λ rows. rows.items ≡ gathered 0 depths.now []) }
+    ensures { IfOk result (λ rows. rows.items ≡ gathered_rows 0 depths.now []) }
 {
     let mut rows = Vec::with_capacity(alloc, depths.len())?;
     for depth in depths {
@@ -100,7 +100,7 @@ fn push_edge(rows: &mut Vec<Row>, node: u32, edge: Edge) -> Result<(), AllocErro
 /// Returns the rows of nodes of these depths, with these edges.
 fn list_rows(alloc: Global, depths: &[u32], edges: &[NodeEdge]) -> Result<Vec<Row>, AllocError>
     requires { AreAtNodes (length depths.now) edges.now }
-    ensures { IfOk result (λ rows. rows.items ≡ gathered 0 depths.now edges.now) }
+    ensures { IfOk result (λ rows. rows.items ≡ gathered_rows 0 depths.now edges.now) }
 {
     let mut rows = open_rows(alloc, depths)?;
     for node_edge in edges {

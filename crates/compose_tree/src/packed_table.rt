@@ -23,7 +23,7 @@ ghost use Rattle.std.specs.Prelude.{◌≡◌, ◌<◌, ◌≤◌, ◌+◌, ◌+
 ghost use Rattle.std.specs.List.{list_all};
 ghost use Rattle.std.specs.List.Sorted.{IsStrictlyIncreasing};
 ghost use Rattle.std.specs.Str.{is_utf8};
-ghost use Rattle.compose_tree.specs.Rows.{counts_of, gathered, target_number, AreAtNodes, HaveNumbersBelow};
+ghost use Rattle.compose_tree.specs.Rows.{counts_of, gathered_rows, target_number, AreAtNodes, HaveNumbersBelow};
 ghost use Rattle.compose_tree.specs.Packed as words;
 ghost use Rattle.compose_tree.specs.Packed.{keys_of, packed_edge, packed_target, unpacked_target, packed_nodes, packed_edges, packed_offsets, pool, texts_of};
 
@@ -99,7 +99,7 @@ pub fn unpack_target(code: u32) -> Target
 fn count_edges(alloc: Global, depths: &[u32], edges: &[NodeEdge]) -> Result<Vec<u32>, AllocError>
     requires at_nodes { AreAtNodes (length depths.now) edges.now }
     requires few { length edges.now < 4294967296 }
-    ensures { IfOk result (λ counts. counts.items ≡ counts_of (gathered 0 depths.now edges.now)) }
+    ensures { IfOk result (λ counts. counts.items ≡ counts_of (gathered_rows 0 depths.now edges.now)) }
 {
     let mut counts = vec![in alloc; 0; depths.len()]?;
     for edge in edges {
@@ -119,7 +119,7 @@ fn pack_nodes(
     requires at_nodes { AreAtNodes (length depths.now) edges.now }
     requires few { length edges.now < 4294967296 }
     ensures { IfOk result
-        (λ nodes. nodes.items ≡ packed_nodes 0 (gathered 0 depths.now edges.now)) }
+        (λ nodes. nodes.items ≡ packed_nodes 0 (gathered_rows 0 depths.now edges.now)) }
 {
     let counts = count_edges(alloc, depths, edges)?;
     let mut nodes = Vec::with_capacity(alloc, depths.len().saturating_add(1))?;
@@ -160,9 +160,9 @@ fn pack_edges(
 ) -> Result<Vec<PackedEdge>, AllocError>
     requires at_nodes { AreAtNodes (length depths.now) edges.now }
     requires numbers { HaveNumbersBelow 2147483648 edges.now }
-    requires nodes { nodes.now ≡ packed_nodes 0 (gathered 0 depths.now edges.now) }
+    requires nodes { nodes.now ≡ packed_nodes 0 (gathered_rows 0 depths.now edges.now) }
     ensures { IfOk result
-        (λ packed. packed.items ≡ packed_edges (gathered 0 depths.now edges.now)) }
+        (λ packed. packed.items ≡ packed_edges (gathered_rows 0 depths.now edges.now)) }
 {
     let blank = PackedEdge {
         keysym: Keysym::default(),

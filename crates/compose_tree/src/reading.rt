@@ -1,6 +1,6 @@
 //! Reading tables from sources.
 ghost use Rattle.std.specs.Prelude.{◌≡◌, [], Err};
-ghost use Rattle.compose_tree.specs.TableGives.{TableGives, first_table, table_of};
+ghost use Rattle.compose_tree.specs.TableReturns.{TableReturns, first_table, table_of};
 
 use crate::table::{BuildFault, ComposeTable};
 use compose_model::Rule;
@@ -28,7 +28,7 @@ pub enum TableFault {
 
 impl From<ReadFault> for TableFault {
     ghost use Rattle.std.specs.Prelude.{◌≡◌};
-    ghost use Rattle.compose_tree.specs.TableGives.{read_raised};
+    ghost use Rattle.compose_tree.specs.TableReturns.{read_raised};
 
     ghost from_gives = { λ fault e. e ≡ read_raised fault };
 
@@ -42,7 +42,7 @@ impl From<ReadFault> for TableFault {
 
 impl From<SettleFault> for TableFault {
     ghost use Rattle.std.specs.Prelude.{◌≡◌};
-    ghost use Rattle.compose_tree.specs.TableGives.{settle_raised};
+    ghost use Rattle.compose_tree.specs.TableReturns.{settle_raised};
 
     ghost from_gives = { λ fault e. e ≡ settle_raised fault };
 
@@ -56,7 +56,7 @@ impl From<SettleFault> for TableFault {
 
 impl From<BuildFault> for TableFault {
     ghost use Rattle.std.specs.Prelude.{◌≡◌};
-    ghost use Rattle.compose_tree.specs.TableGives.{build_raised};
+    ghost use Rattle.compose_tree.specs.TableReturns.{build_raised};
 
     ghost from_gives = { λ fault e. e ≡ build_raised fault };
 
@@ -81,7 +81,7 @@ pub fn read_table<T: ComposeTable>(
     root: &str,
     rule: Rule,
 ) -> Result<T, TableFault>
-    ensures { TableGives T.definitions result (table_of names.now sources.now root.now rule) }
+    ensures { TableReturns T.definitions result (table_of names.now sources.now root.now rule) }
 {
     let definitions = read_definitions(alloc, names, sources, root)?;
     let sequences = settle(alloc, definitions, rule)?;
@@ -98,7 +98,7 @@ pub fn read_first_table<T: ComposeTable>(
     sources: &Sources,
     rule: Rule,
 ) -> Result<T, TableFault>
-    ensures value { TableGives T.definitions result (first_table names.now sources.now rule) }
+    ensures value { TableReturns T.definitions result (first_table names.now sources.now rule) }
     ensures no_source { sources.now ≡ [] → result ≡ Err (TableFault.Read ReadFault.MissingRoot) }
 {
     let Some(root) = sources.name(0) else {

@@ -33,18 +33,18 @@ pub struct Rows {
 
 impl Model for Rows {
     ghost use Rattle.std.specs.Prelude.{List, length};
-    ghost use Rattle.compose_tree.specs.Rows.{NodeRow, gathered, AreAtNodes};
+    ghost use Rattle.compose_tree.specs.Rows.{NodeRow, gathered_rows, AreAtNodes};
 
     ghost Value = { List NodeRow };
 
-    ghost view = { λ r. gathered 0 r.depths.items r.edges.items };
+    ghost view = { λ r. gathered_rows 0 r.depths.items r.edges.items };
 
     ghost invariant = { λ r. AreAtNodes (length r.depths.items) r.edges.items };
 }
 
 impl Rows {
     ghost use Rattle.std.specs.Prelude.{◌≡◌, ◌<◌, ◌++◌, [], ◌∷◌, length, OnOk, IfOk};
-    ghost use Rattle.compose_tree.specs.Rows.{rows_of, with_edge, gathered, AreAtNodes};
+    ghost use Rattle.compose_tree.specs.Rows.{rows_of, with_edge, gathered_rows, AreAtNodes};
 
     /// Makes the row of the root alone, with room for two edges per sequence. O(1).
     fn root(alloc: Global, sequence_count: usize) -> Result<Rows, AllocError>
@@ -66,7 +66,7 @@ impl Rows {
     /// Returns the depth of each node, and the edges with their nodes; those of each node are in
     /// increasing order of keysyms. O(1).
     pub fn parts(&self) -> (&[u32], &[NodeEdge])
-        ensures rows { gathered 0 result.0.now result.1.now ≡ self.now }
+        ensures rows { gathered_rows 0 result.0.now result.1.now ≡ self.now }
         ensures at_nodes { AreAtNodes (length result.0.now) result.1.now }
     {
         (self.depths.as_slice(), self.edges.as_slice())

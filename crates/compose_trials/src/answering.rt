@@ -2,7 +2,7 @@
 use crate::failure::Failure;
 use crate::input::{read_requests, start_service};
 use crate::marks::mark;
-use crate::output::{say, say_reply};
+use crate::output::{print_line, print_reply};
 use compose_service::Service;
 use compose_tree::PackedTable;
 use compose_wire::{Reply, Request};
@@ -34,7 +34,7 @@ pub fn answer_all(
 ) -> Result<(), Failure> {
     for request in &read_requests(rt, path)? {
         let reply = answer(rt, service, request);
-        say_reply(rt, &reply)?;
+        print_reply(rt, &reply)?;
     }
     Ok(())
 }
@@ -53,7 +53,7 @@ fn answer_one(rt: &HostRuntime, service: &mut Service<PackedTable>) -> Result<()
     mark(rt);
     let reply = answer(rt, service, request);
     mark(rt);
-    say_reply(rt, &reply)
+    print_reply(rt, &reply)
 }
 
 /// Answers requests in one call.
@@ -63,15 +63,15 @@ fn run(rt: &HostRuntime, service: &mut Service<PackedTable>) -> Result<(), Failu
     let ran = service.run(rt.alloc(), &requests);
     mark(rt);
     match ran {
-        Ok(replies) => say_replies(rt, &replies),
-        Err(fault) => say(rt, fault),
+        Ok(replies) => print_replies(rt, &replies),
+        Err(fault) => print_line(rt, fault),
     }
 }
 
 /// Prints each reply.
-fn say_replies(rt: &HostRuntime, replies: &[Reply]) -> Result<(), Failure> {
+fn print_replies(rt: &HostRuntime, replies: &[Reply]) -> Result<(), Failure> {
     for reply in replies {
-        say_reply(rt, reply)?;
+        print_reply(rt, reply)?;
     }
     Ok(())
 }

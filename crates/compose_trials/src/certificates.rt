@@ -1,8 +1,8 @@
 //! A certificate's text, cut at each place, and with each byte replaced by every other.
-use crate::checking::{Parts, check_with, read_parts, say_verdict};
+use crate::checking::{Parts, check_with, print_verdict, read_parts};
 use crate::failure::Failure;
 use crate::input::read_file;
-use crate::output::say;
+use crate::output::print_line;
 use compose_check::Verdict;
 
 /// Prints the answer to each prefix of the certificate that lacks a byte, and each change of a byte
@@ -22,7 +22,7 @@ fn try_with(rt: &HostRuntime, parts: &Parts) -> Result<(), Failure> {
 /// Prints the answer to each prefix that lacks a byte.
 fn try_prefixes(rt: &HostRuntime, parts: &Parts, certificate: &[u8]) -> Result<(), Failure> {
     for end in 0..certificate.len() {
-        say_verdict(rt, check_with(rt, parts, &certificate[..end]))?;
+        print_verdict(rt, check_with(rt, parts, &certificate[..end]))?;
     }
     Ok(())
 }
@@ -48,8 +48,8 @@ fn try_bytes(
     for byte in 0..=u8::MAX {
         put(certificate, index, byte);
         if byte != right && is_valid(rt, parts, certificate) {
-            say(rt, index)?;
-            say(rt, byte)?;
+            print_line(rt, index)?;
+            print_line(rt, byte)?;
         }
     }
     put(certificate, index, right);

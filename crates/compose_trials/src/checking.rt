@@ -2,7 +2,7 @@
 use crate::failure::Failure;
 use crate::input::{read_file, read_sources};
 use crate::marks::mark;
-use crate::output::say;
+use crate::output::print_line;
 use compose_check::{CheckInput, InputFault, Verdict, check_bytes};
 use compose_model::Rule;
 use compose_read::Sources;
@@ -61,11 +61,14 @@ pub fn check_with(
 }
 
 /// Prints the answer to a certificate. `Err(System)` if the output fails.
-pub fn say_verdict(rt: &HostRuntime, verdict: Result<Verdict, InputFault>) -> Result<(), Failure> {
+pub fn print_verdict(
+    rt: &HostRuntime,
+    verdict: Result<Verdict, InputFault>,
+) -> Result<(), Failure> {
     match verdict {
-        Ok(Verdict::Yes) => say(rt, "yes"),
-        Ok(Verdict::No(fault)) => say(rt, fault),
-        Err(fault) => say(rt, fault),
+        Ok(Verdict::Yes) => print_line(rt, "yes"),
+        Ok(Verdict::No(fault)) => print_line(rt, fault),
+        Err(fault) => print_line(rt, fault),
     }
 }
 
@@ -81,5 +84,5 @@ fn check_marked(rt: &HostRuntime, parts: &Parts) -> Result<(), Failure> {
     mark(rt);
     let verdict = check_with(rt, parts, &certificate);
     mark(rt);
-    say_verdict(rt, verdict)
+    print_verdict(rt, verdict)
 }

@@ -1,8 +1,8 @@
 //! A stream of as many frames as are answered, and one more.
 use crate::failure::Failure;
 use crate::input::start_service;
-use crate::output::say;
-use crate::serving::{say_end, serve};
+use crate::output::print_line;
+use crate::serving::{print_end, serve};
 use compose_serve::Device;
 use compose_service::Service;
 use compose_tree::PackedTable;
@@ -77,7 +77,7 @@ fn serve_frames(rt: &HostRuntime, service: &mut Service<PackedTable>) -> Result<
         others: 0,
     };
     let ended = serve(rt, service, &mut reader, &mut Device::new(&mut writer));
-    say_end(rt, ended)?;
-    say(rt, writer.replies)?;
-    say(rt, writer.others)
+    print_end(rt, ended)?;
+    print_line(rt, writer.replies)?;
+    print_line(rt, writer.others)
 }

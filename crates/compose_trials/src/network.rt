@@ -5,7 +5,7 @@ ghost use Rattle.compose_hub.specs.Sockets.{KeepsBytes};
 ghost use Rattle.compose_trials.specs.Network.{stream_at};
 
 use crate::chance::Chance;
-use compose_hub::{Accepted, Ready, Sockets};
+use compose_hub::{AcceptedStream, Ready, Sockets};
 use compose_many::{Streams, TryError};
 use indexmap::IndexMap;
 use std::alloc::Global;
@@ -17,14 +17,14 @@ pub mod client;
 pub mod marks;
 pub mod schedule;
 
-use client::Client;
+use client::TestClient;
 use marks::Marks;
 
 /// The clients, and the random numbers that determine what happens to their streams. Reads and
 /// writes go to the chosen client.
 #[derive(Drop)]
 pub struct Clients {
-    clients: Vec<Client>,
+    clients: Vec<TestClient>,
     chance: Chance,
     chosen: usize,
     /// The number of clients that have connected.
@@ -35,28 +35,28 @@ pub struct Clients {
 
 impl Clients {
     /// Returns the client with this number, counted from 1.
-    fn at(&mut self, number: u64) -> Option<&mut Client> {
+    fn at(&mut self, number: u64) -> Option<&mut TestClient> {
         let index = (number as usize).checked_sub(1)?;
         self.clients.get_mut(index)
     }
 
     /// Accepts the next client as the connection with this number, under this key, or not, at
     /// random.
-    fn accept(&mut self, number: u64, key: usize) -> Accepted {
+    fn accept(&mut self, number: u64, key: usize) -> AcceptedStream {
         match self.chance.below(16) {
-            0 => return Accepted::GivenUp,
-            1 => return Accepted::Fails,
+            0 => return AcceptedStream::GivenUp,
+            1 => return AcceptedStream::Fails,
             _ => {}
         }
         if number as usize > self.connected {
-            return Accepted::NoneWaits;
+            return AcceptedStream::NoneWaits;
         }
         match self.at(number) {
             Some(client) => {
                 client.key = Some(key);
-                Accepted::Connection
+                AcceptedStream::Connection
             }
-            None => Accepted::NoneWaits,
+            None => AcceptedStream::NoneWaits,
         }
     }
 
@@ -132,7 +132,7 @@ pub struct Network {
 impl Network {
     /// Makes a network of these clients, with these random numbers, in which at most this number of
     /// milliseconds pass at once.
-    pub fn new(alloc: Global, clients: Vec<Client>, chance: Chance, longest: usize) -> Network {
+    pub fn new(alloc: Global, clients: Vec<TestClient>, chance: Chance, longest: usize) -> Network {
         Network {
             clients: Clients {
                 clients,
@@ -146,17 +146,17 @@ impl Network {
     }
 
     /// Returns the clients, in the order of their numbers.
-    pub fn clients(&self) -> &[Client] {
+    pub fn clients(&self) -> &[TestClient] {
         self.clients.clients.as_slice()
     }
 
     /// Keeps the marks of a connection that is accepted.
-    fn admit(&mut self, number: u64) -> Accepted
+    fn admit(&mut self, number: u64) -> AcceptedStream
         ensures { KeepsBytes number (λ c. stream_at self.old.marks c) (λ c. stream_at self.new.marks c) }
     {
         match self.marks.insert(number, Marks::new()) {
-            Ok(_) => Accepted::Connection,
-            Err(_) => Accepted::GivenUp,
+            Ok(_) => AcceptedStream::Connection,
+            Err(_) => AcceptedStream::GivenUp,
         }
     }
 }
@@ -184,12 +184,12 @@ impl Streams for Network {
 impl Sockets for Network {
     ghost attempts = { λ n. None };
 
-    fn accept(&mut self, number: u64, key: usize) -> Accepted {
+    fn accept(&mut self, number: u64, key: usize) -> AcceptedStream {
         if self.marks.contains_key(&number) {
-            return Accepted::GivenUp;
+            return AcceptedStream::GivenUp;
         }
         match self.clients.accept(number, key) {
-            Accepted::Connection => self.admit(number),
+            AcceptedStream::Connection => self.admit(number),
             other => other,
         }
     }

@@ -4,7 +4,7 @@ use compose_wire::{Reply, put_reply};
 use std::fmt::Display;
 
 /// Prints a line. `Err(System)` if the output fails.
-pub fn say<D: Display + Drop>(rt: &HostRuntime, line: D) -> Result<(), Failure> {
+pub fn print_line<D: Display + Drop>(rt: &HostRuntime, line: D) -> Result<(), Failure> {
     match println!(rt; "{line}") {
         Ok(()) => Ok(()),
         Err(_) => Err(Failure::System),
@@ -21,14 +21,14 @@ fn hexadecimal(rt: &HostRuntime, bytes: &[u8]) -> Result<String, Failure> {
 
 /// Prints bytes in hexadecimal. `Err(System)` if the output fails, `Err(NoMemory)` if memory runs
 /// out.
-pub fn say_bytes(rt: &HostRuntime, bytes: &[u8]) -> Result<(), Failure> {
+pub fn print_bytes(rt: &HostRuntime, bytes: &[u8]) -> Result<(), Failure> {
     let text = hexadecimal(rt, bytes)?;
-    say(rt, text.as_str())
+    print_line(rt, text.as_str())
 }
 
 /// Prints the frame of a reply in hexadecimal. `Err(System)` if the output fails, `Err(NoMemory)`
 /// if memory runs out.
-pub fn say_reply(rt: &HostRuntime, reply: &Reply) -> Result<(), Failure> {
+pub fn print_reply(rt: &HostRuntime, reply: &Reply) -> Result<(), Failure> {
     let frame = put_reply(reply);
-    say_bytes(rt, frame.as_slice())
+    print_bytes(rt, frame.as_slice())
 }

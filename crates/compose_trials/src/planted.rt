@@ -3,7 +3,7 @@ use crate::answering::{answer, answer_all};
 use crate::failure::Failure;
 use crate::input::{read_requests, start_service};
 use crate::marks::mark;
-use crate::output::{say, say_reply};
+use crate::output::{print_line, print_reply};
 use compose_service::Service;
 use compose_tree::PackedTable;
 use std::mem;
@@ -28,9 +28,9 @@ fn leak(rt: &HostRuntime) -> Result<(), Failure> {
     match taken {
         Ok(block) => {
             mem::forget(block);
-            say(rt, "yes")
+            print_line(rt, "yes")
         }
-        Err(_) => say(rt, "NoMemory"),
+        Err(_) => print_line(rt, "NoMemory"),
     }
 }
 
@@ -41,10 +41,10 @@ fn leak_at_a_refusal(rt: &HostRuntime) -> Result<(), Failure> {
     let second: Result<_, _> = Vec::from_slice(rt.alloc(), b"refused");
     mark(rt);
     if second.is_ok() && first.is_ok() {
-        return say(rt, "yes");
+        return print_line(rt, "yes");
     }
     mem::forget(first);
-    say(rt, "NoMemory")
+    print_line(rt, "NoMemory")
 }
 
 /// Answers that memory ran out, even if it did not.
@@ -53,8 +53,8 @@ fn refuse_nothing(rt: &HostRuntime) -> Result<(), Failure> {
     let taken: Result<_, _> = Vec::from_slice(rt.alloc(), b"given");
     mark(rt);
     match taken {
-        Ok(_) => say(rt, "NoMemory"),
-        Err(_) => say(rt, "NoMemory"),
+        Ok(_) => print_line(rt, "NoMemory"),
+        Err(_) => print_line(rt, "NoMemory"),
     }
 }
 
@@ -88,9 +88,9 @@ fn open_anyway(
     for request in &read_requests(rt, "tried")? {
         let reply = answer(rt, service, request);
         if has_room {
-            say_reply(rt, &reply)?;
+            print_reply(rt, &reply)?;
         } else {
-            say(rt, "ff00000009000000020009")?;
+            print_line(rt, "ff00000009000000020009")?;
         }
     }
     Ok(())

@@ -3,7 +3,7 @@ use crate::checking::check;
 use crate::failure::Failure;
 use crate::input::{Start, read_file, read_sources, read_start, start_with};
 use crate::marks::mark;
-use crate::output::{say, say_bytes};
+use crate::output::{print_bytes, print_line};
 use compose_bundle::write_bundle;
 use compose_read::Sources;
 use keysym_core::Names;
@@ -34,13 +34,13 @@ fn read_names(rt: &HostRuntime, header: &[u8], word: &[u8]) -> Result<(), Failur
     let read = Names::read(rt.alloc(), header);
     mark(rt);
     match read {
-        Ok(names) => say_text(rt, &names, word),
-        Err(fault) => say(rt, fault),
+        Ok(names) => print_key_text(rt, &names, word),
+        Err(fault) => print_line(rt, fault),
     }
 }
 
 /// Prints the text of a key.
-fn say_text(rt: &HostRuntime, names: &Names, word: &[u8]) -> Result<(), Failure> {
+fn print_key_text(rt: &HostRuntime, names: &Names, word: &[u8]) -> Result<(), Failure> {
     let Ok(word) = str::from_utf8(word) else {
         return Err(Failure::Input);
     };
@@ -48,8 +48,8 @@ fn say_text(rt: &HostRuntime, names: &Names, word: &[u8]) -> Result<(), Failure>
         return Err(Failure::Input);
     };
     match names.text_of(keysym) {
-        Some(character) => say(rt, character),
-        None => say(rt, "nothing"),
+        Some(character) => print_line(rt, character),
+        None => print_line(rt, "nothing"),
     }
 }
 
@@ -66,15 +66,15 @@ fn add_new(rt: &HostRuntime, sources: &mut Sources) -> Result<(), Failure> {
     let added = sources.add("new", bytes);
     mark(rt);
     if let Err(fault) = added {
-        say(rt, fault)?;
+        print_line(rt, fault)?;
         add_again(rt, sources)?;
     }
-    say_sources(rt, sources)
+    print_sources(rt, sources)
 }
 
 /// Prints the sources, and adds the second one again.
 fn add_again(rt: &HostRuntime, sources: &mut Sources) -> Result<(), Failure> {
-    say_sources(rt, sources)?;
+    print_sources(rt, sources)?;
     let bytes = read_file(rt, "new")?;
     match sources.add("new", bytes) {
         Ok(()) => Ok(()),
@@ -83,12 +83,12 @@ fn add_again(rt: &HostRuntime, sources: &mut Sources) -> Result<(), Failure> {
 }
 
 /// Prints each source: its name, and the number of its bytes.
-fn say_sources(rt: &HostRuntime, sources: &Sources) -> Result<(), Failure> {
+fn print_sources(rt: &HostRuntime, sources: &Sources) -> Result<(), Failure> {
     for index in 0..sources.count() {
         if let Some(name) = sources.name(index) {
-            say(rt, name)?;
+            print_line(rt, name)?;
         }
-        say(rt, sources.bytes(index).len())?;
+        print_line(rt, sources.bytes(index).len())?;
     }
     Ok(())
 }
@@ -106,8 +106,8 @@ fn start_marked(rt: &HostRuntime, parts: Start, certificate: &[u8]) -> Result<()
     let started = start_with(rt, parts, certificate);
     mark(rt);
     match started {
-        Ok(service) => say(rt, service.session_count()),
-        Err(fault) => say(rt, fault),
+        Ok(service) => print_line(rt, service.session_count()),
+        Err(fault) => print_line(rt, fault),
     }
 }
 
@@ -124,7 +124,7 @@ fn write_marked(rt: &HostRuntime, sources: &Sources, certificate: &[u8]) -> Resu
     let written = write_bundle(rt.alloc(), sources, certificate);
     mark(rt);
     match written {
-        Ok(payload) => say_bytes(rt, &payload),
-        Err(fault) => say(rt, fault),
+        Ok(payload) => print_bytes(rt, &payload),
+        Err(fault) => print_line(rt, fault),
     }
 }

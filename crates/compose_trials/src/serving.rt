@@ -2,8 +2,8 @@
 use crate::devices::{Behaviour, TrialReader, TrialWriter};
 use crate::failure::Failure;
 use crate::input::{read_file, start_service};
-use crate::output::{say, say_bytes};
-use compose_serve::{Device, Ended, ServeFault};
+use crate::output::{print_bytes, print_line};
+use compose_serve::{Device, ServeFault, StreamEnd};
 use compose_service::Service;
 use compose_tree::PackedTable;
 use std::io::{Read, Write};
@@ -135,8 +135,8 @@ fn serve_one(
 ) -> Result<(), Failure> {
     let mut writer = TrialWriter::new(rt.alloc(), stream.writing);
     let ended = serve_into(rt, service, stream, &mut writer)?;
-    say_end(rt, ended)?;
-    say_bytes(rt, writer.taken())
+    print_end(rt, ended)?;
+    print_bytes(rt, writer.taken())
 }
 
 /// Serves a stream into this writer.
@@ -145,7 +145,7 @@ fn serve_into(
     service: &mut Service<PackedTable>,
     stream: Stream<'_>,
     writer: &mut TrialWriter,
-) -> Result<Result<Ended, ServeFault>, Failure> {
+) -> Result<Result<StreamEnd, ServeFault>, Failure> {
     let Ok(bytes) = Vec::from_slice(rt.alloc(), stream.bytes) else {
         return Err(Failure::NoMemory);
     };
@@ -159,15 +159,15 @@ pub fn serve<R: Read, W: Write>(
     service: &mut Service<PackedTable>,
     reader: &mut Device<R>,
     writer: &mut Device<W>,
-) -> Result<Ended, ServeFault> {
+) -> Result<StreamEnd, ServeFault> {
     service.serve(rt.alloc(), reader, writer)
 }
 
 /// Prints how a stream ends. `Err(System)` if the output fails.
-pub fn say_end(rt: &HostRuntime, ended: Result<Ended, ServeFault>) -> Result<(), Failure> {
+pub fn print_end(rt: &HostRuntime, ended: Result<StreamEnd, ServeFault>) -> Result<(), Failure> {
     match ended {
-        Ok(Ended::InputEnd) => say(rt, "ended"),
-        Ok(Ended::Malformed) => say(rt, "malformed"),
-        Err(fault) => say(rt, fault),
+        Ok(StreamEnd::InputEnd) => print_line(rt, "ended"),
+        Ok(StreamEnd::Malformed) => print_line(rt, "malformed"),
+        Err(fault) => print_line(rt, fault),
     }
 }

@@ -1,9 +1,9 @@
 //! Streams over a Unix socket inside this process.
 use crate::failure::Failure;
 use crate::input::{read_file, start_service};
-use crate::output::say_bytes;
-use crate::serving::{say_end, serve};
-use compose_serve::{Device, Ended, ServeFault};
+use crate::output::print_bytes;
+use crate::serving::{print_end, serve};
+use compose_serve::{Device, ServeFault, StreamEnd};
 use std::io::{Read, Write};
 use std::net::Shutdown;
 use std::os::unix::net::{UnixListener, UnixStream};
@@ -20,18 +20,18 @@ pub fn try_all(rt: &HostRuntime) -> Result<(), Failure> {
     };
     let client = send(rt, &stream)?;
     let ended = serve_next(rt, &listener)?;
-    say_replies(rt, ended, &client)
+    print_replies(rt, ended, &client)
 }
 
 /// Prints how the stream ended, and what comes back.
-fn say_replies(
+fn print_replies(
     rt: &HostRuntime,
-    ended: Result<Ended, ServeFault>,
+    ended: Result<StreamEnd, ServeFault>,
     client: &UnixStream,
 ) -> Result<(), Failure> {
     let replies = receive(rt, client)?;
-    say_end(rt, ended)?;
-    say_bytes(rt, &replies)
+    print_end(rt, ended)?;
+    print_bytes(rt, &replies)
 }
 
 /// Connects, sends the stream, and ends its side.
@@ -49,7 +49,7 @@ fn send(rt: &HostRuntime, stream: &[u8]) -> Result<UnixStream, Failure> {
 fn serve_next(
     rt: &HostRuntime,
     listener: &UnixListener,
-) -> Result<Result<Ended, ServeFault>, Failure> {
+) -> Result<Result<StreamEnd, ServeFault>, Failure> {
     match listener.accept() {
         Ok((stream, _)) => serve_stream(rt, &stream),
         Err(_) => Err(Failure::System),
@@ -60,7 +60,7 @@ fn serve_next(
 fn serve_stream(
     rt: &HostRuntime,
     stream: &UnixStream,
-) -> Result<Result<Ended, ServeFault>, Failure> {
+) -> Result<Result<StreamEnd, ServeFault>, Failure> {
     let mut service = start_service(rt)?;
     let mut reader = Device::new(stream);
     let mut writer = Device::new(stream);

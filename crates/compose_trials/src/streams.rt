@@ -2,7 +2,7 @@
 use crate::failure::Failure;
 use crate::input::{feed_file, read_file};
 use crate::marks::mark;
-use crate::output::say;
+use crate::output::print_line;
 use compose_wire::{Feeder, Request, WireFault};
 
 /// Feeds the file `before`, and tries the call that the argument names, a second time if the first
@@ -15,7 +15,7 @@ pub fn try_call(rt: &HostRuntime, call: &str) -> Result<(), Failure> {
         "next" => next(rt, &mut feeder)?,
         _ => return Err(Failure::Arguments),
     }
-    say_all(rt, &mut feeder)
+    print_all(rt, &mut feeder)
 }
 
 /// Feeds the file `tried`.
@@ -27,7 +27,7 @@ fn feed(rt: &HostRuntime, feeder: &mut Feeder) -> Result<(), Failure> {
     let Err(fault) = fed else {
         return Ok(());
     };
-    say_held(rt, fault, feeder)?;
+    print_held(rt, fault, feeder)?;
     match feeder.feed(&piece) {
         Ok(()) => Ok(()),
         Err(_) => Err(Failure::NoMemory),
@@ -40,20 +40,20 @@ fn next(rt: &HostRuntime, feeder: &mut Feeder) -> Result<(), Failure> {
     let given = feeder.next_request(rt.alloc());
     mark(rt);
     match given {
-        Ok(Some(request)) => say_request(rt, &request),
-        Ok(None) => say(rt, "none"),
-        Err(fault) => say_held(rt, fault, feeder),
+        Ok(Some(request)) => print_request(rt, &request),
+        Ok(None) => print_line(rt, "none"),
+        Err(fault) => print_held(rt, fault, feeder),
     }
 }
 
 /// Prints a refusal, and the number of bytes that are held.
-fn say_held(rt: &HostRuntime, fault: WireFault, feeder: &Feeder) -> Result<(), Failure> {
-    say(rt, fault)?;
-    say(rt, feeder.held())
+fn print_held(rt: &HostRuntime, fault: WireFault, feeder: &Feeder) -> Result<(), Failure> {
+    print_line(rt, fault)?;
+    print_line(rt, feeder.held())
 }
 
 /// Prints a request.
-fn say_request(rt: &HostRuntime, request: &Request) -> Result<(), Failure> {
+fn print_request(rt: &HostRuntime, request: &Request) -> Result<(), Failure> {
     match println!(rt; "{request:?}") {
         Ok(()) => Ok(()),
         Err(_) => Err(Failure::System),
@@ -61,12 +61,12 @@ fn say_request(rt: &HostRuntime, request: &Request) -> Result<(), Failure> {
 }
 
 /// Prints the requests, until there is none.
-fn say_all(rt: &HostRuntime, feeder: &mut Feeder) -> Result<(), Failure> {
+fn print_all(rt: &HostRuntime, feeder: &mut Feeder) -> Result<(), Failure> {
     for _ in 0..=feeder.held() {
         match feeder.next_request(rt.alloc()) {
-            Ok(Some(request)) => say_request(rt, &request)?,
-            Ok(None) => return say(rt, feeder.held()),
-            Err(fault) => return say(rt, fault),
+            Ok(Some(request)) => print_request(rt, &request)?,
+            Ok(None) => return print_line(rt, feeder.held()),
+            Err(fault) => return print_line(rt, fault),
         }
     }
     Ok(())

@@ -2,7 +2,7 @@
 use crate::failure::Failure;
 use crate::input::{read_names, read_repertoire, read_table};
 use crate::marks::mark;
-use crate::output::say;
+use crate::output::print_line;
 use compose_cert::{Certificate, Repertoire};
 use compose_make::{Made, MakeFault, make};
 use compose_tree::PackedTable;
@@ -53,10 +53,10 @@ fn try_make(rt: &HostRuntime, tables: &Tables) -> Result<(), Failure> {
     let made = make_with(rt, tables, &repertoire);
     mark(rt);
     match made {
-        Ok(Made::Made(certificate)) => say_certificate(rt, &certificate),
-        Ok(Made::Unreachable(character)) => say(rt, ShownChar(character)),
-        Ok(Made::Differs(counterexample)) => say_evidence(rt, &tables.names, &counterexample),
-        Err(fault) => say(rt, fault),
+        Ok(Made::Made(certificate)) => print_certificate(rt, &certificate),
+        Ok(Made::Unreachable(character)) => print_line(rt, ShownChar(character)),
+        Ok(Made::Differs(counterexample)) => print_evidence(rt, &tables.names, &counterexample),
+        Err(fault) => print_line(rt, fault),
     }
 }
 
@@ -77,21 +77,21 @@ fn make_with(
 }
 
 /// Prints the text of a certificate.
-fn say_certificate(rt: &HostRuntime, certificate: &Certificate) -> Result<(), Failure> {
+fn print_certificate(rt: &HostRuntime, certificate: &Certificate) -> Result<(), Failure> {
     match certificate.write_text(rt.alloc()) {
-        Ok(text) => say(rt, text.as_str()),
+        Ok(text) => print_line(rt, text.as_str()),
         Err(_) => Err(Failure::NoMemory),
     }
 }
 
 /// Prints the evidence that the tables differ.
-fn say_evidence(
+fn print_evidence(
     rt: &HostRuntime,
     names: &Names,
     counterexample: &Counterexample,
 ) -> Result<(), Failure> {
     match explain(rt.alloc(), names, counterexample) {
-        Ok(text) => say(rt, text.as_str()),
+        Ok(text) => print_line(rt, text.as_str()),
         Err(_) => Err(Failure::NoMemory),
     }
 }
@@ -100,10 +100,10 @@ fn say_evidence(
 fn try_explain(rt: &HostRuntime, tables: &Tables) -> Result<(), Failure> {
     let repertoire = read_repertoire(rt)?;
     match make_with(rt, tables, &repertoire) {
-        Ok(Made::Made(certificate)) => say_certificate(rt, &certificate),
-        Ok(Made::Unreachable(character)) => say(rt, ShownChar(character)),
+        Ok(Made::Made(certificate)) => print_certificate(rt, &certificate),
+        Ok(Made::Unreachable(character)) => print_line(rt, ShownChar(character)),
         Ok(Made::Differs(counterexample)) => explain_marked(rt, &tables.names, &counterexample),
-        Err(fault) => say(rt, fault),
+        Err(fault) => print_line(rt, fault),
     }
 }
 
@@ -117,7 +117,7 @@ fn explain_marked(
     let explained = explain(rt.alloc(), names, counterexample);
     mark(rt);
     match explained {
-        Ok(text) => say(rt, text.as_str()),
-        Err(fault) => say(rt, fault),
+        Ok(text) => print_line(rt, text.as_str()),
+        Err(fault) => print_line(rt, fault),
     }
 }

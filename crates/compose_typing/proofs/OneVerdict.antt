@@ -2,12 +2,12 @@
 use Rattle.std.proofs.Common.{◌≡◌, ℕ, ◌+◌, ◌==◌, ◌&&◌, Bool, true, false, cond, refl, List, [], ◌∷◌, arith}
 use Rattle.std.specs.Prelude.{sum_by}
 use Rattle.std.proofs.lemmas.List.Sums.{sum_by-cons}
-use Rattle.compose_wire.specs.Messages.{Answer, opened, fed, was_reset, closed, loaded, state, refused, code, session_taken, Reply}
+use Rattle.compose_wire.specs.Messages.{ReplyBody, opened, fed, was_reset, closed, loaded, state, refused, code, session_taken, Reply}
 use Rattle.compose_typing.specs.declared.stage.Waiting.{Waiting}
-use Rattle.compose_typing.specs.declared.stage.Heard.{Heard}
+use Rattle.compose_typing.specs.declared.stage.KeyAnswer.{KeyAnswer}
 use Rattle.compose_typing.specs.declared.stage.Stage.{Stage}
 use Rattle.compose_typing.specs.declared.stage.Stage.TheVariants.{Apart, Ready, Connecting, Opening, Feeding, Asking}
-use Rattle.compose_typing.specs.Typing.{Client, Outcome, pressed_at, connected_at, opened_at, fed_at, asked_at, answered_at, given_up, lost_with, lost_at, timed_out}
+use Rattle.compose_typing.specs.TypingSession.{Client, Outcome, pressed_at, connected_at, opened_at, fed_at, asked_at, answered_at, give_up_outcome, lost_with, lost_at, timeout_outcome}
 use Rattle.compose_typing.specs.Laws.{Event, press, connect, reply, lose, time_out, happens, after, actions, verdicts, presses, waiting, OneVerdict}
 
 -- the number of verdicts and waiting keys after an event
@@ -18,7 +18,7 @@ either : (b : Bool) (x y : Outcome) (n : ℕ) → Counts x n → Counts y n → 
 either true x y n p q = p
 either false x y n p q = q
 
-opened_once : (c : Client) (w : Waiting) (a : Answer) → Counts (opened_at c w a) 1
+opened_once : (c : Client) (w : Waiting) (a : ReplyBody) → Counts (opened_at c w a) 1
 opened_once c w opened = refl
 opened_once c w (fed status accepted text) = refl
 opened_once c w was_reset = refl
@@ -27,7 +27,7 @@ opened_once c w (loaded count) = refl
 opened_once c w (state status pending) = refl
 opened_once c w (refused why) = either (c.is_opened && (code why == code session_taken)) _ _ 1 refl refl
 
-fed_once : (c : Client) (w : Waiting) (n : ℕ) (a : Answer) → Counts (fed_at c w n a) 1
+fed_once : (c : Client) (w : Waiting) (n : ℕ) (a : ReplyBody) → Counts (fed_at c w n a) 1
 fed_once c w n opened = refl
 fed_once c w n (fed status accepted text) = either (n == 0) _ _ 1 refl refl
 fed_once c w n was_reset = either (n == 0) _ _ 1 refl refl
@@ -36,7 +36,7 @@ fed_once c w n (loaded count) = refl
 fed_once c w n (state status pending) = refl
 fed_once c w n (refused why) = refl
 
-asked_once : (c : Client) (w : Waiting) (h : Heard) (a : Answer) → Counts (asked_at c w h a) 1
+asked_once : (c : Client) (w : Waiting) (h : KeyAnswer) (a : ReplyBody) → Counts (asked_at c w h a) 1
 asked_once c w h opened = refl
 asked_once c w h (fed status accepted text) = refl
 asked_once c w h was_reset = refl
@@ -45,7 +45,7 @@ asked_once c w h (loaded count) = refl
 asked_once c w h (state status pending) = refl
 asked_once c w h (refused why) = refl
 
-given_up_once : (c : Client) (s : Stage) → c.stage ≡ s → Counts (given_up c) (waiting c)
+given_up_once : (c : Client) (s : Stage) → c.stage ≡ s → Counts (give_up_outcome c) (waiting c)
 given_up_once c Apart e = rw e refl
 given_up_once c Ready e = rw e refl
 given_up_once c (Connecting w) e = rw e refl
@@ -53,7 +53,7 @@ given_up_once c (Opening w) e = rw e refl
 given_up_once c (Feeding w n) e = rw e refl
 given_up_once c (Asking w h) e = rw e refl
 
-answered_once : (c : Client) (s : Stage) (a : Answer) → c.stage ≡ s → Counts (answered_at s c a) (waiting c)
+answered_once : (c : Client) (s : Stage) (a : ReplyBody) → c.stage ≡ s → Counts (answered_at s c a) (waiting c)
 answered_once c Apart a e = given_up_once c Apart e
 answered_once c Ready a e = given_up_once c Ready e
 answered_once c (Connecting w) a e = given_up_once c (Connecting w) e
@@ -72,7 +72,7 @@ lost_once c (Opening w) e = rw e (lost_with_once c w)
 lost_once c (Feeding w n) e = rw e (lost_with_once c w)
 lost_once c (Asking w h) e = rw e (lost_with_once c w)
 
-timed_out_once : (c : Client) (s : Stage) → c.stage ≡ s → Counts (timed_out c) (waiting c)
+timed_out_once : (c : Client) (s : Stage) → c.stage ≡ s → Counts (timeout_outcome c) (waiting c)
 timed_out_once c Apart e = rw e refl
 timed_out_once c Ready e = rw e refl
 timed_out_once c (Connecting w) e = rw e refl
@@ -100,7 +100,7 @@ once : (c : Client) (e : Event) → Counts (happens c e) (waiting c + presses e)
 once c (press k) = pressed_once c k c.stage refl
 once c (connect n) = let h = connected_once c n c.stage refl in omega (arith, h)
 once c (reply r) =
-    let h = either (r.session == c.session) (answered_at c.stage c r.answer) (given_up c) (waiting c) (answered_once c c.stage r.answer refl) (given_up_once c c.stage refl) in
+    let h = either (r.session == c.session) (answered_at c.stage c r.answer) (give_up_outcome c) (waiting c) (answered_once c c.stage r.answer refl) (given_up_once c c.stage refl) in
     omega (arith, h)
 once c lose = let h = lost_once c c.stage refl in omega (arith, h)
 once c time_out = let h = timed_out_once c c.stage refl in omega (arith, h)
@@ -113,7 +113,7 @@ pub one_verdict : OneVerdict
 one_verdict c [] = omega arith
 one_verdict c (e ∷ es) =
     let o = happens c e in
-    let told = sum_by-cons verdicts o.action (actions o.client es) in
-    let pressed = sum_by-cons presses e es in
-    rw told (rw pressed (joined (verdicts o.action) (waiting o.client) (waiting c) (presses e) (sum_by verdicts (actions o.client es)) (waiting (after o.client es)) (sum_by presses es)
+    let verdict_on = sum_by-cons verdicts o.action (actions o.client es) in
+    let press_outcome = sum_by-cons presses e es in
+    rw verdict_on (rw press_outcome (joined (verdicts o.action) (waiting o.client) (waiting c) (presses e) (sum_by verdicts (actions o.client es)) (waiting (after o.client es)) (sum_by presses es)
     (once c e) (one_verdict o.client es)))

@@ -7,30 +7,30 @@ use Rattle.compose_model.specs.Table.{Definition, is_extended, is_sequence}
 use Rattle.compose_model.specs.Step.{effect, step, is_empty, pending, pending_from, pending_after}
 use Rattle.compose_model.specs.Session.{Session, rest, fed as session_fed}
 use Rattle.compose_model.proofs.Steps.{pending_from-append}
-use Rattle.compose_wire.specs.Messages.{Body, key, ask, Answer, was_reset}
-use Rattle.compose_typing.specs.declared.action.Verdict.{Verdict}
+use Rattle.compose_wire.specs.Messages.{Body, key, ask, ReplyBody, was_reset}
+use Rattle.compose_typing.specs.declared.action.KeyVerdict.{KeyVerdict}
 use Rattle.compose_typing.specs.declared.action.Action.TheVariants.{Wait}
 use Rattle.compose_typing.specs.declared.stage.Waiting.{Waiting}
-use Rattle.compose_typing.specs.declared.stage.Heard.{Heard}
+use Rattle.compose_typing.specs.declared.stage.KeyAnswer.{KeyAnswer}
 use Rattle.compose_typing.specs.declared.stage.Stage.{Stage}
 use Rattle.compose_typing.specs.declared.stage.Stage.TheVariants.{Ready, Feeding, Asking}
-use Rattle.compose_typing.specs.Typing.{Client, Outcome, does, asks, bodies_for, before_key, typed_anew, told, answered, answered_at, is_cancelled}
+use Rattle.compose_typing.specs.TypingSession.{Client, Outcome, does, asks, bodies_for, before_key, typed_anew, verdict_on, answered, answered_at, is_cancelled}
 use Rattle.compose_typing.specs.Laws.{Event, press, reply, happens, after}
-use Rattle.compose_typing.specs.Service.{answer_of, replies, typed, told_in, told_at, heard, moved, Types, session_for, key_at, reconnected}
-use Rattle.compose_typing.specs.Runs.{told_by_effect, run_verdicts, Loss, Press, key_events, key_session, IsInTime, all_events, AllInTime, IsReady, TypesRun}
+use Rattle.compose_typing.specs.Service.{answer_of, replies, typed, verdicts_in, verdicts_at, heard, moved, Types, session_for, key_at, reconnected}
+use Rattle.compose_typing.specs.Runs.{effect_verdict, run_verdicts, Loss, Press, key_events, key_session, IsInTime, all_events, AllInTime, IsReady, TypesRun}
 use Rattle.compose_typing.proofs.TypedOnce.{feeding, heard_here, fed_next, reset_next, asked_once, lost_once, pending_again}
 
 -- ---- one key
 
 -- the verdict on a key depends only on its effect
-told_heard : (names : KeysymNames) (table : List Definition) (s : Session) (k : ℕ) (i e q m : Bool) → is_ignored k ≡ i → is_extended table (s.pending ++ k ∷ []) ≡ e
+heard_verdict : (names : KeysymNames) (table : List Definition) (s : Session) (k : ℕ) (i e q m : Bool) → is_ignored k ≡ i → is_extended table (s.pending ++ k ∷ []) ≡ e
     → is_sequence table (s.pending ++ k ∷ []) ≡ q → is_empty s.pending ≡ m
-    → told k (heard names table s k) ≡ told_by_effect (effect table s.pending k) k (step names table s.pending k).text
-told_heard names table s k true e q m hi he hq hm = rw hi refl
-told_heard names table s k false true q m hi he hq hm = rw hi (rw he refl)
-told_heard names table s k false false true m hi he hq hm = rw hi (rw he (rw hq refl))
-told_heard names table s k false false false true hi he hq hm = rw hi (rw he (rw hq (rw hm refl)))
-told_heard names table s k false false false false hi he hq hm = rw hi (rw he (rw hq (rw hm refl)))
+    → verdict_on k (heard names table s k) ≡ effect_verdict (effect table s.pending k) k (step names table s.pending k).text
+heard_verdict names table s k true e q m hi he hq hm = rw hi refl
+heard_verdict names table s k false true q m hi he hq hm = rw hi (rw he refl)
+heard_verdict names table s k false false true m hi he hq hm = rw hi (rw he (rw hq refl))
+heard_verdict names table s k false false false true hi he hq hm = rw hi (rw he (rw hq (rw hm refl)))
+heard_verdict names table s k false false false false hi he hq hm = rw hi (rw he (rw hq (rw hm refl)))
 
 -- ---- events in a row
 
@@ -38,11 +38,11 @@ after_append : (c : Client) (xs ys : List Event) → after c (xs ++ ys) ≡ afte
 after_append c [] ys = refl
 after_append c (x ∷ xs) ys = after_append (happens c x).client xs ys
 
-told_append : (c : Client) (xs ys : List Event) → told_at c (xs ++ ys) ≡ told_at c xs ++ told_at (after c xs) ys
-told_append c [] ys = refl
-told_append c (x ∷ xs) ys =
-    ap (λ (v : List Verdict). told_in (happens c x).action ++ v) (told_append (happens c x).client xs ys)
-    ∙ sym (append_assoc (told_in (happens c x).action) (told_at (happens c x).client xs) (told_at (after (happens c x).client xs) ys))
+verdicts_append : (c : Client) (xs ys : List Event) → verdicts_at c (xs ++ ys) ≡ verdicts_at c xs ++ verdicts_at (after c xs) ys
+verdicts_append c [] ys = refl
+verdicts_append c (x ∷ xs) ys =
+    ap (λ (v : List KeyVerdict). verdicts_in (happens c x).action ++ v) (verdicts_append (happens c x).client xs ys)
+    ∙ sym (append_assoc (verdicts_in (happens c x).action) (verdicts_at (happens c x).client xs) (verdicts_at (after (happens c x).client xs) ys))
 
 -- ---- replies that were read before a connection was lost
 
@@ -51,23 +51,23 @@ record StillWaits (d c : Client) (w : Waiting) (es : List Event) : Type 0 where
   stage : Stage
   at : key_at stage ≡ Some w
   client : after d es ≡ record c { is_stale = true; stage = stage }
-  quiet : told_at d es ≡ []
+  quiet : verdicts_at d es ≡ []
 
-next : (c d : Client) (w : Waiting) (a : Answer) (o : Client) (es : List Event) → answered_at d.stage d a ≡ does o Wait → d.session ≡ c.session → StillWaits o c w es
+next : (c d : Client) (w : Waiting) (a : ReplyBody) (o : Client) (es : List Event) → answered_at d.stage d a ≡ does o Wait → d.session ≡ c.session → StillWaits o c w es
     → StillWaits d c w (reply (record { session = c.session; answer = a }) ∷ es)
 next c d w a o es e same g =
     let h : answered d (record { session = c.session; answer = a }) ≡ does o Wait = rw (sym same) (heard_here d a ∙ e) in record {
       stage = g.stage;
       at = g.at;
       client = ap (λ (x : Outcome). after x.client es) h ∙ g.client;
-      quiet = ap (λ (x : Outcome). told_in x.action ++ told_at x.client es) h ∙ g.quiet;
+      quiet = ap (λ (x : Outcome). verdicts_in x.action ++ verdicts_at x.client es) h ∙ g.quiet;
     }
 
 keys_read : (names : KeysymNames) (table : List Definition) (ks : List ℕ) (c : Client) (w : Waiting) (s : Session) (j : ℕ) → j < length (map key ks) + 2
     → StillWaits (feeding c w (length (map key ks))) c w (take j (replies names table c.session s (map key ks ++ key w.key ∷ ask ∷ [])))
 keys_read names table ks c w s zero h = record { stage = Feeding w (length (map key ks)); at = refl; client = refl; quiet = refl }
 keys_read names table [] c w s (suc zero) h =
-    let heard_so : Heard = heard names table s w.key in
+    let heard_so : KeyAnswer = heard names table s w.key in
     let asking : Client = record c { is_stale = true; stage = Asking w heard_so } in
     next c (feeding c w 0) w (answer_of names table s (key w.key)) asking [] refl refl (record { stage = Asking w heard_so; at = refl; client = refl; quiet = refl })
 keys_read names table [] c w s (suc (suc j)) h = absurd (omega (arith, h))
@@ -99,7 +99,7 @@ key_typed names table c s k None ready opened h =
     let pressed_so : happens c (press k) ≡ asks c w = rw ready refl in
     let t : Types names table (asks c w).client rs (session_for table c s) k = asked_once names table c w s in record {
       client = ap (λ (x : Outcome). after x.client rs) pressed_so ∙ t.client;
-      verdict = ap (λ (x : Outcome). told_in x.action ++ told_at x.client rs) pressed_so ∙ t.verdict;
+      verdict = ap (λ (x : Outcome). verdicts_in x.action ++ verdicts_at x.client rs) pressed_so ∙ t.verdict;
     }
 key_typed names table c s k (Some l) ready opened h =
     let w : Waiting = record { key = k; is_again = false } in
@@ -111,8 +111,8 @@ key_typed names table c s k (Some l) ready opened h =
     let there : Client = record c { is_stale = true; stage = read.stage } in
     let t : Types names table there later (typed table rest c.pending) k = lost_once names table there w l.number l.left read.at refl opened in record {
       client = ap (λ (x : Outcome). after x.client (rs ++ later)) pressed_so ∙ after_append d rs later ∙ ap (λ (x : Client). after x later) read.client ∙ t.client;
-      verdict = ap (λ (x : Outcome). told_in x.action ++ told_at x.client (rs ++ later)) pressed_so ∙ told_append d rs later
-          ∙ ap (λ (v : List Verdict). v ++ told_at (after d rs) later) read.quiet ∙ ap (λ (x : Client). told_at x later) read.client ∙ t.verdict;
+      verdict = ap (λ (x : Outcome). verdicts_in x.action ++ verdicts_at x.client (rs ++ later)) pressed_so ∙ verdicts_append d rs later
+          ∙ ap (λ (v : List KeyVerdict). v ++ verdicts_at (after d rs) later) read.quiet ∙ ap (λ (x : Client). verdicts_at x later) read.client ∙ t.verdict;
     }
 
 -- ---- all keys
@@ -147,11 +147,11 @@ types_run names table c s (p ∷ ps) r t =
     let then_s : Session = session_fed table at p.key in
     let more : List Event = all_events names table now then_s ps in
     let rest_is = types_run names table now then_s ps (still_ready table c s at p.key r e) t.1 in
-    let here : told p.key (heard names table at p.key) ≡ told_by_effect (effect table c.pending p.key) p.key (step names table c.pending p.key).text =
-    told_heard names table at p.key (is_ignored p.key) (is_extended table (at.pending ++ p.key ∷ [])) (is_sequence table (at.pending ++ p.key ∷ [])) (is_empty at.pending) refl refl refl refl
-    ∙ ap (λ (u : List ℕ). told_by_effect (effect table u p.key) p.key (step names table u p.key).text) e in
-    told_append c (key_events names table c s p.key p.loss) more ∙ ap (λ (v : List Verdict). v ++ told_at (after c (key_events names table c s p.key p.loss)) more) one.verdict
-    ∙ ap (λ (x : Client). (told p.key (heard names table at p.key) ∷ []) ++ told_at x more) one.client
-    ∙ ap (λ (v : Verdict). v ∷ told_at now more) here
-    ∙ ap (λ (vs : List Verdict). told_by_effect (effect table c.pending p.key) p.key (step names table c.pending p.key).text ∷ vs)
+    let here : verdict_on p.key (heard names table at p.key) ≡ effect_verdict (effect table c.pending p.key) p.key (step names table c.pending p.key).text =
+    heard_verdict names table at p.key (is_ignored p.key) (is_extended table (at.pending ++ p.key ∷ [])) (is_sequence table (at.pending ++ p.key ∷ [])) (is_empty at.pending) refl refl refl refl
+    ∙ ap (λ (u : List ℕ). effect_verdict (effect table u p.key) p.key (step names table u p.key).text) e in
+    verdicts_append c (key_events names table c s p.key p.loss) more ∙ ap (λ (v : List KeyVerdict). v ++ verdicts_at (after c (key_events names table c s p.key p.loss)) more) one.verdict
+    ∙ ap (λ (x : Client). (verdict_on p.key (heard names table at p.key) ∷ []) ++ verdicts_at x more) one.client
+    ∙ ap (λ (v : KeyVerdict). v ∷ verdicts_at now more) here
+    ∙ ap (λ (vs : List KeyVerdict). effect_verdict (effect table c.pending p.key) p.key (step names table c.pending p.key).text ∷ vs)
     (rest_is ∙ ap (λ (u : List ℕ). run_verdicts names table (pending_after table u p.key) (map (λ (q : Press). q.key) ps)) e)

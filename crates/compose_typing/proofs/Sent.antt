@@ -2,7 +2,7 @@
 use Rattle.std.proofs.Common.{◌≡◌, ℕ, List, [], ◌∷◌, ◌++◌, ap, sym, refl, ◌∙◌, append_assoc, map}
 use Rattle.compose_wire.specs.Messages.{Body, key}
 use Rattle.compose_wire.specs.Frames.{frame}
-use Rattle.compose_typing.specs.Typing.{sent, typed_anew}
+use Rattle.compose_typing.specs.TypingSession.{sent, typed_anew}
 
 pub sent_append : (n : ℕ) (xs ys : List Body) → sent n (xs ++ ys) ≡ sent n xs ++ sent n ys
 sent_append n [] ys = refl

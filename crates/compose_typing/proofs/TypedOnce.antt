@@ -10,34 +10,34 @@ use Rattle.compose_model.specs.Step.{pending, pending_from, pending_after}
 use Rattle.compose_model.specs.Session.{Session, rest, fed as session_fed}
 use Rattle.compose_model.specs.declared.Status.{Status}
 use Rattle.compose_model.proofs.Reached.{pending_reached}
-use Rattle.compose_wire.specs.Messages.{Body, open_session, key, ask, Answer, fed, was_reset, refused, session_taken}
-use Rattle.compose_typing.specs.declared.action.Verdict.{Verdict}
+use Rattle.compose_wire.specs.Messages.{Body, open_session, key, ask, ReplyBody, fed, was_reset, refused, session_taken}
+use Rattle.compose_typing.specs.declared.action.KeyVerdict.{KeyVerdict}
 use Rattle.compose_typing.specs.declared.action.Action.TheVariants.{Wait, Send, Connect, Tell}
 use Rattle.compose_typing.specs.declared.stage.Waiting.{Waiting}
-use Rattle.compose_typing.specs.declared.stage.Heard.{Heard}
+use Rattle.compose_typing.specs.declared.stage.KeyAnswer.{KeyAnswer}
 use Rattle.compose_typing.specs.declared.stage.Stage.{Stage}
 use Rattle.compose_typing.specs.declared.stage.Stage.TheVariants.{Apart, Ready, Connecting, Opening, Feeding, Asking}
-use Rattle.compose_typing.specs.Typing.{Client, Outcome, does, sent, asks, bodies_for, before_key, typed_anew, told, connected, answered, answered_at, fed_at, lost, lost_at, lost_with}
+use Rattle.compose_typing.specs.TypingSession.{Client, Outcome, does, sent, asks, bodies_for, before_key, typed_anew, verdict_on, connected, answered, answered_at, fed_at, lost, lost_at, lost_with}
 use Rattle.compose_typing.specs.Laws.{Event, connect, reply, lose, happens, after}
-use Rattle.compose_typing.specs.Service.{answer_of, session_after, replies, typed, told_in, told_at, heard, moved, Types, session_for, key_at, AskedOnce, LostOnce, PendingAgain}
+use Rattle.compose_typing.specs.Service.{answer_of, session_after, replies, typed, verdicts_in, verdicts_at, heard, moved, Types, session_for, key_at, AskedOnce, LostOnce, PendingAgain}
 
 -- at these events the client becomes this one, and reports these verdicts
-pub record Goes (c : Client) (es : List Event) (end : Client) (verdicts : List Verdict) : Type 0 where
+pub record Goes (c : Client) (es : List Event) (end : Client) (verdicts : List KeyVerdict) : Type 0 where
   pub client : after c es ≡ end
-  pub told : told_at c es ≡ verdicts
+  pub verdict_on : verdicts_at c es ≡ verdicts
 
-happened : (c : Client) (e : Event) (o : Outcome) (es : List Event) (end : Client) (verdicts : List Verdict) → happens c e ≡ o → Goes o.client es end verdicts
-    → Goes c (e ∷ es) end (told_in o.action ++ verdicts)
+happened : (c : Client) (e : Event) (o : Outcome) (es : List Event) (end : Client) (verdicts : List KeyVerdict) → happens c e ≡ o → Goes o.client es end verdicts
+    → Goes c (e ∷ es) end (verdicts_in o.action ++ verdicts)
 happened c e o es end verdicts h g = record {
   client = ap (λ (x : Outcome). after x.client es) h ∙ g.client;
-  told = ap (λ (x : Outcome). told_in x.action ++ told_at x.client es) h ∙ ap (λ (v : List Verdict). told_in o.action ++ v) g.told;
+  verdict_on = ap (λ (x : Outcome). verdicts_in x.action ++ verdicts_at x.client es) h ∙ ap (λ (v : List KeyVerdict). verdicts_in o.action ++ v) g.verdict_on;
 }
 
-pub heard_here : (c : Client) (a : Answer) → answered c (record { session = c.session; answer = a }) ≡ answered_at c.stage c a
+pub heard_here : (c : Client) (a : ReplyBody) → answered c (record { session = c.session; answer = a }) ≡ answered_at c.stage c a
 heard_here c a = rw (eq-eqb c.session c.session refl) refl
 
-goes_on : (c : Client) (a : Answer) (o : Outcome) (es : List Event) (end : Client) (verdicts : List Verdict) → answered_at c.stage c a ≡ o → Goes o.client es end verdicts
-    → Goes c (reply (record { session = c.session; answer = a }) ∷ es) end (told_in o.action ++ verdicts)
+goes_on : (c : Client) (a : ReplyBody) (o : Outcome) (es : List Event) (end : Client) (verdicts : List KeyVerdict) → answered_at c.stage c a ≡ o → Goes o.client es end verdicts
+    → Goes c (reply (record { session = c.session; answer = a }) ∷ es) end (verdicts_in o.action ++ verdicts)
 goes_on c a o es end verdicts e g = happened c (reply (record { session = c.session; answer = a })) o es end verdicts (heard_here c a ∙ e) g
 
 -- the client while it still has to skip this number of replies
@@ -52,42 +52,42 @@ pub reset_next : (c : Client) (w : Waiting) (n : ℕ) → fed_at (feeding c w (s
 reset_next c w n = rw (eqb-suc-zero n) (rw (sub-one (suc n)) refl)
 
 -- the replies to keys that are typed again are skipped
-passed_over : (names : KeysymNames) (table : List Definition) (ks : List ℕ) (c : Client) (w : Waiting) (s : Session) (bs : List Body) (end : Client) (verdicts : List Verdict)
+passed_over : (names : KeysymNames) (table : List Definition) (ks : List ℕ) (c : Client) (w : Waiting) (s : Session) (bs : List Body) (end : Client) (verdicts : List KeyVerdict)
     → Goes (feeding c w 0) (replies names table c.session (typed table s ks) bs) end verdicts
     → Goes (feeding c w (length (map key ks))) (replies names table c.session s (map key ks ++ bs)) end verdicts
 passed_over names table [] c w s bs end verdicts g = g
 passed_over names table (k ∷ ks) c w s bs end verdicts g =
     let m : ℕ = length (map key ks) in
-    let a : Answer = answer_of names table s (key k) in
+    let a : ReplyBody = answer_of names table s (key k) in
     goes_on (feeding c w (suc m)) a (does (feeding c w m) Wait) (replies names table c.session (session_fed table s k) (map key ks ++ bs)) end verdicts (fed_next c w m _ _ _)
     (passed_over names table ks c w (session_fed table s k) bs end verdicts g)
 
 -- the key itself
-key_told : (names : KeysymNames) (table : List Definition) (c : Client) (w : Waiting) (s : Session)
-    → Goes (feeding c w 0) (replies names table c.session s (key w.key ∷ ask ∷ [])) (moved table c s w.key) (told w.key (heard names table s w.key) ∷ [])
-key_told names table c w s =
-    let h : Heard = heard names table s w.key in
+key_verdict : (names : KeysymNames) (table : List Definition) (c : Client) (w : Waiting) (s : Session)
+    → Goes (feeding c w 0) (replies names table c.session s (key w.key ∷ ask ∷ [])) (moved table c s w.key) (verdict_on w.key (heard names table s w.key) ∷ [])
+key_verdict names table c w s =
+    let h : KeyAnswer = heard names table s w.key in
     let asking : Client = record c { is_stale = true; stage = Asking w h } in
     let now : Session = session_fed table s w.key in
-    goes_on (feeding c w 0) (answer_of names table s (key w.key)) (does asking Wait) (replies names table c.session now (ask ∷ [])) (moved table c s w.key) (told w.key h ∷ []) refl
-    (goes_on asking (answer_of names table now ask) (does (moved table c s w.key) (Tell (told w.key h))) [] (moved table c s w.key) [] refl (record { client = refl; told = refl }))
+    goes_on (feeding c w 0) (answer_of names table s (key w.key)) (does asking Wait) (replies names table c.session now (ask ∷ [])) (moved table c s w.key) (verdict_on w.key h ∷ []) refl
+    (goes_on asking (answer_of names table now ask) (does (moved table c s w.key) (Tell (verdict_on w.key h))) [] (moved table c s w.key) [] refl (record { client = refl; verdict_on = refl }))
 
 asked_by : (names : KeysymNames) (table : List Definition) (c : Client) (w : Waiting) (s : Session) (stale : Bool) → c.is_stale ≡ stale
     → Goes (feeding c w (length (cond stale (typed_anew c.pending) []))) (replies names table c.session s (cond stale (typed_anew c.pending) [] ++ key w.key ∷ ask ∷ []))
-    (moved table c (cond stale (typed table rest c.pending) s) w.key) (told w.key (heard names table (cond stale (typed table rest c.pending) s) w.key) ∷ [])
-asked_by names table c w s false e = key_told names table c w s
+    (moved table c (cond stale (typed table rest c.pending) s) w.key) (verdict_on w.key (heard names table (cond stale (typed table rest c.pending) s) w.key) ∷ [])
+asked_by names table c w s false e = key_verdict names table c w s
 asked_by names table c w s true e =
     let m : ℕ = length (map key c.pending) in
     let end : Session = typed table rest c.pending in
     goes_on (feeding c w (suc m)) was_reset (does (feeding c w m) Wait) (replies names table c.session rest (map key c.pending ++ key w.key ∷ ask ∷ [])) (moved table c end w.key)
-    (told w.key (heard names table end w.key) ∷ []) (reset_next c w m)
-    (passed_over names table c.pending c w rest (key w.key ∷ ask ∷ []) (moved table c end w.key) (told w.key (heard names table end w.key) ∷ []) (key_told names table c w end))
+    (verdict_on w.key (heard names table end w.key) ∷ []) (reset_next c w m)
+    (passed_over names table c.pending c w rest (key w.key ∷ ask ∷ []) (moved table c end w.key) (verdict_on w.key (heard names table end w.key) ∷ []) (key_verdict names table c w end))
 
 pub asked_once : AskedOnce
 asked_once names table c w s =
-    let g : Goes (feeding c w (length (before_key c))) (replies names table c.session s (bodies_for c w.key)) (moved table c (session_for table c s) w.key) (told w.key (heard names table (session_for table c s) w.key) ∷ [])
+    let g : Goes (feeding c w (length (before_key c))) (replies names table c.session s (bodies_for c w.key)) (moved table c (session_for table c s) w.key) (verdict_on w.key (heard names table (session_for table c s) w.key) ∷ [])
     = asked_by names table c w s c.is_stale refl in
-    record { client = g.client; verdict = g.told }
+    record { client = g.client; verdict = g.verdict_on }
 
 lost_is : (c : Client) (s : Stage) (w : Waiting) → key_at s ≡ Some w → lost_at s c ≡ lost_with c w
 lost_is c Apart w e = cc
@@ -103,7 +103,7 @@ lost_once names table c w n s is first opened =
     let connecting : Client = record c { is_stale = true; stage = Connecting v } in
     let opening : Client = record c { is_stale = true; stage = Opening v } in
     let end : Session = typed table rest c.pending in
-    let verdicts : List Verdict = told w.key (heard names table end w.key) ∷ [] in
+    let verdicts : List KeyVerdict = verdict_on w.key (heard names table end w.key) ∷ [] in
     let lost_so : lost c ≡ does connecting Connect = lost_is c c.stage w is ∙ rw first refl in
     let opening_so : connected connecting n ≡ does opening (Send (sent c.session (open_session ∷ []))) = rw opened refl in
     let opened_so : answered_at (Opening v) opening (refused session_taken) ≡ asks opening v = rw opened refl in
@@ -112,8 +112,8 @@ lost_once names table c w n s is first opened =
     let taken : Event = reply (record { session = c.session; answer = refused session_taken }) in
     let g = happened c lose (does connecting Connect) (connect n ∷ taken ∷ asked) (moved table c end w.key) verdicts lost_so
     (happened connecting (connect n) (does opening (Send (sent c.session (open_session ∷ [])))) (taken ∷ asked) (moved table c end w.key) verdicts opening_so
-    (goes_on opening (refused session_taken) (asks opening v) asked (moved table c end w.key) verdicts opened_so (record { client = last.client; told = last.verdict }))) in
-    record { client = g.client; verdict = g.told }
+    (goes_on opening (refused session_taken) (asks opening v) asked (moved table c end w.key) verdicts opened_so (record { client = last.client; verdict_on = last.verdict }))) in
+    record { client = g.client; verdict = g.verdict_on }
 
 typed_pending : (table : List Definition) (s : Session) (ks : List ℕ) → (typed table s ks).pending ≡ pending_from table s.pending ks
 typed_pending table s [] = refl

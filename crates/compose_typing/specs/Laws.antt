@@ -3,7 +3,7 @@ use Rattle.std.specs.Prelude.{◌≡◌, ℕ, ◌+◌, if◌then◌else◌, List
 use Rattle.compose_wire.specs.Messages.{Reply}
 use Rattle.compose_typing.specs.declared.action.Action.{Action}
 use Rattle.compose_typing.specs.declared.action.Action.TheVariants.{Wait, Send, Connect, Tell, Abandon, Close}
-use Rattle.compose_typing.specs.Typing.{Client, Outcome, waits, pressed, connected, answered, lost, timed_out}
+use Rattle.compose_typing.specs.TypingSession.{Client, Outcome, waits, press_outcome, connected, answered, lost, timeout_outcome}
 
 -- what happens to a client
 pub data Event : Type 0 where
@@ -14,11 +14,11 @@ pub data Event : Type 0 where
   time_out : Event
 
 abbrev pub happens : Client → Event → Outcome
-happens c (press k) = pressed c k
+happens c (press k) = press_outcome c k
 happens c (connect n) = connected c n
 happens c (reply r) = answered c r
 happens c lose = lost c
-happens c time_out = timed_out c
+happens c time_out = timeout_outcome c
 
 -- the client after these events, and its action at each
 abbrev pub after : Client → List Event → Client

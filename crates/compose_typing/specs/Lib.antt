@@ -1,4 +1,4 @@
-pub mod Typing
+pub mod TypingSession
 pub mod Bytes
 pub mod Laws
 pub mod Service

@@ -4,27 +4,27 @@ use Rattle.keysym_core.specs.Names.{KeysymNames}
 use Rattle.compose_model.specs.Table.{Definition}
 use Rattle.compose_model.specs.Step.{Effect, ignores, extends, completes, passes, cancels, effect, step, pending, pending_after}
 use Rattle.compose_model.specs.Session.{Session, rest, fed as session_fed}
-use Rattle.compose_typing.specs.declared.action.Verdict.{Verdict}
-use Rattle.compose_typing.specs.declared.action.Verdict.TheVariants.{Pass, Take, Commit}
+use Rattle.compose_typing.specs.declared.action.KeyVerdict.{KeyVerdict}
+use Rattle.compose_typing.specs.declared.action.KeyVerdict.TheVariants.{Pass, Take, Commit}
 use Rattle.compose_typing.specs.declared.stage.Stage.TheVariants.{Ready}
-use Rattle.compose_typing.specs.Typing.{Client, bodies_for, told_at_rest}
+use Rattle.compose_typing.specs.TypingSession.{Client, bodies_for, verdict_at_rest}
 use Rattle.compose_typing.specs.Laws.{Event, press}
-use Rattle.compose_typing.specs.Service.{replies, typed, told_at, moved, session_for, reconnected}
+use Rattle.compose_typing.specs.Service.{replies, typed, verdicts_at, moved, session_for, reconnected}
 
 -- ---- verdicts by the table
 
 -- the verdict on a key with this effect and text
-abbrev pub told_by_effect : Effect → ℕ → List ℕ → Verdict
-told_by_effect ignores k text = Pass
-told_by_effect extends k text = Take
-told_by_effect completes k text = Commit text
-told_by_effect passes k text = told_at_rest k text
-told_by_effect cancels k text = Take
+abbrev pub effect_verdict : Effect → ℕ → List ℕ → KeyVerdict
+effect_verdict ignores k text = Pass
+effect_verdict extends k text = Take
+effect_verdict completes k text = Commit text
+effect_verdict passes k text = verdict_at_rest k text
+effect_verdict cancels k text = Take
 
 -- the verdicts on these keys, with u pending: by the steps of the table's run over them
-abbrev pub run_verdicts : KeysymNames → List Definition → List ℕ → List ℕ → List Verdict
+abbrev pub run_verdicts : KeysymNames → List Definition → List ℕ → List ℕ → List KeyVerdict
 run_verdicts names table u [] = []
-run_verdicts names table u (k ∷ ks) = told_by_effect (effect table u k) k (step names table u k).text ∷ run_verdicts names table (pending_after table u k) ks
+run_verdicts names table u (k ∷ ks) = effect_verdict (effect table u k) k (step names table u k).text ∷ run_verdicts names table (pending_after table u k) ks
 
 -- ---- keys
 
@@ -79,4 +79,4 @@ pub record IsReady (table : List Definition) (c : Client) (s : Session) : Type 0
 -- over all keys the verdicts are those of the table's run, whichever connections are lost
 abbrev pub TypesRun : Type 0
 TypesRun = (names : KeysymNames) (table : List Definition) (c : Client) (s : Session) (ps : List Press) → IsReady table c s → AllInTime table c s ps
-    → told_at c (all_events names table c s ps) ≡ run_verdicts names table c.pending (map (λ p. p.key) ps)
+    → verdicts_at c (all_events names table c s ps) ≡ run_verdicts names table c.pending (map (λ p. p.key) ps)

@@ -5,23 +5,23 @@ use Rattle.keysym_core.specs.Names.{KeysymNames}
 use Rattle.compose_model.specs.Table.{Definition}
 use Rattle.compose_model.specs.Step.{step, pending}
 use Rattle.compose_model.specs.Session.{Session, rest, fed as session_fed}
-use Rattle.compose_wire.specs.Messages.{Body, open_session, key, reset, close, load, ask, Answer, fed, was_reset, state, refused, session_taken}
+use Rattle.compose_wire.specs.Messages.{Body, open_session, key, reset, close, load, ask, ReplyBody, fed, was_reset, state, refused, session_taken}
 use Rattle.compose_typing.specs.declared.action.Action.{Action}
 use Rattle.compose_typing.specs.declared.action.Action.TheVariants.{Wait, Send, Connect, Tell, Abandon, Close}
-use Rattle.compose_typing.specs.declared.action.Verdict.{Verdict}
-use Rattle.compose_typing.specs.declared.action.Verdict.TheVariants.{Pass}
+use Rattle.compose_typing.specs.declared.action.KeyVerdict.{KeyVerdict}
+use Rattle.compose_typing.specs.declared.action.KeyVerdict.TheVariants.{Pass}
 use Rattle.compose_typing.specs.declared.stage.Waiting.{Waiting}
-use Rattle.compose_typing.specs.declared.stage.Heard.{Heard}
+use Rattle.compose_typing.specs.declared.stage.KeyAnswer.{KeyAnswer}
 use Rattle.compose_typing.specs.declared.stage.Stage.{Stage}
 use Rattle.compose_typing.specs.declared.stage.Stage.TheVariants.{Apart, Ready, Connecting, Opening, Feeding, Asking}
-use Rattle.compose_typing.specs.Typing.{Client, asks, bodies_for, told, is_cancelled}
+use Rattle.compose_typing.specs.TypingSession.{Client, asks, bodies_for, verdict_on, is_cancelled}
 use Rattle.compose_typing.specs.Laws.{Event, connect, reply, lose, happens, after}
 
 -- ---- the service
 
 -- the answer of a service with this session open, and the session after it; the client sends no other request than
 -- these
-abbrev pub answer_of : KeysymNames → List Definition → Session → Body → Answer
+abbrev pub answer_of : KeysymNames → List Definition → Session → Body → ReplyBody
 answer_of names table s (key k) = fed (session_fed table s k).status (not (is_ignored k)) (step names table s.pending k).text
 answer_of names table s reset = was_reset
 answer_of names table s ask = state s.status s.pending
@@ -44,18 +44,18 @@ typed table s (k ∷ ks) = typed table (session_fed table s k) ks
 
 -- ---- the verdicts
 
-abbrev pub told_in : Action → List Verdict
-told_in (Tell verdict) = verdict ∷ []
-told_in Abandon = Pass ∷ []
-told_in _ = []
+abbrev pub verdicts_in : Action → List KeyVerdict
+verdicts_in (Tell verdict) = verdict ∷ []
+verdicts_in Abandon = Pass ∷ []
+verdicts_in _ = []
 
 -- the verdicts at these events
-abbrev pub told_at : Client → List Event → List Verdict
-told_at c [] = []
-told_at c (e ∷ es) = told_in (happens c e).action ++ told_at (happens c e).client es
+abbrev pub verdicts_at : Client → List Event → List KeyVerdict
+verdicts_at c [] = []
+verdicts_at c (e ∷ es) = verdicts_in (happens c e).action ++ verdicts_at (happens c e).client es
 
 -- the service's answer to the key in the session
-abbrev pub heard : KeysymNames → List Definition → Session → ℕ → Heard
+abbrev pub heard : KeysymNames → List Definition → Session → ℕ → KeyAnswer
 heard names table s k = record { status = (session_fed table s k).status; accepted = not (is_ignored k); text = (step names table s.pending k).text }
 
 -- the client, once it has read the session's state after the key
@@ -70,7 +70,7 @@ moved table c s k = record c {
 -- session
 pub record Types (names : KeysymNames) (table : List Definition) (c : Client) (es : List Event) (s : Session) (k : ℕ) : Type 0 where
   pub client : after c es ≡ moved table c s k
-  pub verdict : told_at c es ≡ told k (heard names table s k) ∷ []
+  pub verdict : verdicts_at c es ≡ verdict_on k (heard names table s k) ∷ []
 
 -- ---- laws
 

@@ -59,7 +59,7 @@ impl Frames {
 
 /// What an input method does with a key.
 #[derive(Drop)]
-pub enum Verdict {
+pub enum KeyVerdict {
     /// The application gets the key.
     Pass,
     /// The application gets nothing.
@@ -78,7 +78,7 @@ pub enum Action {
     /// It connects to the service, and closes the connection that it had.
     Connect,
     /// It does this with the key that was waiting.
-    Tell(Verdict),
+    Tell(KeyVerdict),
     /// It closes the connection, and passes the key that was waiting to the application.
     Abandon,
     /// It closes the connection. No key was waiting.

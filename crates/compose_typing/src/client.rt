@@ -1,15 +1,15 @@
 //! A client: what it does at each event.
 ghost use Rattle.std.specs.Prelude.{◌≡◌, ◌≤◌, ◌<◌, length};
 ghost use Rattle.compose_wire.specs.Messages as wire;
-ghost use Rattle.compose_wire.specs.Replies.{SaysReply, SaysAnswer};
-ghost use Rattle.compose_typing.specs.Typing as words;
+ghost use Rattle.compose_wire.specs.Replies.{HasReplyValue, HasAnswerValue};
+ghost use Rattle.compose_typing.specs.TypingSession as words;
 
-use crate::action::{Action, Text, Verdict};
+use crate::action::{Action, KeyVerdict, Text};
 use crate::frames::{key_frames, open_frames};
-use crate::stage::{Heard, Stage, Waiting};
+use crate::stage::{KeyAnswer, Stage, Waiting};
 use arrayvec::ArrayVec;
 use compose_model::Status;
-use compose_wire::{Answer, Reply};
+use compose_wire::{Reply, ReplyBody};
 use keysym_core::Keysym;
 use std::marker::Model;
 use std::mem;
@@ -29,7 +29,7 @@ pub struct Client {
 
 impl Model for Client {
     ghost use Rattle.std.specs.Prelude.{◌≤◌, length};
-    ghost use Rattle.compose_typing.specs.Typing as words;
+    ghost use Rattle.compose_typing.specs.TypingSession as words;
 
     ghost Value = { words.Client };
 
@@ -47,20 +47,20 @@ fn begins_sequences(key: Keysym) -> bool
 }
 
 /// Returns the verdict on a key, from what the service answered. O(1).
-fn verdict_of(key: Keysym, heard: Heard) -> Verdict
-    ensures { result ≡ words.told key heard }
+fn verdict_of(key: Keysym, heard: KeyAnswer) -> KeyVerdict
+    ensures { result ≡ words.verdict_on key heard }
 {
     if !heard.accepted {
-        return Verdict::Pass;
+        return KeyVerdict::Pass;
     }
     match heard.status {
-        Status::Composing | Status::Cancelled => Verdict::Take,
-        Status::Composed => Verdict::Commit(heard.text),
+        Status::Composing | Status::Cancelled => KeyVerdict::Take,
+        Status::Composed => KeyVerdict::Commit(heard.text),
         Status::Nothing => {
             if heard.text.as_str().is_empty() && begins_sequences(key) {
-                return Verdict::Take;
+                return KeyVerdict::Take;
             }
-            Verdict::Pass
+            KeyVerdict::Pass
         }
     }
 }
@@ -108,7 +108,7 @@ impl Client {
 
     /// Gives up the connection, and drops the pending keys. O(1).
     fn abandon(&mut self) -> Action
-        ensures { record { client = self.new; action = result } ≡ words.abandoned self.old }
+        ensures { record { client = self.new; action = result } ≡ words.abandon_outcome self.old }
     {
         self.pending.clear();
         self.is_stale = true;
@@ -118,7 +118,7 @@ impl Client {
 
     /// Gives up the connection. O(1).
     pub(crate) fn give_up(&mut self) -> Action
-        ensures { record { client = self.new; action = result } ≡ words.given_up self.old }
+        ensures { record { client = self.new; action = result } ≡ words.give_up_outcome self.old }
     {
         if self.stage.waits() {
             return self.abandon();
@@ -131,7 +131,7 @@ impl Client {
     /// Handles a key press. A key that is pressed while another one waits passes at once. O(pending
     /// keys).
     pub fn press(&mut self, key: Keysym) -> Action
-        ensures { record { client = self.new; action = result } ≡ words.pressed self.old key }
+        ensures { record { client = self.new; action = result } ≡ words.press_outcome self.old key }
     {
         let is_again = false;
         let waiting = Waiting { key, is_again };
@@ -141,7 +141,7 @@ impl Client {
                 Action::Connect
             }
             Stage::Ready => self.ask(waiting),
-            _ => Action::Tell(Verdict::Pass),
+            _ => Action::Tell(KeyVerdict::Pass),
         }
     }
 
@@ -159,18 +159,18 @@ impl Client {
     }
 
     /// Handles the reply to Open. O(pending keys).
-    fn answer_open(&mut self, waiting: Waiting, answer: &Answer) -> Action
-        ensures { (value : wire.Answer) → SaysAnswer answer.now value
+    fn answer_open(&mut self, waiting: Waiting, answer: &ReplyBody) -> Action
+        ensures { (value : wire.ReplyBody) → HasAnswerValue answer.now value
             → record { client = self.new; action = result }
             ≡ words.opened_at self.old waiting value }
     {
         match answer {
-            Answer::Opened => {
+            ReplyBody::Opened => {
                 self.is_opened = true;
                 self.is_stale = true;
                 self.ask(waiting)
             }
-            Answer::Refused(SESSION_TAKEN) if self.is_opened => {
+            ReplyBody::Refused(SESSION_TAKEN) if self.is_opened => {
                 self.is_stale = true;
                 self.ask(waiting)
             }
@@ -180,13 +180,13 @@ impl Client {
 
     /// Handles a reply to Reset or to a key that is typed again, when this number of them is still
     /// to come. O(1).
-    fn pass_over(&mut self, waiting: Waiting, left: usize, answer: &Answer) -> Action
+    fn pass_over(&mut self, waiting: Waiting, left: usize, answer: &ReplyBody) -> Action
         requires { 0 < left }
-        ensures { (value : wire.Answer) → SaysAnswer answer.now value
+        ensures { (value : wire.ReplyBody) → HasAnswerValue answer.now value
             → record { client = self.new; action = result }
             ≡ words.fed_at self.old waiting left value }
     {
-        if !matches!(answer, Answer::Fed(_, _, _) | Answer::WasReset) {
+        if !matches!(answer, ReplyBody::Fed(_, _, _) | ReplyBody::WasReset) {
             return self.abandon();
         }
         self.is_stale = true;
@@ -196,19 +196,19 @@ impl Client {
 
     /// Handles a reply to Reset or to a key, when this number of replies comes before the reply to
     /// the key that waits. O(1).
-    fn answer_key(&mut self, waiting: Waiting, left: usize, answer: Answer) -> Action
-        ensures { (value : wire.Answer) → SaysAnswer answer value
+    fn answer_key(&mut self, waiting: Waiting, left: usize, answer: ReplyBody) -> Action
+        ensures { (value : wire.ReplyBody) → HasAnswerValue answer value
             → record { client = self.new; action = result }
             ≡ words.fed_at self.old waiting left value }
     {
         if left > 0 {
             return self.pass_over(waiting, left, &answer);
         }
-        let Answer::Fed(status, accepted, text) = answer else {
+        let ReplyBody::Fed(status, accepted, text) = answer else {
             return self.abandon();
         };
         let text = Text::new(text);
-        let heard = Heard {
+        let heard = KeyAnswer {
             status,
             accepted,
             text,
@@ -219,12 +219,12 @@ impl Client {
     }
 
     /// Handles the reply to Ask. O(1).
-    fn answer_ask(&mut self, waiting: Waiting, heard: Heard, answer: Answer) -> Action
-        ensures { (value : wire.Answer) → SaysAnswer answer value
+    fn answer_ask(&mut self, waiting: Waiting, heard: KeyAnswer, answer: ReplyBody) -> Action
+        ensures { (value : wire.ReplyBody) → HasAnswerValue answer value
             → record { client = self.new; action = result }
             ≡ words.asked_at self.old waiting heard value }
     {
-        let Answer::State(status, pending) = answer else {
+        let ReplyBody::State(status, pending) = answer else {
             return self.abandon();
         };
         // The contract of this call says that there are at most 31.
@@ -238,7 +238,7 @@ impl Client {
     /// Handles a reply. A reply that belongs to no request gives up the connection. O(pending
     /// keys).
     pub fn answer(&mut self, reply: Reply) -> Action
-        ensures { (value : wire.Reply) → SaysReply reply value
+        ensures { (value : wire.Reply) → HasReplyValue reply value
             → record { client = self.new; action = result } ≡ words.answered self.old value }
     {
         if reply.session != self.session {
@@ -287,7 +287,7 @@ impl Client {
 
     /// Handles the end of the time allowed for a key. O(1).
     pub fn time_out(&mut self) -> Action
-        ensures { record { client = self.new; action = result } ≡ words.timed_out self.old }
+        ensures { record { client = self.new; action = result } ≡ words.timeout_outcome self.old }
     {
         if !self.stage.waits() {
             return Action::Wait;

@@ -2,7 +2,7 @@
 ghost use Rattle.std.specs.Prelude.{◌≡◌, ◌+◌, ◌≤◌, ◌++◌, ◌∷◌, [], length, if◌then◌else◌};
 ghost use Rattle.compose_wire.specs.Messages as words;
 ghost use Rattle.compose_wire.specs.Frames.{frame, frame_of};
-ghost use Rattle.compose_typing.specs.Typing.{sent, typed_anew};
+ghost use Rattle.compose_typing.specs.TypingSession.{sent, typed_anew};
 
 use crate::action::Frames;
 use arrayvec::ArrayVec;

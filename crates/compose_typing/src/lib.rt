@@ -28,9 +28,9 @@ mod frames;
 mod stage;
 mod typing;
 
-pub use action::{Action, Frames, Text, Verdict};
+pub use action::{Action, Frames, KeyVerdict, Text};
 pub use client::Client;
-pub use typing::Typing;
+pub use typing::TypingSession;
 
 /// Over every list of events, each key has one verdict: it was reported, or the key waits for it.
 /// At most one key waits at a time.

@@ -1,6 +1,6 @@
 //! What a client waits for.
 ghost use Rattle.std.specs.Prelude.{◌≡◌};
-ghost use Rattle.compose_typing.specs.Typing as words;
+ghost use Rattle.compose_typing.specs.TypingSession as words;
 
 use crate::action::Text;
 use compose_model::Status;
@@ -17,7 +17,7 @@ pub struct Waiting {
 
 /// The service's answer to a key.
 #[derive(Drop)]
-pub struct Heard {
+pub struct KeyAnswer {
     /// The state of the session after the key.
     pub status: Status,
     /// Whether the key was accepted: modifiers and other ignored keys are not.
@@ -41,7 +41,7 @@ pub enum Stage {
     /// then for its own.
     Feeding(Waiting, usize),
     /// A key was answered, and waits for the reply to Ask.
-    Asking(Waiting, Heard),
+    Asking(Waiting, KeyAnswer),
 }
 
 impl Stage {

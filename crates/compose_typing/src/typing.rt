@@ -3,8 +3,8 @@ ghost use Rattle.std.specs.Prelude.{◌≡◌, ◌++◌, List, ℕ, [], Some, No
 ghost use Rattle.compose_wire.specs.Messages as wire;
 ghost use Rattle.compose_wire.specs.Frames.{Fault, reply_bytes};
 ghost use Rattle.compose_client.specs.Replies.{ReplyFits, head_fault, HasBadPayload, IsReplyBegun};
-ghost use Rattle.compose_typing.specs.Typing as words;
-ghost use Rattle.compose_typing.specs.Bytes.{Becomes, Gives};
+ghost use Rattle.compose_typing.specs.TypingSession as words;
+ghost use Rattle.compose_typing.specs.Bytes.{Becomes, Returns};
 
 use crate::action::Action;
 use crate::client::Client;
@@ -15,25 +15,25 @@ use std::marker::Model;
 
 /// A client, and the received bytes of replies that it has not read yet.
 #[derive(Drop)]
-pub struct Typing {
+pub struct TypingSession {
     client: Client,
     replies: ReplyFeeder,
 }
 
-impl Model for Typing {
-    ghost use Rattle.compose_typing.specs.Bytes.{Typing as TypingValue};
+impl Model for TypingSession {
+    ghost use Rattle.compose_typing.specs.Bytes.{TypingSession as TypingValue};
 
     ghost Value = { TypingValue };
 
     ghost view = { λ t. record { client = t.client; held = t.replies } };
 }
 
-impl Typing {
+impl TypingSession {
     /// Makes a client that has typed nothing. O(1), takes no memory.
-    pub fn new(alloc: Global) -> Typing
+    pub fn new(alloc: Global) -> TypingSession
         ensures { result ≡ record { client = words.start; held = [] } }
     {
-        Typing {
+        TypingSession {
             client: Client::new(),
             replies: ReplyFeeder::new(alloc),
         }
@@ -56,7 +56,7 @@ impl Typing {
     /// Handles a key press. A key that is pressed while another one waits passes at once. O(pending
     /// keys).
     pub fn press(&mut self, key: Keysym) -> Action
-        ensures { Becomes (words.pressed self.old.client key) self.old.held self.new
+        ensures { Becomes (words.press_outcome self.old.client key) self.old.held self.new
             result }
     {
         self.client.press(key)
@@ -89,11 +89,11 @@ impl Typing {
     pub fn next_action(&mut self) -> Option<Action>
         ensures reply { (r : wire.Reply) (more : List ℕ) → ReplyFits r
             → self.old.held ≡ reply_bytes r ++ more
-            → Gives (words.answered self.old.client r) more self.new result }
+            → Returns (words.answered self.old.client r) more self.new result }
         ensures fault { (fault : Fault) → head_fault self.old.held ≡ Some fault
-            → Gives (words.given_up self.old.client) self.old.held self.new result }
+            → Returns (words.give_up_outcome self.old.client) self.old.held self.new result }
         ensures bad_payload { HasBadPayload self.old.held
-            → Gives (words.given_up self.old.client) self.old.held self.new result }
+            → Returns (words.give_up_outcome self.old.client) self.old.held self.new result }
         ensures none { IsReplyBegun self.old.held → (result ≡ None) × (self.new ≡ self.old) }
     {
         match self.replies.next_reply() {
@@ -113,7 +113,7 @@ impl Typing {
 
     /// Handles the end of the time allowed for a key. O(1).
     pub fn time_out(&mut self) -> Action
-        ensures { Becomes (words.timed_out self.old.client) self.old.held self.new result }
+        ensures { Becomes (words.timeout_outcome self.old.client) self.old.held self.new result }
     {
         self.client.time_out()
     }

@@ -13,7 +13,7 @@ use Rattle.compose_model.specs.Follows.{Agrees, AgreeAlong, Follows, Kind, diffe
 use Rattle.compose_model.specs.Nodes.{is_node, has_edge}
 use Rattle.compose_model.specs.Certificate.{AreFresh}
 use Rattle.compose_model.proofs.Tests.{both_at, list_any-weaker}
-use Rattle.compose_model.proofs.Steps.{effect_tells, ignored_key, no_cancel_test, pending_from-append, uncancelled_head, uncancelled_rest}
+use Rattle.compose_model.proofs.Steps.{effect_tests, ignored_key, no_cancel_test, pending_from-append, uncancelled_head, uncancelled_rest}
 use Rattle.compose_model.proofs.NodeLemmas.{same_is, node_means, extended_is_node}
 use Rattle.compose_model.proofs.Definitions.{sequence_fed}
 use Rattle.compose_model.proofs.Reached.{IsReached, root_reached, reached_more, node_reached, shorter_prefix, uncancelled_from-append}
@@ -132,10 +132,10 @@ module _ (names : KeysymNames) (fresh : List ℕ) (old new : List Definition) wh
 
       go : ((q : List ℕ) → Clear names fresh old new q → uncancelled_from old q w ≡ true → AgreeAlong names old new q (pending new q) w)
           → (x : Effect) → effect old p j ≡ x → AgreeAlong names old new (pending_after old p j) (pending_after new (pending new p) j) w
-      go again ignores e = from again p (ap (λ x. pending_by x p j) e) (ap (λ x. pending_by x (pending new p) j) (ignored_key new (pending new p) j (effect_tells old p j ignores e))) c
+      go again ignores e = from again p (ap (λ x. pending_by x p j) e) (ap (λ x. pending_by x (pending new p) j) (ignored_key new (pending new p) j (effect_tests old p j ignores e))) c
       go again extends e = from again (p ++ j ∷ []) (ap (λ x. pending_by x p j) e) (sym (pending_from-append new [] p (j ∷ []))) (clear_more names fresh old new p j c e here)
-      go again completes e = (let r = ap (λ x. pending_by x p j) e in from again [] r (here.rests r) (root_clear names fresh old new))
-      go again passes e = (let r = ap (λ x. pending_by x p j) e in from again [] r (here.rests r) (root_clear names fresh old new))
+      go again completes e = (let r = ap (λ x. pending_by x p j) e in from again [] r (here.nothing_pending r) (root_clear names fresh old new))
+      go again passes e = (let r = ap (λ x. pending_by x p j) e in from again [] r (here.nothing_pending r) (root_clear names fresh old new))
       go again cancels e = absurd (uncancelled_head old p j w u e)
 
   -- if the tables have no candidate, the new table follows the old one
@@ -165,7 +165,7 @@ module _ (names : KeysymNames) (fresh : List ℕ) (old new : List Definition) wh
       where
         by : (has_edge old p k ≡ true) ⊎ ((p ≡ []) × (has_edge old [] k ≡ false) × (has_edge new [] k ≡ true) × (has_key fresh k ≡ false)) → ⊥
         by (inl h) = edge_goes_on old p k t_old h e
-        by (inr s) = let told = (effect_tells old p k cancels e).3 in let clash : true ≡ false = sym (ap is_empty s.0) ∙ told in cc
+        by (inr s) = let reported = (effect_tests old p k cancels e).3 in let clash : true ≡ false = sym (ap is_empty s.0) ∙ reported in cc
 
     -- a candidate is a counterexample
     pub candidate_shows : (p : List ℕ) (k : ℕ) (kind : Kind) → Candidate names fresh old new p k → difference_at names old new p k ≡ Some kind
@@ -196,10 +196,10 @@ module _ (names : KeysymNames) (fresh : List ℕ) (old new : List Definition) wh
           list_all-append (λ j. not (is_ignored j)) p (k ∷ [])
           ∙ and_from (list_all (λ j. not (is_ignored j)) p) (list_all (λ j. not (is_ignored j)) (k ∷ [])) (node_fed old p t_old c.clear.reached.node)
           (and_from (not (is_ignored k)) true (not_from_false (is_ignored k) (candidate_fed p k c)) refl);
-      never_rests = λ v w e nv nw rests.
+      never_at_rest = λ v w e nv nw nothing_pending.
           (let r = prefix_of v w p k e nw in
           let v_node = shorter_node old v r.0 (ap (is_node old) (sym r.1) ∙ c.clear.reached.node) in
-          nv (sym (node_reached old v t_old v_node).again ∙ rests));
+          nv (sym (node_reached old v t_old v_node).again ∙ nothing_pending));
     }
 
   -- and each difference is one
@@ -211,7 +211,7 @@ module _ (names : KeysymNames) (fresh : List ℕ) (old new : List Definition) wh
       rest : (y : Effect) → effect old v j ≡ y → pending_by y v j ≡ [] → ⊥
       rest y h p =
           let split : x.keys ≡ (v ++ j ∷ []) ++ (w ++ k ∷ []) = e ∙ append_assoc v (j ∷ w) (k ∷ []) ∙ sym (append_assoc v (j ∷ []) (w ++ k ∷ [])) in
-          d.never_rests (v ++ j ∷ []) (w ++ k ∷ []) split (λ n. nonempty v n) (λ n. nonempty_k w n)
+          d.never_at_rest (v ++ j ∷ []) (w ++ k ∷ []) split (λ n. nonempty v n) (λ n. nonempty_k w n)
           (pending_from-append old [] v (j ∷ []) ∙ ap (λ z. pending_after old z j) r.again ∙ ap (λ z. pending_by z v j) h ∙ p)
         where
           nonempty : (v : List ℕ) → v ++ j ∷ [] ≡ [] → ⊥
@@ -224,13 +224,13 @@ module _ (names : KeysymNames) (fresh : List ℕ) (old new : List Definition) wh
 
       go : (IsReached old (v ++ j ∷ []) → uncancelled_from old (v ++ j ∷ []) (w ++ k ∷ []) ≡ true → IsReached old ((v ++ j ∷ []) ++ w)) → (y : Effect) → effect old v j ≡ y → IsReached old (v ++ j ∷ w)
       go again ignores h = absurd (
-          let told = effect_tells old v j ignores h in
+          let reported = effect_tests old v j ignores h in
           let all : list_all (λ i. not (is_ignored i)) (v ++ ((j ∷ w) ++ k ∷ [])) ≡ true = ap (list_all (λ i. not (is_ignored i))) (sym (append_assoc v (j ∷ w) (k ∷ [])) ∙ sym e) ∙ d.none_ignored in
           let behind =
           and_parts (list_all (λ i. not (is_ignored i)) v) (list_all (λ i. not (is_ignored i)) ((j ∷ w) ++ k ∷ []))
           (sym (list_all-append (λ i. not (is_ignored i)) v ((j ∷ w) ++ k ∷ [])) ∙ all) in
           let head = not-true (is_ignored j) (and_parts (not (is_ignored j)) (list_all (λ i. not (is_ignored i)) (w ++ k ∷ [])) behind.1).0 in
-          let clash : true ≡ false = sym told ∙ head in cc)
+          let clash : true ≡ false = sym reported ∙ head in cc)
       go again extends h =
           let uu : uncancelled_from old (v ++ j ∷ []) (w ++ k ∷ []) ≡ true =
           subst (λ (y : List ℕ). uncancelled_from old y (w ++ k ∷ []) ≡ true) (ap (λ z. pending_by z v j) h) (uncancelled_rest old v j (w ++ k ∷ []) u) in

@@ -14,8 +14,8 @@ use Rattle.compose_tree.specs.Targets.{target_of}
 use Rattle.compose_tree.proofs.Steps.{Leads, leads, goes_on}
 use Rattle.compose_walk.specs.Pass.{agrees, differs_at}
 use Rattle.compose_walk.specs.Steps.{IsStep, difference_of}
-use Rattle.compose_walk.specs.Stands.{stands_at, found_at}
-use Rattle.compose_walk.specs.declared.pass.Stand.{Stand}
+use Rattle.compose_walk.specs.Stands.{partners_at, found_at}
+use Rattle.compose_walk.specs.declared.pass.Partner.{Partner}
 use Rattle.compose_walk.specs.declared.pass.Found.{Found}
 use Rattle.compose_walk.specs.declared.step.KeyStep.{KeyStep}
 use Rattle.compose_walk.proofs.NodeNumbers.{number_at_node, node_is_node}
@@ -29,8 +29,8 @@ taken_more (y ∷ ys) (suc i) x h = rw add-one (ap (λ zs. y ∷ zs) (sym (rw ad
 
 module _ (names : KeysymNames) (old new : List Definition) (sound : is_table old ≡ true) (i j index k : ℕ) (t : Target)
     (in_range : i < length (nodes old)) (new_in_range : j < length (nodes new)) (at : slice_get (edges old (node old i)) index ≡ Some k) (to : target_of old (node old i) k ≡ Some t)
-    (agree : agrees names old new (node old i) ≡ true) (together : node new j ≡ pending new (node old i)) (before : List (Option Stand))
-    (stood : before ≡ stands_at names old new i (take index (edges old (node old i))))
+    (agree : agrees names old new (node old i) ≡ true) (together : node new j ≡ pending new (node old i)) (before : List (Option Partner))
+    (stood : before ≡ partners_at names old new i (take index (edges old (node old i))))
     (a b : KeyStep) (old_step : IsStep names old (node old i) k a) (new_step : IsStep names new (node new j) k b) where
   here : is_node old (node old i) ≡ true
   here = node_is_node old i in_range
@@ -41,20 +41,20 @@ module _ (names : KeysymNames) (old new : List Definition) (sound : is_table old
   differ : is_some (difference_of a b) ≡ differs_at names old new (node old i) k
   differ = differs_alike names old new (node old i) (node new j) k a b here (node_is_node new j new_in_range) together old_step new_step
 
-  unwritten : (is_node old (node old i ++ k ∷ []) ≡ true → agrees names old new (node old i ++ k ∷ []) ≡ false) → before ≡ stands_at names old new i (take (index + 1) (edges old (node old i)))
+  unwritten : (is_node old (node old i ++ k ∷ []) ≡ true → agrees names old new (node old i ++ k ∷ []) ≡ false) → before ≡ partners_at names old new i (take (index + 1) (edges old (node old i)))
   unwritten dark =
       stood ∙ kept_edge names old new sound (node old i) i (take index (edges old (node old i))) k here (number_at_node old i in_range) dark
-      ∙ ap (stands_at names old new i) (sym (taken_more (edges old (node old i)) index k at))
+      ∙ ap (partners_at names old new i) (sym (taken_more (edges old (node old i)) index k at))
 
   -- if the tables differ at the edge, nothing is written
-  pub stands_if_differs : is_some (difference_of a b) ≡ true → before ≡ stands_at names old new i (take (index + 1) (edges old (node old i)))
-  stands_if_differs d = unwritten (λ _. agrees_push names old new sound (node old i) k here ∙ ap (λ c. c && not (differs_at names old new (node old i) k)) agree ∙ ap not (sym differ ∙ d))
+  pub partners_if_differs : is_some (difference_of a b) ≡ true → before ≡ partners_at names old new i (take (index + 1) (edges old (node old i)))
+  partners_if_differs d = unwritten (λ _. agrees_push names old new sound (node old i) k here ∙ ap (λ c. c && not (differs_at names old new (node old i) k)) agree ∙ ap not (sym differ ∙ d))
 
   -- nothing is written either if it leads to a leaf
-  pub stands_at_leaf : ((n : NodeId) → t ≡ Node n → ⊥) → before ≡ stands_at names old new i (take (index + 1) (edges old (node old i)))
-  stands_at_leaf other = go t refl leads_on
+  pub partners_at_leaf : ((n : NodeId) → t ≡ Node n → ⊥) → before ≡ partners_at names old new i (take (index + 1) (edges old (node old i)))
+  partners_at_leaf other = go t refl leads_on
     where
-      go : (u : Target) → t ≡ u → Leads old (node old i) k (Some u) → before ≡ stands_at names old new i (take (index + 1) (edges old (node old i)))
+      go : (u : Target) → t ≡ u → Leads old (node old i) k (Some u) → before ≡ partners_at names old new i (take (index + 1) (edges old (node old i)))
       go (Node n) e l = absurd (other n e)
       go (Leaf n) e l = unwritten (λ h. absurd (let clash : true ≡ false = sym h ∙ no_node l.extended in cc))
         where
@@ -69,14 +69,14 @@ module _ (names : KeysymNames) (old new : List Definition) (sound : is_table old
   child_below n e = let l : n.0 < length (nodes old) = (to_node n e).in_range in let s : length before ≡ length (nodes old) = ap length stood ∙ length-map (nodes old) _ in omega arith
 
   -- if it leads to a node, and the tables agree, the node's partner is written
-  pub stands_at_child : (n : NodeId) (s : Stand) → t ≡ Node n → is_some (difference_of a b) ≡ false → s.new_node.0 ≡ b.next.0 → s.parent.0 ≡ i → s.keysym ≡ k
-      → set before n.0 (Some s) ≡ stands_at names old new i (take (index + 1) (edges old (node old i)))
-  stands_at_child n s e d en ep ek =
+  pub partners_at_child : (n : NodeId) (s : Partner) → t ≡ Node n → is_some (difference_of a b) ≡ false → s.new_node.0 ≡ b.next.0 → s.parent.0 ≡ i → s.keysym ≡ k
+      → set before n.0 (Some s) ≡ partners_at names old new i (take (index + 1) (edges old (node old i)))
+  partners_at_child n s e d en ep ek =
       ap (λ m. set before m (Some s)) (sym (to_node n e).number)
       ∙ ap (λ xs. set xs (number_of old (node old i ++ k ∷ [])) (Some s)) stood
       ∙ written_edge names old new sound (node old i) i (take index (edges old (node old i))) k s here (number_at_node old i in_range) (to_node n e).is_node agree (sym differ ∙ d)
       (en ∙ new_step.next ∙ ap (λ v. number_of new (pending_after new v k)) together) ep ek
-      ∙ ap (stands_at names old new i) (sym (taken_more (edges old (node old i)) index k at))
+      ∙ ap (partners_at names old new i) (sym (taken_more (edges old (node old i)) index k at))
 
   same_key : (m : ℕ) → slice_get (edges old (node old i)) index ≡ Some m → k ≡ m
   same_key m h = let e : Some k ≡ Some m = sym at ∙ h in cc

@@ -72,8 +72,8 @@ long_way = record { sequence = 0xfe50 ∷ 0xfe51 ∷ 0x65 ∷ []; text = codes "
 agrees_all_along : agrees core long_way short_way (0xfe50 ∷ 0xfe51 ∷ []) ≡ true
 agrees_all_along = refl
 
-nothing_behind : differing_edges core long_way short_way (0xfe50 ∷ 0xfe51 ∷ []) ≡ []
-nothing_behind = refl
+nothing_after : differing_edges core long_way short_way (0xfe50 ∷ 0xfe51 ∷ []) ≡ []
+nothing_after = refl
 
 -- ---- a sequence that the new table breaks off
 
@@ -91,8 +91,8 @@ breaks_kind : difference_at core grave_acute grave_d (0xfe50 ∷ []) 0xfe51 ≡ 
 breaks_kind = refl
 
 -- nothing is checked after it
-not_behind : agrees core grave_acute grave_d (0xfe50 ∷ 0xfe51 ∷ []) ≡ false
-not_behind = refl
+not_after : agrees core grave_acute grave_d (0xfe50 ∷ 0xfe51 ∷ []) ≡ false
+not_after = refl
 
 -- ---- a sequence of one keysym with that keysym's own text may be removed
 
@@ -109,9 +109,9 @@ three = record { sequence = 0xfe50 ∷ 0x61 ∷ []; text = codes "x" } ∷ recor
 at_root : differing_edges core three [] [] ≡ 0xfe51 ∷ 0xfe52 ∷ []
 at_root = refl
 
-behind_grave : differing_edges core three [] (0xfe50 ∷ []) ≡ 0x61 ∷ []
+after_grave : differing_edges core three [] (0xfe50 ∷ []) ≡ 0x61 ∷ []
 unfolding encode_utf8
-behind_grave = refl
+after_grave = refl
 
 acute_before_circumflex : comes_first (0xfe51 ∷ []) (0xfe52 ∷ []) ≡ true
 acute_before_circumflex = refl
@@ -152,13 +152,13 @@ in_order (suc k) d low high = absurd (omega arith)
 none_fresh : AreFresh [] grave_a
 none_fresh = record { rise = refl; none_ignored = refl; none_used = refl }
 
-told : map (evidence_found named grave_a acute_e_line) both_found ≡ both
+reported : map (evidence_found named grave_a acute_e_line) both_found ≡ both
 unfolding encode_utf8
-told = refl
+reported = refl
 
 these_two : AreDifferences named [] grave_a acute_e_line both
 these_two =
-    subst (AreDifferences named [] grave_a acute_e_line) told
+    subst (AreDifferences named [] grave_a acute_e_line) reported
     (all_differences named [] grave_a acute_e_line refl refl none_fresh both_found (subst (λ (xs : List Found). IsPermutation xs both_found) (sym found_are) (IsPermutation-refl both_found)) in_order)
 
 these_two_text : all_explained named both

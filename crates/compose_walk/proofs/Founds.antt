@@ -21,7 +21,7 @@ use Rattle.compose_model.proofs.Exact.{walked_simulate, refutes}
 use Rattle.compose_model.proofs.Sorted.{walked_rise}
 use Rattle.compose_walk.specs.Evidence.{Evidence, Shows, IsLeast, comes_first}
 use Rattle.compose_walk.specs.Pass.{difference_at, differs_at, agrees_from, agrees, is_differing_start, differing_starts, evidence}
-use Rattle.compose_walk.specs.Stands.{without_last, last_key, stand, found_at, found_behind, all_found, comes_sooner, IsPlace, stand_pairs}
+use Rattle.compose_walk.specs.Stands.{without_last, last_key, stand, found_at, found_behind, all_found, comes_sooner, IsPlace, partner_pairs}
 use Rattle.compose_walk.specs.Walks.{IsFollower}
 use Rattle.compose_walk.specs.declared.pass.Found.{Found}
 use Rattle.compose_walk.proofs.Reduction.{agreement, no_difference, Clear, Candidate}
@@ -115,11 +115,11 @@ all_index P (y ∷ ys) (suc i) x a h e = all_index P ys i x a.1 (omega arith) e
 -- ---- the order of what is found
 
 -- lists of one length keep their order when they go on
-less_behind : (p q x y : List ℕ) → length p ≡ length q → slice_cmp nat_cmp p q ≡ Less → slice_cmp nat_cmp (p ++ x) (q ++ y) ≡ Less
-less_behind [] [] x y e h = cc
-less_behind [] (k ∷ q) x y e h = absurd (omega arith)
-less_behind (j ∷ p) [] x y e h = absurd (omega arith)
-less_behind (j ∷ p) (k ∷ q) x y e h = go (nat_cmp j k) h (λ i. less_behind p q x y (omega arith) i)
+less_extended : (p q x y : List ℕ) → length p ≡ length q → slice_cmp nat_cmp p q ≡ Less → slice_cmp nat_cmp (p ++ x) (q ++ y) ≡ Less
+less_extended [] [] x y e h = cc
+less_extended [] (k ∷ q) x y e h = absurd (omega arith)
+less_extended (j ∷ p) [] x y e h = absurd (omega arith)
+less_extended (j ∷ p) (k ∷ q) x y e h = go (nat_cmp j k) h (λ i. less_extended p q x y (omega arith) i)
   where
     go : (o : Ordering) → ordering_then o (slice_cmp nat_cmp p q) ≡ Less → (slice_cmp nat_cmp p q ≡ Less → slice_cmp nat_cmp (p ++ x) (q ++ y) ≡ Less)
         → ordering_then o (slice_cmp nat_cmp (p ++ x) (q ++ y)) ≡ Less
@@ -158,7 +158,7 @@ in_order table p q k j hp hq n = by (length q == length p) refl n
     nodes_of : length q ≡ length p → (o : Ordering) → slice_cmp nat_cmp p q ≡ o → (c : Bool) → number_of table q == number_of table p ≡ c
         → cond c (nat_lt j k) (nat_lt (number_of table q) (number_of table p)) ≡ false
         → (p ++ k ∷ [] ≡ q ++ j ∷ []) ⊎ (comes_first (p ++ k ∷ []) (q ++ j ∷ []) ≡ true)
-    nodes_of e Less eo c ec m = inr (first_before (p ++ k ∷ []) (q ++ j ∷ []) (let l1 = a in let l2 = b in omega arith) (less_behind p q (k ∷ []) (j ∷ []) (sym e) eo))
+    nodes_of e Less eo c ec m = inr (first_before (p ++ k ∷ []) (q ++ j ∷ []) (let l1 = a in let l2 = b in omega arith) (less_extended p q (k ∷ []) (j ∷ []) (sym e) eo))
     nodes_of e Equal eo true ec m = keys e (exact_bytes p q eo) m
     nodes_of e Equal eo false ec m = absurd (let clash : true ≡ false = sym (eq-eqb (number_of table q) (number_of table p) (ap (number_of table) (sym (exact_bytes p q eo)))) ∙ ec in cc)
     nodes_of e Greater eo c ec m = absurd (
@@ -191,8 +191,8 @@ module _ (names : KeysymNames) (fresh : List ℕ) (old new : List Definition) (t
   clear_of : (p : List ℕ) → is_node old p ≡ true → agrees names old new p ≡ true → Clear names fresh old new p
   clear_of p h a = record { reached = node_reached old p t_old h; along = along_of names old new [] [] p a }
 
-  found_behind_node : (p : List ℕ) → is_node old p ≡ true → AllByRecursion IsFound (found_behind names old new p)
-  found_behind_node p h = go (agrees names old new p) refl
+  found_of_node : (p : List ℕ) → is_node old p ≡ true → AllByRecursion IsFound (found_behind names old new p)
+  found_of_node p h = go (agrees names old new p) refl
     where
       go : (b : Bool) → agrees names old new p ≡ b → AllByRecursion IsFound (map (found_at old p) (cond b (filter (differs_at names old new p) (edges old p)) []))
       go true a = all_filtered IsFound (found_at old p) (differs_at names old new p) (edges old p) (λ k m d. record {
@@ -224,7 +224,7 @@ module _ (names : KeysymNames) (fresh : List ℕ) (old new : List Definition) (t
   pub all_are_found : AllByRecursion IsFound (all_found names fresh old new (nodes old))
   all_are_found =
       all_append IsFound (map (found_at old []) (differing_starts names fresh old new)) (flat_map (found_behind names old new) (nodes old)) found_starts
-      (all_flat IsFound (found_behind names old new) (nodes old) found_behind_node)
+      (all_flat IsFound (found_behind names old new) (nodes old) found_of_node)
 
   -- each candidate is among what the pass finds
   pub has_candidate : (p : List ℕ) (k : ℕ) → Candidate names fresh old new p k → Has (found_at old p k) (all_found names fresh old new (nodes old))
@@ -279,10 +279,10 @@ module _ (names : KeysymNames) (fresh : List ℕ) (old new : List Definition) (t
       → (h : IsFound f) (x : Evidence) → ((kind : Kind) → difference_at names old new (node old f.node) f.keysym ≡ Some kind → x ≡ evidence names old new (node old f.node) f.keysym kind)
       → (Follows names fresh old new → ⊥) × IsLeast names fresh old new x
   first_is_least b f best at h x e =
-      let told = evidence_of f h x e in
+      let reported = evidence_of f h x e in
       let shown : Shows names fresh old new x =
-      subst (λ (y : Evidence). Shows names fresh old new y) (sym told.2) (candidate_shows names fresh old new t_old t_new are h.before h.key told.0 h.candidate told.1) in
-      (refutes names fresh old new x.keys x.kind x.old_text x.new_text shown, least_from names fresh old new x shown (λ q j c. first told.2 q j c))
+      subst (λ (y : Evidence). Shows names fresh old new y) (sym reported.2) (candidate_shows names fresh old new t_old t_new are h.before h.key reported.0 h.candidate reported.1) in
+      (refutes names fresh old new x.keys x.kind x.old_text x.new_text shown, least_from names fresh old new x shown (λ q j c. first reported.2 q j c))
     where
       first : {kind : Kind} → x ≡ evidence names old new h.before h.key kind → (q : List ℕ) (j : ℕ) → Candidate names fresh old new q j
           → (x.keys ≡ q ++ j ∷ []) ⊎ (comes_first x.keys (q ++ j ∷ []) ≡ true)
@@ -301,17 +301,17 @@ module _ (names : KeysymNames) (fresh : List ℕ) (old new : List Definition) (t
   follows_if_none : all_found names fresh old new (nodes old) ≡ [] → Follows names fresh old new
   follows_if_none e = follows_without names fresh old new (λ q j c. subst (λ (xs : List Found). Has (found_at old q j) xs) e (has_candidate q j c))
 
-  stands_paired : (f : Follows names fresh old new) (n : ℕ) (xs : List (List ℕ)) → ((i : ℕ) → i < length xs → number_of old (get_or xs i []) ≡ n + i)
+  partners_paired : (f : Follows names fresh old new) (n : ℕ) (xs : List (List ℕ)) → ((i : ℕ) → i < length xs → number_of old (get_or xs i []) ≡ n + i)
       → ((p : List ℕ) → list_any (same p) xs ≡ true → agrees names old new p ≡ true)
-      → stand_pairs n (map (stand names old new) xs) ≡ map (λ p. (number_of old p, number_of new (pending new p))) xs
-  stands_paired f n [] at all = refl
-  stands_paired f n (x ∷ xs) at all =
+      → partner_pairs n (map (stand names old new) xs) ≡ map (λ p. (number_of old p, number_of new (pending new p))) xs
+  partners_paired f n [] at all = refl
+  partners_paired f n (x ∷ xs) at all =
       let number : n ≡ number_of old x = sym (at zero (omega arith) ∙ omega arith) in
-      let later = stands_paired f (n + 1) xs (λ i l. at (suc i) (omega arith) ∙ omega arith) (λ p m. all p (or_right (same p x) (list_any (same p) xs) m)) in
+      let later = partners_paired f (n + 1) xs (λ i l. at (suc i) (omega arith) ∙ omega arith) (λ p m. all p (or_right (same p x) (list_any (same p) xs) m)) in
       go (agrees names old new x) (all x (or_left (same x x) (list_any (same x) xs) (same_from x x refl))) number later
     where
-      go : (b : Bool) → b ≡ true → n ≡ number_of old x → stand_pairs (n + 1) (map (stand names old new) xs) ≡ map (λ p. (number_of old p, number_of new (pending new p))) xs
-          → stand_pairs n
+      go : (b : Bool) → b ≡ true → n ≡ number_of old x → partner_pairs (n + 1) (map (stand names old new) xs) ≡ map (λ p. (number_of old p, number_of new (pending new p))) xs
+          → partner_pairs n
           (cond b (Some (record { new_node = record { 0 = number_of new (pending new x) }; parent = record { 0 = number_of old (without_last x) }; keysym = last_key x })) None
           ∷ map (stand names old new) xs)
           ≡ (number_of old x, number_of new (pending new x)) ∷ map (λ p. (number_of old p, number_of new (pending new p))) xs
@@ -319,11 +319,11 @@ module _ (names : KeysymNames) (fresh : List ℕ) (old new : List Definition) (t
       go false e number later = cc
 
   -- if nothing is found, the new table follows, and the pairs simulate
-  pub none_is_follower : all_found names fresh old new (nodes old) ≡ [] → (pairs : List (ℕ × ℕ)) → pairs ≡ stand_pairs 0 (map (stand names old new) (nodes old)) → IsFollower names fresh old new pairs
+  pub none_is_follower : all_found names fresh old new (nodes old) ≡ [] → (pairs : List (ℕ × ℕ)) → pairs ≡ partner_pairs 0 (map (stand names old new) (nodes old)) → IsFollower names fresh old new pairs
   none_is_follower e pairs is =
       let f = follows_if_none e in
       let walked : pairs ≡ walked_pairs old new =
-      is ∙ stands_paired f 0 (nodes old) (λ i l. number_at_node old i l ∙ omega arith)
+      is ∙ partners_paired f 0 (nodes old) (λ i l. number_at_node old i l ∙ omega arith)
       (λ p m. agrees_of names old new [] [] p (f p (node_avoids fresh old p are m) (node_reached old p t_old m).goes_on)) in
       record {
         follows = f;

@@ -10,7 +10,7 @@ pub mod Nodes
 pub mod Starts
 pub mod Traces
 pub mod Founds
-pub mod Told
+pub mod Reported
 pub mod FirstOrder
 pub mod Firsts
 pub mod Order

@@ -10,8 +10,8 @@ use Rattle.compose_model.specs.Step.{is_empty, pending}
 use Rattle.compose_model.specs.Nodes.{nodes, is_node, node, number_of, has_edge, edges}
 use Rattle.compose_model.proofs.NodeLemmas.{root_is_node, root_number, node_at_number, number_below, pending_is_node, edge_listed}
 use Rattle.compose_walk.specs.Pass.{differs_at, agrees, differing_starts}
-use Rattle.compose_walk.specs.Stands.{without_last, last_key, stand, is_done, stands_at, found_at, found_behind, all_found}
-use Rattle.compose_walk.specs.declared.pass.Stand.{Stand}
+use Rattle.compose_walk.specs.Stands.{without_last, last_key, stand, is_done, partners_at, found_at, found_behind, all_found}
+use Rattle.compose_walk.specs.declared.pass.Partner.{Partner}
 use Rattle.compose_walk.specs.declared.pass.Found.{Found}
 use Rattle.compose_walk.proofs.NodeNumbers.{number_at_node, node_is_node, parent_before, on_nodes, set_node}
 use Rattle.compose_walk.proofs.Standing.{agrees_push, pushed, prefix_node}
@@ -75,7 +75,7 @@ module _ (names : KeysymNames) (old new : List Definition) (sound : is_table old
           ]
 
   -- once each edge of a node was visited, the next node comes
-  pub node_done : (i : ℕ) → i < length (nodes old) → stands_at names old new i (edges old (node old i)) ≡ stands_at names old new (i + 1) []
+  pub node_done : (i : ℕ) → i < length (nodes old) → partners_at names old new i (edges old (node old i)) ≡ partners_at names old new (i + 1) []
   node_done i h = on_nodes old _ _ (λ q hq. ap (λ b. cond b (stand names old new q) None) (at q hq (is_empty q) refl))
     where
       at : (q : List ℕ) → is_node old q ≡ true → (e : Bool) → is_empty q ≡ e
@@ -86,7 +86,7 @@ module _ (names : KeysymNames) (old new : List Definition) (sound : is_table old
           (λ m. edge_listed old (node old i) (last_key q) (ap (λ p. has_edge old p (last_key q)) (sym (prefix_is i q h hq m)) ∙ behind_prefix old q hq e))
 
   -- a node up to which the tables do not agree is passed over
-  pub node_skipped : (i : ℕ) → i < length (nodes old) → agrees names old new (node old i) ≡ false → stands_at names old new i [] ≡ stands_at names old new (i + 1) []
+  pub node_skipped : (i : ℕ) → i < length (nodes old) → agrees names old new (node old i) ≡ false → partners_at names old new i [] ≡ partners_at names old new (i + 1) []
   node_skipped i h dark = on_nodes old _ _ (λ q hq. at q hq (is_empty q) refl (number_of old (without_last q) == i) refl)
     where
       none : (q : List ℕ) → agrees names old new q ≡ false → (b : Bool) → cond b (stand names old new q) None ≡ None
@@ -107,14 +107,14 @@ module _ (names : KeysymNames) (old new : List Definition) (sound : is_table old
           ap (λ b. cond (is_empty q || b) (stand names old new q) None) (tests_move (number_of old (without_last q)) i false (λ x. (let clash : true ≡ false = sym x ∙ em in cc)))
 
   -- after the last node each has its partner
-  pub nodes_done : stands_at names old new (length (nodes old)) [] ≡ map (stand names old new) (nodes old)
+  pub nodes_done : partners_at names old new (length (nodes old)) [] ≡ map (stand names old new) (nodes old)
   nodes_done = on_nodes old _ _ (λ q hq. ap (λ b. cond b (stand names old new q) None)
       (or_right (is_empty q) (nat_lt (number_of old (without_last q)) (length (nodes old)) || (number_of old (without_last q) == length (nodes old) && false))
       (or_left (nat_lt (number_of old (without_last q)) (length (nodes old))) (number_of old (without_last q) == length (nodes old) && false)
       (lt-ltb (number_of old (without_last q)) (length (nodes old)) (number_below old (without_last q) (prefix_node old q hq))))))
 
   -- before the first one the root alone has its partner
-  pub nodes_begun : (s : Stand) → s.new_node.0 ≡ 0 → s.parent.0 ≡ 0 → s.keysym ≡ 0 → set (replicate (length (nodes old)) None) 0 (Some s) ≡ stands_at names old new 0 []
+  pub nodes_begun : (s : Partner) → s.new_node.0 ≡ 0 → s.parent.0 ≡ 0 → s.keysym ≡ 0 → set (replicate (length (nodes old)) None) 0 (Some s) ≡ partners_at names old new 0 []
   nodes_begun s en ep ek =
       ap (λ xs. set xs 0 (Some s)) (sym (map_const None (nodes old))) ∙ ap (λ n. set (map (λ q. None) (nodes old)) n (Some s)) (sym (root_number old))
       ∙ ap (set (map (λ q. None) (nodes old)) (number_of old [])) is_s
@@ -133,8 +133,8 @@ module _ (names : KeysymNames) (old new : List Definition) (sound : is_table old
           go false false e = refl
 
   -- a node's partner is known when the node comes
-  pub stand_there : (i : ℕ) → i < length (nodes old) → get_or (stands_at names old new i []) i None ≡ stand names old new (node old i)
-  stand_there i h =
+  pub partner_there : (i : ℕ) → i < length (nodes old) → get_or (partners_at names old new i []) i None ≡ stand names old new (node old i)
+  partner_there i h =
       get_or-map (λ q. cond (is_done old i [] q) (stand names old new q) None) (nodes old) i [] None h ∙ ap (λ b. cond b (stand names old new (node old i)) None) (done (is_empty (node old i)) refl)
     where
       done : (e : Bool) → is_empty (node old i) ≡ e → is_done old i [] (node old i) ≡ true
@@ -148,7 +148,7 @@ module _ (names : KeysymNames) (old new : List Definition) (sound : is_table old
           (lt-ltb (number_of old (without_last (node old i))) i (omega arith)))
 
   -- what a partner implies for its node
-  pub record Standing (p : List ℕ) (s : Stand) : Type 0 where
+  pub record Standing (p : List ℕ) (s : Partner) : Type 0 where
     pub agree : agrees names old new p ≡ true
     pub new_number : s.new_node.0 ≡ number_of new (pending new p)
     pub in_range : s.new_node.0 < length (nodes new)
@@ -157,7 +157,7 @@ module _ (names : KeysymNames) (old new : List Definition) (sound : is_table old
     pub keysym : s.keysym ≡ last_key p
 
   -- the partner of an old node has what is pending in the new table after it, and the node and the key that lead to it
-  pub standing : (p : List ℕ) (s : Stand) → stand names old new p ≡ Some s → Standing p s
+  pub standing : (p : List ℕ) (s : Partner) → stand names old new p ≡ Some s → Standing p s
   standing p s e = go (agrees names old new p) refl e
     where
       pending_node : is_node new (pending new p) ≡ true
@@ -167,15 +167,15 @@ module _ (names : KeysymNames) (old new : List Definition) (sound : is_table old
           → cond b (Some (record { new_node = record { 0 = number_of new (pending new p) }; parent = record { 0 = number_of old (without_last p) }; keysym = last_key p })) None ≡ Some s → Standing p s
       go true a h =
           let is : record { new_node = record { 0 = number_of new (pending new p) }; parent = record { 0 = number_of old (without_last p) }; keysym = last_key p } ≡ s = cc in
-          let number : s.new_node.0 ≡ number_of new (pending new p) = sym (ap (λ (z : Stand). z.new_node.0) is) in
+          let number : s.new_node.0 ≡ number_of new (pending new p) = sym (ap (λ (z : Partner). z.new_node.0) is) in
           let below = number_below new (pending new p) pending_node in
           record {
             agree = a;
             new_number = number;
             in_range = omega arith;
             together = ap (node new) number ∙ node_at_number new (pending new p) pending_node;
-            parent = sym (ap (λ (z : Stand). z.parent.0) is);
-            keysym = sym (ap (λ (z : Stand). z.keysym) is);
+            parent = sym (ap (λ (z : Partner). z.parent.0) is);
+            keysym = sym (ap (λ (z : Partner). z.keysym) is);
           }
       go false a h = cc
 
@@ -184,7 +184,7 @@ module _ (names : KeysymNames) (old new : List Definition) (sound : is_table old
   dark p e = go (agrees names old new p) e
     where
       go : (b : Bool)
-          → cond {A = Option Stand} b (Some (record { new_node = record { 0 = number_of new (pending new p) }; parent = record { 0 = number_of old (without_last p) }; keysym = last_key p })) None
+          → cond {A = Option Partner} b (Some (record { new_node = record { 0 = number_of new (pending new p) }; parent = record { 0 = number_of old (without_last p) }; keysym = last_key p })) None
           ≡ None → b ≡ false
       go true h = cc
       go false h = refl
@@ -207,8 +207,8 @@ pub filled : {X : Type 0} (x : X) (xs before : List X) (n m len : ℕ) → xs �
 filled x xs before n m len e b l h = e ∙ ap (λ ys. take n ys ++ replicate (n - len) x) b ∙ ap (λ ys. ys ++ replicate (n - len) x) (take_all n [] (omega arith)) ∙ ap (λ k. replicate k x) (omega arith)
 
 -- the partner that is read when a node comes
-pub read_stand : (names : KeysymNames) (old new : List Definition) (sound : is_table old ≡ true) (i : ℕ) → i < length (nodes old) → (xs : List (Option Stand)) → xs ≡ stands_at names old new i []
-    → (o : Option Stand) → o ≡ get_or xs i o → stand names old new (node old i) ≡ o
-read_stand names old new sound i h xs e o r =
-    sym (stand_there names old new sound i h) ∙ ap (λ ys. get_or ys i None) (sym e)
+pub partner_read : (names : KeysymNames) (old new : List Definition) (sound : is_table old ≡ true) (i : ℕ) → i < length (nodes old) → (xs : List (Option Partner)) → xs ≡ partners_at names old new i []
+    → (o : Option Partner) → o ≡ get_or xs i o → stand names old new (node old i) ≡ o
+partner_read names old new sound i h xs e o r =
+    sym (partner_there names old new sound i h) ∙ ap (λ ys. get_or ys i None) (sym e)
     ∙ get_or_default xs i None o (let n : length xs ≡ length (nodes old) = ap length e ∙ length-map (nodes old) _ in omega arith) ∙ sym r

@@ -25,8 +25,8 @@ first_key (j ∷ p) (x ∷ v) h =
     )
 
 -- what goes on from p by a key goes on from p
-pub goes_behind : (p : List ℕ) (k : ℕ) (v : List ℕ) → begins (p ++ k ∷ []) v ≡ true → is_proper_prefix p v ≡ true
-goes_behind p k v h = elim (or_cases (same (p ++ k ∷ []) v) (is_proper_prefix (p ++ k ∷ []) v) h) [
+pub goes_after : (p : List ℕ) (k : ℕ) (v : List ℕ) → begins (p ++ k ∷ []) v ≡ true → is_proper_prefix p v ≡ true
+goes_after p k v h = elim (or_cases (same (p ++ k ∷ []) v) (is_proper_prefix (p ++ k ∷ []) v) h) [
   | inl e ↦ ap (is_proper_prefix p) (sym (same_is (p ++ k ∷ []) v e)) ∙ one p
   | inr e ↦ longer p v e
 ]

@@ -104,9 +104,9 @@ any_less p q [] a h = cc
 any_less p q (r ∷ ps) a h = elim (or_cases (same q r) (list_any (same q) ps) h) [ inl e ↦ ap (slice_cmp nat_cmp p) (same_is q r e) ∙ a.0 | inr e ↦ any_less p q ps a.1 e ]
 
 module _ (names : KeysymNames) (fresh : List ℕ) (old new : List Definition) where
-  distinct_behind : (p : List ℕ) → IsDistinct same_place (found_behind names old new p)
+  found_distinct : (p : List ℕ) → IsDistinct same_place (found_behind names old new p)
   unfolding IsDistinct
-  distinct_behind p = go (agrees names old new p)
+  found_distinct p = go (agrees names old new p)
     where
       go : (b : Bool) → IsDistinct same_place (map (found_at old p) (cond b (filter (differs_at names old new p) (edges old p)) []))
       go true = distinct_filtered old p old p (differs_at names old new p)
@@ -125,7 +125,7 @@ module _ (names : KeysymNames) (fresh : List ℕ) (old new : List Definition) wh
   unfolding IsDistinct IsStrictlySortedBy
   distinct_nodes [] s inside = tt
   distinct_nodes (p ∷ ps) s inside =
-      distinct_joined (found_behind names old new p) (flat_map (found_behind names old new) ps) (distinct_behind p)
+      distinct_joined (found_behind names old new p) (flat_map (found_behind names old new) ps) (found_distinct p)
       (distinct_nodes ps s.1 (λ q m. inside q (or_right (same q p) (list_any (same q) ps) m)))
       (each_behind (λ x. AllByRecursion (λ y. same_place x y ≡ false) (flat_map (found_behind names old new) ps)) p (λ k e.
       all_flat (λ y. same_place (found_at old p k) y ≡ false) (found_behind names old new) ps (λ q m.
@@ -185,10 +185,10 @@ module _ (names : KeysymNames) (fresh : List ℕ) (old new : List Definition) (t
 
   is_difference : (f : Found) → WasFound f → IsDifference names fresh old new (evidence_found names old new f)
   is_difference f h =
-      let told =
+      let reported =
       evidence_of names fresh old new t_old t_new are f h (evidence_found names old new f)
       (λ kind e. ap (λ o. evidence names old new (node old f.node) f.keysym (unwrap_or o text_differs)) e) in
-      subst (λ (x : Evidence). IsDifference names fresh old new x) (sym told.2) (candidate_is names fresh old new t_old t_new are h.before h.key told.0 h.candidate told.1)
+      subst (λ (x : Evidence). IsDifference names fresh old new x) (sym reported.2) (candidate_is names fresh old new t_old t_new are h.before h.key reported.0 h.candidate reported.1)
 
   each_difference : (xs : List Found) → AllByRecursion WasFound xs → AllByRecursion (IsDifference names fresh old new) (map (evidence_found names old new) xs)
   each_difference [] a = tt

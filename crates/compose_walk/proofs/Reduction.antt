@@ -9,7 +9,7 @@ use Rattle.compose_model.specs.Table.{Definition, same, has_key, is_sequence, is
 use Rattle.compose_model.specs.Step.{Effect, ignores, extends, completes, passes, cancels, effect, is_empty, is_cancel, Step, step, pending_by, text_by, pending_after, pending_from, pending, uncancelled_from}
 use Rattle.compose_model.specs.Follows.{Agrees, AgreeAlong, Kind, cancelled, text_differs, waiting, difference}
 use Rattle.compose_model.specs.Nodes.{has_edge}
-use Rattle.compose_model.proofs.Steps.{effect_tells, effect_is, ignored_key, no_cancel, no_cancel_test, pending_from-append, uncancelled_head, uncancelled_rest}
+use Rattle.compose_model.proofs.Steps.{effect_tests, effect_is, ignored_key, no_cancel, no_cancel_test, pending_from-append, uncancelled_head, uncancelled_rest}
 use Rattle.compose_model.proofs.NodeLemmas.{same_is, same_from, edge_extends}
 use Rattle.compose_model.proofs.Reached.{IsReached, root_reached, reached_more, agree_joined}
 
@@ -20,9 +20,9 @@ pub empty_is : (u : List ℕ) → is_empty u ≡ true → u ≡ []
 empty_is [] h = refl
 empty_is (k ∷ u) h = cc
 
-rests_by : (u v : List ℕ) → is_empty u && not (is_empty v) ≡ false → u ≡ [] → v ≡ []
-rests_by [] v h e = empty_is v (not-false (is_empty v) h)
-rests_by (k ∷ u) v h e = cc
+at_rest_by : (u v : List ℕ) → is_empty u && not (is_empty v) ≡ false → u ≡ [] → v ≡ []
+at_rest_by [] v h e = empty_is v (not-false (is_empty v) h)
+at_rest_by (k ∷ u) v h e = cc
 
 -- if no condition fails, the steps agree
 pub agreement : (a b : Step) → difference a b ≡ None → Agrees a b
@@ -34,7 +34,7 @@ agreement a b h = go (is_cancel b.effect) (same b.text a.text) (is_empty a.pendi
     go false false r hc hs hr e = cc
     go false true true hc hs hr e = cc
     go false true false hc hs hr e =
-        record { not_cancelled = no_cancel b.effect (not_from_false (is_cancel b.effect) hc); same_text = same_is b.text a.text hs; rests = rests_by a.pending b.pending hr }
+        record { not_cancelled = no_cancel b.effect (not_from_false (is_cancel b.effect) hc); same_text = same_is b.text a.text hs; nothing_pending = at_rest_by a.pending b.pending hr }
 
 rest_test : (u v : List ℕ) → (u ≡ [] → v ≡ []) → is_empty u && not (is_empty v) ≡ false
 rest_test [] v r = ap (λ y. not (is_empty y)) (r refl)
@@ -42,7 +42,7 @@ rest_test (k ∷ u) v r = refl
 
 -- and if the steps agree, no condition fails
 pub no_difference : (a b : Step) → Agrees a b → difference a b ≡ None
-no_difference a b h = rw (not-true (is_cancel b.effect) (no_cancel_test b.effect h.not_cancelled), same_from b.text a.text h.same_text, rest_test a.pending b.pending h.rests) refl
+no_difference a b h = rw (not-true (is_cancel b.effect) (no_cancel_test b.effect h.not_cancelled), same_from b.text a.text h.same_text, rest_test a.pending b.pending h.nothing_pending) refl
 
 -- ---- nodes at which the tables agree so far
 
@@ -83,11 +83,11 @@ module _ (names : KeysymNames) (fresh : List ℕ) (old new : List Definition) wh
     where
       go : (x : Effect) → effect old p k ≡ x → Candidate p k
       go ignores e = absurd (
-          let i = effect_tells old p k ignores e in
+          let i = effect_tests old p k ignores e in
           let none = no_difference (step names old p k) (step names new (pending new p) k) (record {
             not_cancelled = λ h. (let clash : ignores ≡ cancels = sym (ignored_key new (pending new p) k i) ∙ h in cc);
             same_text = ap (λ x. text_by x names new (pending new p) k) (ignored_key new (pending new p) k i) ∙ sym (ap (λ x. text_by x names old p k) e);
-            rests = λ h.
+            nothing_pending = λ h.
                 let p_is : p ≡ [] = sym (ap (λ x. pending_by x p k) e) ∙ h in
                 ap (λ x. pending_by x (pending new p) k) (ignored_key new (pending new p) k i) ∙ ap (pending new) p_is;
           }) in
@@ -95,22 +95,22 @@ module _ (names : KeysymNames) (fresh : List ℕ) (old new : List Definition) wh
       go extends e =
           record {
             clear = c;
-            key = inl (edge_extends old p k ∙ or_left (is_extended old (p ++ k ∷ [])) (is_sequence old (p ++ k ∷ [])) (effect_tells old p k extends e).1);
+            key = inl (edge_extends old p k ∙ or_left (is_extended old (p ++ k ∷ [])) (is_sequence old (p ++ k ∷ [])) (effect_tests old p k extends e).1);
             differs =
                 is_some_of _ kind d;
           }
       go completes e =
           record {
             clear = c;
-            key = inl (edge_extends old p k ∙ or_right (is_extended old (p ++ k ∷ [])) (is_sequence old (p ++ k ∷ [])) (effect_tells old p k completes e).2);
+            key = inl (edge_extends old p k ∙ or_right (is_extended old (p ++ k ∷ [])) (is_sequence old (p ++ k ∷ [])) (effect_tests old p k completes e).2);
             differs =
                 is_some_of _ kind d;
           }
       go passes e =
-          let told = effect_tells old p k passes e in
-          let p_is : p ≡ [] = empty_is p told.3 in
-          let old_none : has_edge old p k ≡ false = edge_extends old p k ∙ or_from (is_extended old (p ++ k ∷ [])) (is_sequence old (p ++ k ∷ [])) told.1 told.2 in
-          record { clear = c; key = inr (p_is, ap (λ y. has_edge old y k) (sym p_is) ∙ old_none, starts p_is e told.0, f); differs = is_some_of _ kind d }
+          let reported = effect_tests old p k passes e in
+          let p_is : p ≡ [] = empty_is p reported.3 in
+          let old_none : has_edge old p k ≡ false = edge_extends old p k ∙ or_from (is_extended old (p ++ k ∷ [])) (is_sequence old (p ++ k ∷ [])) reported.1 reported.2 in
+          record { clear = c; key = inr (p_is, ap (λ y. has_edge old y k) (sym p_is) ∙ old_none, starts p_is e reported.0, f); differs = is_some_of _ kind d }
         where
           starts : p ≡ [] → effect old p k ≡ passes → is_ignored k ≡ false → has_edge new [] k ≡ true
           starts p_is e fed = elim (cases_Bool (has_edge new [] k)) [
@@ -122,7 +122,7 @@ module _ (names : KeysymNames) (fresh : List ℕ) (old new : List Definition) wh
                 let agree = no_difference (step names old p k) (step names new (pending new p) k) (record {
                   not_cancelled = λ h. (let clash : passes ≡ cancels = sym at_rest ∙ h in cc);
                   same_text = ap (λ x. text_by x names new (pending new p) k) at_rest ∙ sym (ap (λ x. text_by x names old p k) e);
-                  rests = λ h. ap (λ x. pending_by x (pending new p) k) at_rest;
+                  nothing_pending = λ h. ap (λ x. pending_by x (pending new p) k) at_rest;
                 }) in
                 let clash : None ≡ Some kind = sym agree ∙ d in cc)
           ]
@@ -167,12 +167,12 @@ module _ (names : KeysymNames) (fresh : List ℕ) (old new : List Definition) wh
       shorter q l (r, cand, inl e) = (r, cand, inr (let n : length r ≡ length q + length w = ap length e ∙ length-append q w in omega arith))
       shorter q l (r, cand, inr h) = (r, cand, inr (omega arith))
 
-      rests : AlwaysReduces w k kind → (e : pending_after old p j ≡ []) → Reduces p (j ∷ w) k
-      rests again e = shorter [] (omega arith) (from again [] e (a.0.rests e) root_clear)
+      nothing_pending : AlwaysReduces w k kind → (e : pending_after old p j ≡ []) → Reduces p (j ∷ w) k
+      nothing_pending again e = shorter [] (omega arith) (from again [] e (a.0.nothing_pending e) root_clear)
 
       go : AlwaysReduces w k kind → (x : Effect) → effect old p j ≡ x → Reduces p (j ∷ w) k
       go again ignores e =
-          shorter p (omega arith) (from again p (ap (λ x. pending_by x p j) e) (ap (λ x. pending_by x (pending new p) j) (ignored_key new (pending new p) j (effect_tells old p j ignores e))) c)
+          shorter p (omega arith) (from again p (ap (λ x. pending_by x p j) e) (ap (λ x. pending_by x (pending new p) j) (ignored_key new (pending new p) j (effect_tests old p j ignores e))) c)
       go again extends e =
           let r = from again (p ++ j ∷ []) (ap (λ x. pending_by x p j) e) (sym (new_follows p j)) (clear_more p j c e a.0) in
           (r.0, r.1, regroup r.0 r.2)
@@ -180,6 +180,6 @@ module _ (names : KeysymNames) (fresh : List ℕ) (old new : List Definition) wh
           regroup : (r : List ℕ) → (r ≡ (p ++ j ∷ []) ++ w) ⊎ (length r < length (p ++ j ∷ []) + length w) → (r ≡ p ++ j ∷ w) ⊎ (length r < length p + length (j ∷ w))
           regroup r (inl h) = inl (h ∙ append_assoc p (j ∷ []) w)
           regroup r (inr h) = inr (let n : length (p ++ j ∷ []) ≡ length p + 1 = length-append p (j ∷ []) in omega arith)
-      go again completes e = rests again (ap (λ x. pending_by x p j) e)
-      go again passes e = rests again (ap (λ x. pending_by x p j) e)
+      go again completes e = nothing_pending again (ap (λ x. pending_by x p j) e)
+      go again passes e = nothing_pending again (ap (λ x. pending_by x p j) e)
       go again cancels e = absurd (uncancelled_head old p j (w ++ k ∷ []) u e)

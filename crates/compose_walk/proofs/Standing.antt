@@ -16,10 +16,10 @@ use Rattle.compose_model.proofs.Reached.{node_reached}
 use Rattle.compose_walk.specs.Kinds.{kind_of}
 use Rattle.compose_walk.specs.Pass.{differs_at, agrees_from, agrees}
 use Rattle.compose_walk.specs.Steps.{text_bytes, IsStep, difference_of}
-use Rattle.compose_walk.specs.Stands.{without_last, last_key, stand, is_done, stands_at}
+use Rattle.compose_walk.specs.Stands.{without_last, last_key, stand, is_done, partners_at}
 use Rattle.compose_walk.specs.declared.evidence.Kind.{Kind as Found_kind}
 use Rattle.compose_walk.specs.declared.evidence.Kind.TheVariants.{Text, Cancelled, Waiting}
-use Rattle.compose_walk.specs.declared.pass.Stand.{Stand}
+use Rattle.compose_walk.specs.declared.pass.Partner.{Partner}
 use Rattle.compose_walk.specs.declared.step.KeyStep.{KeyStep}
 use Rattle.compose_walk.proofs.Candidates.{shorter_node}
 use Rattle.compose_walk.proofs.NodeNumbers.{on_nodes, set_node}
@@ -127,7 +127,7 @@ module _ (names : KeysymNames) (old new : List Definition) where
     -- ---- one edge
 
     -- what is kept for the node q
-    abbrev entry : ℕ → List ℕ → List ℕ → Option Stand
+    abbrev entry : ℕ → List ℕ → List ℕ → Option Partner
     entry i ks q = cond (is_done old i ks q) (stand names old new q) None
 
     one_key : (ks : List ℕ) (k j : ℕ) → has_key (ks ++ k ∷ []) j ≡ has_key ks j || (j == k || false)
@@ -165,29 +165,29 @@ module _ (names : KeysymNames) (old new : List Definition) where
 
     -- nothing is written if the tables differ at the edge, or if it leads to no node
     pub kept_edge : (p : List ℕ) (i : ℕ) (ks : List ℕ) (k : ℕ) → is_node old p ≡ true → number_of old p ≡ i → (is_node old (p ++ k ∷ []) ≡ true → agrees names old new (p ++ k ∷ []) ≡ false)
-        → stands_at names old new i ks ≡ stands_at names old new i (ks ++ k ∷ [])
+        → partners_at names old new i ks ≡ partners_at names old new i (ks ++ k ∷ [])
     kept_edge p i ks k hp e none = on_nodes old (entry i ks) (entry i (ks ++ k ∷ [])) at
       where
-        no_stand : (q : List ℕ) → agrees names old new q ≡ false → (b : Bool) → cond b (stand names old new q) None ≡ None
-        no_stand q h true =
+        no_partner : (q : List ℕ) → agrees names old new q ≡ false → (b : Bool) → cond b (stand names old new q) None ≡ None
+        no_partner q h true =
             ap (λ b. cond b (Some (record { new_node = record { 0 = number_of new (pending new q) }; parent = record { 0 = number_of old (without_last q) }; keysym = last_key q })) None) h
-        no_stand q h false = refl
+        no_partner q h false = refl
 
         at : (q : List ℕ) → is_node old q ≡ true → entry i ks q ≡ entry i (ks ++ k ∷ []) q
         at q hq = elim (cases_Bool (same q (p ++ k ∷ []))) [
           | inl m ↦ (let is : q ≡ p ++ k ∷ [] = same_is q (p ++ k ∷ []) m in
               let dark : agrees names old new q ≡ false = ap (agrees names old new) is ∙ none (ap (is_node old) (sym is) ∙ hq) in
-              no_stand q dark (is_done old i ks q) ∙ sym (no_stand q dark (is_done old i (ks ++ k ∷ []) q)))
+              no_partner q dark (is_done old i ks q) ∙ sym (no_partner q dark (is_done old i (ks ++ k ∷ []) q)))
           | inr m ↦ ap (λ b. cond b (stand names old new q) None) (sym (done_other p i ks k q hp e hq m))
         ]
 
     -- if the tables agree at an edge to a node, that node's partner is written
-    pub written_edge : (p : List ℕ) (i : ℕ) (ks : List ℕ) (k : ℕ) (s : Stand) → is_node old p ≡ true → number_of old p ≡ i → is_node old (p ++ k ∷ []) ≡ true → agrees names old new p ≡ true
+    pub written_edge : (p : List ℕ) (i : ℕ) (ks : List ℕ) (k : ℕ) (s : Partner) → is_node old p ≡ true → number_of old p ≡ i → is_node old (p ++ k ∷ []) ≡ true → agrees names old new p ≡ true
         → differs_at names old new p k ≡ false
         → s.new_node.0 ≡ number_of new (pending_after new (pending new p) k) → s.parent.0 ≡ i → s.keysym ≡ k
-        → set (stands_at names old new i ks) (number_of old (p ++ k ∷ [])) (Some s) ≡ stands_at names old new i (ks ++ k ∷ [])
+        → set (partners_at names old new i ks) (number_of old (p ++ k ∷ [])) (Some s) ≡ partners_at names old new i (ks ++ k ∷ [])
     written_edge p i ks k s hp e hk agree same_step en ep ek =
-        ap (set (stands_at names old new i ks) (number_of old (p ++ k ∷ []))) (sym here)
+        ap (set (partners_at names old new i ks) (number_of old (p ++ k ∷ []))) (sym here)
         ∙ set_node old (entry i ks) (entry i (ks ++ k ∷ [])) (p ++ k ∷ []) hk (λ q hq m. ap (λ b. cond b (stand names old new q) None) (sym (done_other p i ks k q hp e hq m)))
       where
         clear : agrees names old new (p ++ k ∷ []) ≡ true

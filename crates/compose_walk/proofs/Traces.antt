@@ -20,7 +20,7 @@ use Rattle.compose_walk.specs.declared.evidence.Kind.{Kind as Found_kind}
 use Rattle.compose_walk.specs.declared.step.KeyStep.{KeyStep}
 use Rattle.compose_walk.specs.Pass.{agrees, differs_at, difference_at, evidence}
 use Rattle.compose_walk.specs.Stands.{without_last, last_key, stand, IsPlace, evidence_found}
-use Rattle.compose_walk.specs.declared.pass.Stand.{Stand}
+use Rattle.compose_walk.specs.declared.pass.Partner.{Partner}
 use Rattle.compose_walk.specs.declared.pass.Found.{Found}
 use Rattle.compose_walk.proofs.NodeNumbers.{number_at_node, node_is_node, not_root, parent_before}
 use Rattle.compose_walk.proofs.Standing.{differ_alike, differs_alike, agrees_push, pushed, prefix_node}
@@ -48,8 +48,8 @@ node_short table p t h = elim (or_cases (same p []) (is_extended table p) (sym (
 
 module _ (names : KeysymNames) (old new : List Definition) (sound : is_table old ≡ true) (i : ℕ) (in_range : i < length (nodes old)) (agree : agrees names old new (node old i) ≡ true) where
   -- its partner is there
-  pub some_stand : (xs : List (Option Stand)) → xs ≡ map (stand names old new) (nodes old) → (o : Option Stand) → o ≡ get_or xs i o → o ≡ stand names old new (node old i)
-  some_stand xs e o r =
+  pub some_partner : (xs : List (Option Partner)) → xs ≡ map (stand names old new) (nodes old) → (o : Option Partner) → o ≡ get_or xs i o → o ≡ stand names old new (node old i)
+  some_partner xs e o r =
       r ∙ ap (λ ys. get_or ys i o) e ∙ get_or-map (stand names old new) (nodes old) i [] o in_range
 
   -- a node up to which the tables agree has a partner
@@ -57,7 +57,7 @@ module _ (names : KeysymNames) (old new : List Definition) (sound : is_table old
   is_there =
       ap
       (λ b. is_some
-      (cond {A = Option Stand} b
+      (cond {A = Option Partner} b
       (Some
       (record {
         new_node = record { 0 = number_of new (pending new (node old i)) };
@@ -66,25 +66,25 @@ module _ (names : KeysymNames) (old new : List Definition) (sound : is_table old
             last_key (node old i);
       })) None)) agree
 
-  module _ (s : Stand) (at : stand names old new (node old i) ≡ Some s) (other : i == 0 ≡ false) where
+  module _ (s : Partner) (at : stand names old new (node old i) ≡ Some s) (other : i == 0 ≡ false) where
     here : is_node old (node old i) ≡ true
     here = node_is_node old i in_range
 
     some_key : is_empty (node old i) ≡ false
     some_key = not_root old i in_range other
 
-    said : Standing names old new sound (node old i) s
-    said = standing names old new sound (node old i) s at
+    expected : Standing names old new sound (node old i) s
+    expected = standing names old new sound (node old i) s at
 
     before_is : node old s.parent.0 ≡ without_last (node old i)
-    before_is = ap (node old) said.parent ∙ node_at_number old (without_last (node old i)) (prefix_node old (node old i) here)
+    before_is = ap (node old) expected.parent ∙ node_at_number old (without_last (node old i)) (prefix_node old (node old i) here)
 
     -- the node that leads to a node has the lesser number
     pub parent_below : s.parent.0 < i
     parent_below =
         let less = parent_before old (without_last (node old i)) (last_key (node old i)) (prefix_node old (node old i) here) (ap (is_node old) (sym (pushed (node old i) some_key)) ∙ here) in
         let at_i : number_of old (without_last (node old i) ++ last_key (node old i) ∷ []) ≡ i = ap (number_of old) (sym (pushed (node old i) some_key)) ∙ number_at_node old i in_range in
-        let from : s.parent.0 ≡ number_of old (without_last (node old i)) = said.parent in omega arith
+        let from : s.parent.0 ≡ number_of old (without_last (node old i)) = expected.parent in omega arith
 
     -- the number of the node that leads to a node is below the count of nodes
     pub parent_in_range : s.parent.0 < length (nodes old)
@@ -102,7 +102,7 @@ module _ (names : KeysymNames) (old new : List Definition) (sound : is_table old
     pub one_back : (whole keys : List ℕ) → whole ≡ node old i ++ keys → whole ≡ node old s.parent.0 ++ s.keysym ∷ keys
     one_back whole keys e =
         e ∙ ap (λ p. p ++ keys) (pushed (node old i) some_key) ∙ append_assoc (without_last (node old i)) (last_key (node old i) ∷ []) keys
-        ∙ ap (λ p. p ++ last_key (node old i) ∷ keys) (sym before_is) ∙ ap (λ k. node old s.parent.0 ++ k ∷ keys) (sym said.keysym)
+        ∙ ap (λ p. p ++ last_key (node old i) ∷ keys) (sym before_is) ∙ ap (λ k. node old s.parent.0 ++ k ∷ keys) (sym expected.keysym)
 
     -- there is room for one key more
     pub room : (p : List ℕ) (k : ℕ) (keys : List ℕ) → is_node old p ≡ true → p ++ k ∷ [] ≡ node old i ++ keys → length keys < 32
@@ -147,18 +147,18 @@ module _ (names : KeysymNames) (old new : List Definition) (p v : List ℕ) (k :
 
 module _ (names : KeysymNames) (old new : List Definition) where
   -- evidence that is right for the kind in which the tables differ at a place is the evidence of what was found there
-  pub told : (f : Found) → IsPlace names old new f → (x : Evidence)
+  pub reported : (f : Found) → IsPlace names old new f → (x : Evidence)
       → ((kind : Kind) → difference_at names old new (node old f.node) f.keysym ≡ Some kind → x ≡ evidence names old new (node old f.node) f.keysym kind) → x ≡ evidence_found names old new f
-  told f place x e = go (difference_at names old new (node old f.node) f.keysym) refl place.differ
+  reported f place x e = go (difference_at names old new (node old f.node) f.keysym) refl place.differ
     where
       go : (o : Option Kind) → difference_at names old new (node old f.node) f.keysym ≡ o → is_some o ≡ true → x ≡ evidence_found names old new f
       go None d h = cc
       go (Some kind) d h = e kind d ∙ ap (λ o. evidence names old new (node old f.node) f.keysym (unwrap_or o text_differs)) (sym d)
 
   -- one more
-  pub told_more : (xs : List Found) (i : ℕ) (f : Found) (before after : List Evidence) (x : Evidence) → i < length xs → f ≡ get_or xs i f → before ≡ map (evidence_found names old new) (take i xs)
+  pub reported_more : (xs : List Found) (i : ℕ) (f : Found) (before after : List Evidence) (x : Evidence) → i < length xs → f ≡ get_or xs i f → before ≡ map (evidence_found names old new) (take i xs)
       → x ≡ evidence_found names old new f
       → after ≡ before ++ x ∷ [] → after ≡ map (evidence_found names old new) (take (i + 1) xs)
-  told_more xs i f before after x h at b is a =
+  reported_more xs i f before after x h at b is a =
       a ∙ ap₂ (λ ys y. ys ++ y ∷ []) b (is ∙ ap (evidence_found names old new) at)
       ∙ sym (map-append (evidence_found names old new) (take i xs) (get_or xs i f ∷ [])) ∙ ap (map (evidence_found names old new)) (sym (take_more xs i f h))

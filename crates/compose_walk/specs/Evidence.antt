@@ -30,7 +30,7 @@ pub record IsLeast (names : KeysymNames) (fresh : List ℕ) (old new : List Defi
 pub record IsDifference (names : KeysymNames) (fresh : List ℕ) (old new : List Definition) (x : Evidence) : Type 0 where
   pub shows : Shows names fresh old new x
   pub none_ignored : IsTrue (list_all (λ k. not (is_ignored k)) x.keys)
-  pub never_rests : (v w : List ℕ) → x.keys ≡ v ++ w → v ≢ [] → w ≢ [] → pending old v ≢ []
+  pub never_at_rest : (v w : List ℕ) → x.keys ≡ v ++ w → v ≢ [] → w ≢ [] → pending old v ≢ []
 
 abbrev pub differences_rise : List Evidence → Bool
 differences_rise [] = true

@@ -8,7 +8,7 @@ use Rattle.compose_model.specs.Follows.{text_differs}
 use Rattle.compose_model.specs.Nodes.{nodes, node, number_of}
 use Rattle.compose_walk.specs.Evidence.{Evidence}
 use Rattle.compose_walk.specs.Pass.{difference_at, differs_at, agrees, differing_edges, differing_starts, evidence}
-use Rattle.compose_walk.specs.declared.pass.Stand.{Stand}
+use Rattle.compose_walk.specs.declared.pass.Partner.{Partner}
 use Rattle.compose_walk.specs.declared.pass.Found.{Found}
 
 -- all keys but the last one, and the last one
@@ -23,7 +23,7 @@ last_key (k ∷ []) = k
 last_key (k ∷ j ∷ p) = last_key (j ∷ p)
 
 -- the partner of the old node p, if the tables agree up to it
-abbrev pub stand : KeysymNames → List Definition → List Definition → List ℕ → Option Stand
+abbrev pub stand : KeysymNames → List Definition → List Definition → List ℕ → Option Partner
 stand names old new p =
     if agrees names old new p then Some (record {
       new_node = record { 0 = number_of new (pending new p) };
@@ -36,8 +36,8 @@ stand names old new p =
 abbrev pub is_done : List Definition → ℕ → List ℕ → List ℕ → Bool
 is_done old i ks p = is_empty p || (nat_lt (number_of old (without_last p)) i || (number_of old (without_last p) == i && has_key ks (last_key p)))
 
-abbrev pub stands_at : KeysymNames → List Definition → List Definition → ℕ → List ℕ → List (Option Stand)
-stands_at names old new i ks = map (λ p. if is_done old i ks p then stand names old new p else None) (nodes old)
+abbrev pub partners_at : KeysymNames → List Definition → List Definition → ℕ → List ℕ → List (Option Partner)
+partners_at names old new i ks = map (λ p. if is_done old i ks p then stand names old new p else None) (nodes old)
 
 -- the key k at the old node p
 abbrev pub found_at : List Definition → List ℕ → ℕ → Found
@@ -68,7 +68,7 @@ evidence_found names old new f =
     evidence names old new (node old f.node) f.keysym (unwrap_or (difference_at names old new (node old f.node) f.keysym) text_differs)
 
 -- the nodes with a partner, numbered from n on, each with its new node
-abbrev pub stand_pairs : ℕ → List (Option Stand) → List (ℕ × ℕ)
-stand_pairs n [] = []
-stand_pairs n (None ∷ xs) = stand_pairs (n + 1) xs
-stand_pairs n (Some s ∷ xs) = (n, s.new_node.0) ∷ stand_pairs (n + 1) xs
+abbrev pub partner_pairs : ℕ → List (Option Partner) → List (ℕ × ℕ)
+partner_pairs n [] = []
+partner_pairs n (None ∷ xs) = partner_pairs (n + 1) xs
+partner_pairs n (Some s ∷ xs) = (n, s.new_node.0) ∷ partner_pairs (n + 1) xs

@@ -10,7 +10,7 @@ ghost use Rattle.compose_model.specs.Nodes.{nodes, number_of, edges};
 ghost use Rattle.compose_model.specs.Certificate.{keys_rise};
 ghost use Rattle.compose_tree.specs.Targets.{target_of};
 ghost use Rattle.compose_walk.specs.Pass.{agrees, differs_at, differing_starts, is_differing_start};
-ghost use Rattle.compose_walk.specs.Stands.{stand, stands_at, found_at, found_behind, all_found, comes_sooner};
+ghost use Rattle.compose_walk.specs.Stands.{stand, partners_at, found_at, found_behind, all_found, comes_sooner};
 
 use crate::fault::MakeFault;
 use crate::step::{difference, key_step};
@@ -22,7 +22,7 @@ use std::alloc::Global;
 /// The partner of an old node up to which the tables agree: the new node that is then pending, and
 /// the old node and the keysym that lead to the old node (for the root: the root, and any keysym).
 #[derive(Clone, Copy)]
-pub struct Stand {
+pub struct Partner {
     /// The new node that is pending after the old node's keys.
     pub new_node: NodeId,
     /// The old node from which the keysym leads to this one.
@@ -61,7 +61,7 @@ impl Found {
 #[derive(Drop)]
 pub struct Pass {
     /// For each old node, by its number, its partner, if the tables agree up to it.
-    pub stands: Vec<Option<Stand>>,
+    pub stands: Vec<Option<Partner>>,
     /// The keys at which the tables differ.
     pub found: Vec<Found>,
 }
@@ -87,12 +87,12 @@ impl Pass {
         requires together { words.node (U.definitions new.now) new_node.0
             ≡ pending (U.definitions new.now) (words.node (T.definitions old.now) node.0) }
         requires stands { self.old.stands.items
-            ≡ stands_at names.now (T.definitions old.now) (U.definitions new.now) node.0
+            ≡ partners_at names.now (T.definitions old.now) (U.definitions new.now) node.0
             (take index
             (edges (T.definitions old.now) (words.node (T.definitions old.now) node.0))) }
         ensures stands { OnOk result
             (self.new.stands.items
-            ≡ stands_at names.now (T.definitions old.now) (U.definitions new.now) node.0
+            ≡ partners_at names.now (T.definitions old.now) (U.definitions new.now) node.0
             (take (index + 1)
             (edges (T.definitions old.now)
             (words.node (T.definitions old.now) node.0)))) }
@@ -126,7 +126,7 @@ impl Pass {
         let Target::Node(child) = target else {
             return Ok(());
         };
-        self.stands[child.0 as usize] = Some(Stand {
+        self.stands[child.0 as usize] = Some(Partner {
             new_node: new_step.next,
             parent: node,
             keysym,
@@ -152,10 +152,10 @@ impl Pass {
         requires together { words.node (U.definitions new.now) new_node.0
             ≡ pending (U.definitions new.now) (words.node (T.definitions old.now) node.0) }
         requires stands { self.old.stands.items
-            ≡ stands_at names.now (T.definitions old.now) (U.definitions new.now) node.0 [] }
+            ≡ partners_at names.now (T.definitions old.now) (U.definitions new.now) node.0 [] }
         ensures stands { OnOk result
             (self.new.stands.items
-            ≡ stands_at names.now (T.definitions old.now) (U.definitions new.now)
+            ≡ partners_at names.now (T.definitions old.now) (U.definitions new.now)
             (node.0 + 1) []) }
         ensures found { OnOk result
             (self.new.found.items
@@ -184,7 +184,7 @@ impl Pass {
         requires fresh { IsTrue (keys_rise fresh.now) }
         ensures stands { IfOk result
             (λ pass. pass.stands.items
-            ≡ stands_at names.now (T.definitions old.now) (U.definitions new.now) 0 []) }
+            ≡ partners_at names.now (T.definitions old.now) (U.definitions new.now) 0 []) }
         ensures found { IfOk result
             (λ pass. pass.found.items
             ≡ map (found_at (T.definitions old.now) [])
@@ -194,7 +194,7 @@ impl Pass {
     {
         let mut stands = Vec::new(alloc);
         stands.resize(old.node_count() as usize, None)?;
-        stands[0] = Some(Stand {
+        stands[0] = Some(Partner {
             new_node: NodeId::ROOT,
             parent: NodeId::ROOT,
             keysym: Keysym::default(),

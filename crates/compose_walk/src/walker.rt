@@ -5,14 +5,14 @@ ghost use Rattle.compose_model.specs.Certificate.{AreFresh};
 ghost use Rattle.compose_fresh.specs.Conditions.{first_unmet};
 ghost use Rattle.compose_fresh.specs.Fresh.{fresh_conditions, max_fresh};
 ghost use Rattle.compose_walk.specs.Evidence.{AreDifferences};
-ghost use Rattle.compose_walk.specs.Stands.{comes_sooner, stand_pairs};
+ghost use Rattle.compose_walk.specs.Stands.{comes_sooner, partner_pairs};
 ghost use Rattle.compose_walk.specs.Walks.{IsWalk};
 
 use crate::all_differences::Differences;
 use crate::fault::MakeFault;
 use crate::outcome::Walk;
 use crate::pairs::Pairs;
-use crate::pass::{Found, Pass, Stand};
+use crate::pass::{Found, Partner, Pass};
 use compose_fresh::{CheckFault, MAX_FRESH, check_fresh};
 use compose_tree::ComposeTable;
 use keysym_core::{Keysym, Names};
@@ -145,9 +145,9 @@ fn differences_accepted<T: ComposeTable, U: ComposeTable>(
 }
 
 /// Collects the pairs of the old nodes that have a partner. O(nodes).
-fn pairs_of(alloc: Global, stands: &[Option<Stand>]) -> Result<Pairs, MakeFault>
+fn pairs_of(alloc: Global, stands: &[Option<Partner>]) -> Result<Pairs, MakeFault>
     requires { length stands.now < 2 ^ 32 }
-    ensures pairs { IfOk result (λ pairs. pairs ≡ stand_pairs 0 stands.now) }
+    ensures pairs { IfOk result (λ pairs. pairs ≡ partner_pairs 0 stands.now) }
     ensures err { IfErr result (λ e. e ≡ MakeFault.NoMemory) }
 {
     let mut pairs = Vec::new(alloc);

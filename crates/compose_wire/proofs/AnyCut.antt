@@ -12,12 +12,12 @@ all_fit (takes piece ∷ turns) held held' l = all_fit turns (held ++ piece) hel
 all_fit (gives q ∷ turns) held held' l = (l.0, all_fit turns l.1.0 held' l.1.2)
 
 -- the bytes held and received are those returned and held
-conserved : (turns : List Turn) (held held' : List ℕ) → Leads held turns held' → held ++ stream_of turns ≡ frames (requests_of turns) ++ held'
-conserved [] held held' l = append-nil held ∙ l
-conserved (takes piece ∷ turns) held held' l = sym (append_assoc held piece (stream_of turns)) ∙ conserved turns (held ++ piece) held' l
-conserved (gives q ∷ turns) held held' l =
+bytes_conserved : (turns : List Turn) (held held' : List ℕ) → Leads held turns held' → held ++ stream_of turns ≡ frames (requests_of turns) ++ held'
+bytes_conserved [] held held' l = append-nil held ∙ l
+bytes_conserved (takes piece ∷ turns) held held' l = sym (append_assoc held piece (stream_of turns)) ∙ bytes_conserved turns (held ++ piece) held' l
+bytes_conserved (gives q ∷ turns) held held' l =
     ap (λ h. h ++ stream_of turns) l.1.1 ∙ append_assoc (frame q) l.1.0 (stream_of turns)
-    ∙ ap (λ x. frame q ++ x) (conserved turns l.1.0 held' l.1.2) ∙ sym (append_assoc (frame q) (frames (requests_of turns)) held')
+    ∙ ap (λ x. frame q ++ x) (bytes_conserved turns l.1.0 held' l.1.2) ∙ sym (append_assoc (frame q) (frames (requests_of turns)) held')
 
 -- the same stream leads to the same requests, and leaves the same bytes, however it is cut, once each side has returned
 -- all that are whole
@@ -25,4 +25,4 @@ pub any_cut : (turns turns' : List Turn) (held held' : List ℕ) → Leads [] tu
     → (BeginsWithFrame held → ⊥) → (BeginsWithFrame held' → ⊥) → (requests_of turns ≡ requests_of turns') × (held ≡ held')
 any_cut turns turns' held held' l l' e n n' =
     one_stream (requests_of turns) (requests_of turns') held held' (all_fit turns [] held l) (all_fit turns' [] held' l') n n'
-    (sym (conserved turns [] held l) ∙ e ∙ conserved turns' [] held' l')
+    (sym (bytes_conserved turns [] held l) ∙ e ∙ bytes_conserved turns' [] held' l')

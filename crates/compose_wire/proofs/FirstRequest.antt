@@ -4,7 +4,7 @@ use Rattle.std.specs.Int.{to_be_bytes, from_be_bytes, w32}
 use Rattle.std.proofs.Math.Seq.{take-append_seam, drop-append_seam}
 use Rattle.std.proofs.lemmas.Nat.{from_be_bytes-to_be_bytes_4}
 use Rattle.compose_wire.specs.Messages.{Body, Request, Fits}
-use Rattle.compose_wire.specs.Frames.{frame, payload, kind_of, BeginsWithFrame, size_said}
+use Rattle.compose_wire.specs.Frames.{frame, payload, kind_of, BeginsWithFrame, stated_size}
 use Rattle.std.specs.Prelude.{Some, Ok}
 use Rattle.compose_wire.specs.Feeding.{IsSize, body_at, request_at, IsLoaded, BeginsWithLoad}
 use Rattle.compose_wire.proofs.OneFrame.{body_again, payload_fits}
@@ -12,24 +12,24 @@ use Rattle.compose_wire.proofs.OneFrame.{body_again, payload_fits}
 -- the request read from bytes that begin with a frame, and its frame
 pub record IsRead (held : List ℕ) : Type 0 where
   pub fits : Fits (request_at held)
-  pub is : held ≡ frame (request_at held) ++ drop (9 + size_said held) held
+  pub is : held ≡ frame (request_at held) ++ drop (9 + stated_size held) held
 
 module _ (q : Request) (more : List ℕ) (f : Fits q) where
-  size_again : size_said (frame q ++ more) ≡ length (payload q.body)
+  size_again : stated_size (frame q ++ more) ≡ length (payload q.body)
   size_again = from_be_bytes-to_be_bytes_4 (length (payload q.body)) (payload_fits q.body f.body)
 
-  payload_again : take (size_said (frame q ++ more)) (drop 9 (frame q ++ more)) ≡ payload q.body
+  payload_again : take (stated_size (frame q ++ more)) (drop 9 (frame q ++ more)) ≡ payload q.body
   payload_again = ap (λ n. take n (payload q.body ++ more)) size_again ∙ take-append_seam (payload q.body) more
 
   request_again : request_at (frame q ++ more) ≡ q
   request_again =
       let session : from_be_bytes w32 (to_be_bytes w32 q.session) ≡ q.session = from_be_bytes-to_be_bytes_4 q.session f.session in
-      let body : body_at (kind_of q.body) (take (size_said (frame q ++ more)) (drop 9 (frame q ++ more))) ≡ q.body = ap (body_at (kind_of q.body)) payload_again ∙ body_again q.body f.body in
+      let body : body_at (kind_of q.body) (take (stated_size (frame q ++ more)) (drop 9 (frame q ++ more))) ≡ q.body = ap (body_at (kind_of q.body)) payload_again ∙ body_again q.body f.body in
       λ i. record { session = session i; body = body i }
 
-  rest_again : drop (9 + size_said (frame q ++ more)) (frame q ++ more) ≡ more
+  rest_again : drop (9 + stated_size (frame q ++ more)) (frame q ++ more) ≡ more
   rest_again =
-      let long : 9 + size_said (frame q ++ more) ≡ length (frame q) = let e = size_again in omega arith in
+      let long : 9 + stated_size (frame q ++ more) ≡ length (frame q) = let e = size_again in omega arith in
       ap (λ n. drop n (frame q ++ more)) long ∙ drop-append_seam (frame q) more
 
   read_again : IsRead (frame q ++ more)
@@ -61,12 +61,12 @@ module _ (h : List ℕ) (n session : ℕ) (body : Body) (sized : IsSize (Ok (Som
     is_first : record { session = session; body = body } ≡ request_at h
     is_first =
         let same_session : session ≡ from_be_bytes w32 (take 4 (drop 1 h)) = reads ∙ session_read h whole in
-        let same_body : body ≡ body_at (get_or h 0 0) (take (size_said h) (drop 9 h)) = says ∙ ap (λ m. body_at (get_or h 0 0) (take m (drop 9 h))) sized.1 in
+        let same_body : body ≡ body_at (get_or h 0 0) (take (stated_size h) (drop 9 h)) = says ∙ ap (λ m. body_at (get_or h 0 0) (take m (drop 9 h))) sized.1 in
         λ i. record { session = same_session i; body = same_body i }
 
     -- the session and the body that are read from a whole frame are its request, and the bytes begin with that frame
-    pub first_stands : Fits (record { session = session; body = body }) × (h ≡ frame (record { session = session; body = body }) ++ drop (9 + n) h) × (9 + n ≤ length h)
-    first_stands =
+    pub is_first_request : Fits (record { session = session; body = body }) × (h ≡ frame (record { session = session; body = body }) ++ drop (9 + n) h) × (9 + n ≤ length h)
+    is_first_request =
         let r = is_read h sized.0 in (
           subst (λ (q : Request). Fits q) (sym is_first) r.fits,
           r.is ∙ ap₂ (λ (q : Request) (m : ℕ). frame q ++ drop (9 + m) h) (sym is_first) (sym sized.1),
@@ -74,11 +74,11 @@ module _ (h : List ℕ) (n session : ℕ) (body : Body) (sized : IsSize (Ok (Som
         )
 
 -- if memory is needed for the payload, the bytes begin with a load
-pub load_stands : (h : List ℕ) (n : ℕ) → IsSize (Ok (Some n)) h → IsLoaded (body_at (get_or h 0 0) (take n (drop 9 h))) → BeginsWithLoad h
-load_stands h n sized loaded =
+pub begins_with_load : (h : List ℕ) (n : ℕ) → IsSize (Ok (Some n)) h → IsLoaded (body_at (get_or h 0 0) (take n (drop 9 h))) → BeginsWithLoad h
+begins_with_load h n sized loaded =
     let r = is_read h sized.0 in (
       request_at h,
-      drop (9 + size_said h) h,
+      drop (9 + stated_size h) h,
       r.fits,
       subst (λ (m : ℕ). IsLoaded (body_at (get_or h 0 0) (take m (drop 9 h)))) sized.1 loaded,
       r.is,

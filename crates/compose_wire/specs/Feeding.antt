@@ -3,7 +3,7 @@ use Rattle.std.specs.Prelude.{◌≡◌, ◌≢◌, ℕ, ◌+◌, ◌<◌, ◌�
 use Rattle.std.specs.Int.{from_be_bytes, w32}
 use Rattle.compose_model.specs.declared.Rule.TheVariants.{Refuse, Longest}
 use Rattle.compose_wire.specs.Messages.{Body, open_session, key, reset, close, load, ask, Request as RequestValue, Fits}
-use Rattle.compose_wire.specs.Frames.{frame, Fault, fault_at, unknown_kind, bad_length, too_long, IsBegun, BeginsWithFrame, size_said, max_frame}
+use Rattle.compose_wire.specs.Frames.{frame, Fault, fault_at, unknown_kind, bad_length, too_long, IsBegun, BeginsWithFrame, stated_size, max_frame}
 use Rattle.compose_wire.specs.Requests.{request_of}
 use Rattle.compose_wire.specs.declared.request.Request.{Request}
 use Rattle.compose_wire.specs.declared.fault.WireFault.{WireFault}
@@ -33,22 +33,22 @@ IsFaultOf held NoMemory = BeginsWithLoad held
 
 -- the result for the held bytes, and what is held after it: if they begin with a frame, its request is returned; else
 -- all is held as before
-abbrev pub Gives : Result (Option Request) WireFault → List ℕ → List ℕ → Type 0
-Gives (Ok (Some q)) held held' = Fits (request_of q) × (held ≡ frame (request_of q) ++ held')
-Gives (Ok None) held held' = IsBegun held × (length held < max_frame) × (held' ≡ held)
-Gives (Err fault) held held' = IsFaultOf held fault × (held' ≡ held)
+abbrev pub Returns : Result (Option Request) WireFault → List ℕ → List ℕ → Type 0
+Returns (Ok (Some q)) held held' = Fits (request_of q) × (held ≡ frame (request_of q) ++ held')
+Returns (Ok None) held held' = IsBegun held × (length held < max_frame) × (held' ≡ held)
+Returns (Err fault) held held' = IsFaultOf held fault × (held' ≡ held)
 
 -- the result if the bytes begin with a frame: its request, or an error if memory runs out
-abbrev pub GivesRequest : RequestValue → List ℕ → Result (Option Request) WireFault → List ℕ → Type 0
-GivesRequest q more (Ok (Some r)) held' = (request_of r ≡ q) × (held' ≡ more)
-GivesRequest q more (Err NoMemory) held' = IsLoaded q.body × (held' ≡ frame q ++ more)
-GivesRequest q more _ held' = ⊥
+abbrev pub ReturnsRequest : RequestValue → List ℕ → Result (Option Request) WireFault → List ℕ → Type 0
+ReturnsRequest q more (Ok (Some r)) held' = (request_of r ≡ q) × (held' ≡ more)
+ReturnsRequest q more (Err NoMemory) held' = IsLoaded q.body × (held' ≡ frame q ++ more)
+ReturnsRequest q more _ held' = ⊥
 
 -- ---- the parts: definitions for the contracts of private functions
 
 -- the length of the payload, if there is a whole frame
 abbrev pub IsSize : Result (Option ℕ) WireFault → List ℕ → Type 0
-IsSize (Ok (Some size)) held = BeginsWithFrame held × (size ≡ size_said held) × (9 + size ≤ length held)
+IsSize (Ok (Some size)) held = BeginsWithFrame held × (size ≡ stated_size held) × (9 + size ≤ length held)
 IsSize (Ok None) held = IsBegun held × (length held < max_frame)
 IsSize (Err NoMemory) held = ⊥
 IsSize (Err fault) held = IsFaultOf held fault
@@ -63,7 +63,7 @@ body_at kind bytes =
 abbrev pub request_at : List ℕ → RequestValue
 request_at held = record {
   session = from_be_bytes w32 (take 4 (drop 1 held));
-  body = body_at (slice_index held 0) (take (size_said held) (drop 9 held));
+  body = body_at (slice_index held 0) (take (stated_size held) (drop 9 held));
 }
 
 -- the first request of the held bytes, and the number of bytes of its frame

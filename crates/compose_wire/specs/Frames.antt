@@ -5,7 +5,7 @@ use Rattle.compose_text.specs.Numbers.{is_between}
 use Rattle.compose_model.specs.declared.Status.{Status}
 use Rattle.compose_model.specs.declared.Status.TheVariants.{Nothing, Composing, Composed, Cancelled}
 use Rattle.compose_model.specs.declared.Rule.TheVariants.{Refuse, Longest}
-use Rattle.compose_wire.specs.Messages.{Body, open_session, key, reset, close, load, ask, Request, Fits, code, Answer, opened, fed, was_reset, closed, loaded, state, refused, Reply, max_payload}
+use Rattle.compose_wire.specs.Messages.{Body, open_session, key, reset, close, load, ask, Request, Fits, code, ReplyBody, opened, fed, was_reset, closed, loaded, state, refused, Reply, max_payload}
 
 -- ---- requests
 
@@ -68,7 +68,7 @@ status_byte Composed = 2
 status_byte Cancelled = 3
 
 -- the first byte of a reply's frame
-abbrev pub answer_kind : Answer → ℕ
+abbrev pub answer_kind : ReplyBody → ℕ
 answer_kind opened = 0x81
 answer_kind (fed status accepted text) = 0x82
 answer_kind was_reset = 0x83
@@ -79,7 +79,7 @@ answer_kind (refused why) = 0xff
 
 -- the status, whether the key was accepted, and the text; the count in eight bytes; the status, the number of pending
 -- keysyms, and each in four bytes; the code in two bytes; or else nothing
-abbrev pub answer_payload : Answer → List ℕ
+abbrev pub answer_payload : ReplyBody → List ℕ
 answer_payload (fed status accepted text) = status_byte status ∷ (if accepted then 1 else 0) ∷ text
 answer_payload (loaded count) = to_be_bytes w64 count
 answer_payload (state status pending) = status_byte status ∷ length pending ∷ flat_map (to_be_bytes w32) pending
@@ -102,8 +102,8 @@ pub record IsBegun (bytes : List ℕ) : Type 0 where
   pub no_frame : BeginsWithFrame bytes → ⊥
 
 -- the length of the payload by the head of a frame
-abbrev pub size_said : List ℕ → ℕ
-size_said bytes = from_be_bytes w32 (take 4 (drop 5 bytes))
+abbrev pub stated_size : List ℕ → ℕ
+stated_size bytes = from_be_bytes w32 (take 4 (drop 5 bytes))
 
 -- the length of the largest frame
 abbrev pub max_frame : ℕ

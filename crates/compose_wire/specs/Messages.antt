@@ -46,22 +46,22 @@ code no_memory = 9
 code malformed = 10
 
 -- the content of a reply
-pub data Answer : Type 0 where
-  opened : Answer
+pub data ReplyBody : Type 0 where
+  opened : ReplyBody
   -- the status, whether the key was accepted, and the text
-  fed : Status → Bool → List ℕ → Answer
-  was_reset : Answer
-  closed : Answer
+  fed : Status → Bool → List ℕ → ReplyBody
+  was_reset : ReplyBody
+  closed : ReplyBody
   -- the number of loads that were accepted
-  loaded : ℕ → Answer
+  loaded : ℕ → ReplyBody
   -- the status and the pending keysyms
-  state : Status → List ℕ → Answer
-  refused : Refusal → Answer
+  state : Status → List ℕ → ReplyBody
+  refused : Refusal → ReplyBody
 
 -- a reply repeats the session of its request
 pub record Reply : Type 0 where
   pub session : ℕ
-  pub answer : Answer
+  pub answer : ReplyBody
 
 -- ---- what fits into a frame
 

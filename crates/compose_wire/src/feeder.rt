@@ -3,7 +3,7 @@ ghost use Rattle.std.specs.Prelude.{◌≡◌, ◌+◌, ◌≤◌, ◌++◌, ℕ
 ghost use Rattle.compose_wire.specs.Messages as words;
 ghost use Rattle.compose_wire.specs.Messages.{Fits};
 ghost use Rattle.compose_wire.specs.Frames.{Fault, frame, fault_at, IsBegun};
-ghost use Rattle.compose_wire.specs.Feeding.{Gives, GivesRequest, wire_fault};
+ghost use Rattle.compose_wire.specs.Feeding.{Returns, ReturnsRequest, wire_fault};
 
 use crate::fault::WireFault;
 use crate::frame::first_request;
@@ -74,9 +74,9 @@ impl Feeder {
     /// fault; nothing changes, and each further call returns the same. `NoMemory` if there is no
     /// memory for a load's payload; nothing changes, and a later call may return the request.
     pub fn next_request(&mut self, alloc: Global) -> Result<Option<Request>, WireFault>
-        ensures so { Gives result self.old self.new }
+        ensures so { Returns result self.old self.new }
         ensures request { (q : words.Request) (more : List ℕ) → Fits q
-            → self.old ≡ frame q ++ more → GivesRequest q more result self.new }
+            → self.old ≡ frame q ++ more → ReturnsRequest q more result self.new }
         ensures fault { (fault : Fault) → fault_at self.old ≡ Some fault
             → result ≡ Err (wire_fault fault) }
         ensures none { IsBegun self.old → result ≡ Ok None }
@@ -86,7 +86,7 @@ impl Feeder {
 
     /// Removes the frame with which the buffered bytes begin.
     fn take_first(&mut self, alloc: Global) -> Result<Option<Request>, WireFault>
-        ensures { Gives result self.old self.new }
+        ensures { Returns result self.old self.new }
     {
         let Some((request, size)) = first_request(alloc, &self.buffer[self.start..])? else {
             return Ok(None);

@@ -3,7 +3,7 @@ ghost use Rattle.std.specs.Prelude.{◌≡◌, ◌+◌, ◌<◌, ◌≤◌, ◌+
 ghost use Rattle.std.specs.List.{AllByRecursion};
 ghost use Rattle.compose_wire.specs.Messages.{Request, Fits, AreBytes};
 ghost use Rattle.compose_wire.specs.Cut.{Turn, Leads, stream_of, requests_of};
-ghost use Rattle.compose_wire.specs.Frames.{frame, frames, Fault, fault_at, size_said, BeginsWithFrame, IsBegun, max_frame};
+ghost use Rattle.compose_wire.specs.Frames.{frame, frames, Fault, fault_at, stated_size, BeginsWithFrame, IsBegun, max_frame};
 
 /// No frame is a prefix of another one, so no two requests begin the same stream.
 pub fn law_one_frame()
@@ -22,9 +22,9 @@ pub fn law_one_stream()
 /// shorter than the largest frame. A fault stays a fault, whatever follows.
 pub fn law_next_frame()
     ensures no_fault { (q : Request) (x : List ℕ) → Fits q → fault_at (frame q ++ x) ≡ None }
-    ensures whole { (bytes : List ℕ) → BeginsWithFrame bytes → 9 + size_said bytes ≤ length bytes }
+    ensures whole { (bytes : List ℕ) → BeginsWithFrame bytes → 9 + stated_size bytes ≤ length bytes }
     ensures stands { (bytes : List ℕ) → AreBytes bytes → fault_at bytes ≡ None → 9 ≤ length bytes
-        → 9 + size_said bytes ≤ length bytes → BeginsWithFrame bytes }
+        → 9 + stated_size bytes ≤ length bytes → BeginsWithFrame bytes }
     ensures short { (bytes : List ℕ) → AreBytes bytes → IsBegun bytes → length bytes < max_frame }
     ensures stays { (bytes more : List ℕ) (fault : Fault) → fault_at bytes ≡ Some fault
         → fault_at (bytes ++ more) ≡ Some fault }

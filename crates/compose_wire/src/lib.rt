@@ -23,5 +23,5 @@ mod request;
 pub use fault::WireFault;
 pub use feeder::Feeder;
 pub use laws::{law_any_cut, law_next_frame, law_one_frame, law_one_stream};
-pub use reply::{Answer, Reply, put_reply};
+pub use reply::{Reply, ReplyBody, put_reply};
 pub use request::{Body, Payload, Request};

@@ -4,7 +4,7 @@ ghost use Rattle.std.specs.Int.{to_be_bytes, w32};
 ghost use Rattle.compose_wire.specs.Messages as words;
 ghost use Rattle.compose_wire.specs.Frames as frames;
 ghost use Rattle.compose_wire.specs.Frames.{frame_of};
-ghost use Rattle.compose_wire.specs.Replies.{SaysReply, bytes_of};
+ghost use Rattle.compose_wire.specs.Replies.{HasReplyValue, bytes_of};
 
 use arrayvec::{ArrayString, ArrayVec};
 use compose_model::Status;
@@ -12,7 +12,7 @@ use keysym_core::Keysym;
 
 /// The content of a reply.
 #[derive(Debug, PartialEq, Eq, Drop)]
-pub enum Answer {
+pub enum ReplyBody {
     /// The session was opened.
     Opened,
     /// The key was fed: the status after it, whether it was accepted, and the text that it
@@ -37,7 +37,7 @@ pub struct Reply {
     /// The session number of the request.
     pub session: u32,
     /// The answer to the request.
-    pub answer: Answer,
+    pub answer: ReplyBody,
 }
 
 /// Returns the byte of a status.
@@ -127,17 +127,17 @@ fn state(session: u32, status: Status, pending: &[Keysym]) -> ArrayVec<u8, 272>
 /// Allocates nothing; linear in the text or the pending keysyms.
 pub fn put_reply(reply: &Reply) -> ArrayVec<u8, 272>
     ensures bytes { result.items ≡ bytes_of reply.now }
-    ensures value { (value : words.Reply) → SaysReply reply.now value
+    ensures value { (value : words.Reply) → HasReplyValue reply.now value
         → result.items ≡ frames.reply_bytes value }
 {
     let session = reply.session;
     match &reply.answer {
-        Answer::Opened => with_payload(0x81, session, &[]),
-        Answer::Fed(status, accepted, text) => fed(session, *status, *accepted, text.as_str()),
-        Answer::WasReset => with_payload(0x83, session, &[]),
-        Answer::Closed => with_payload(0x84, session, &[]),
-        Answer::Loaded(count) => with_payload(0x85, session, &count.to_be_bytes()),
-        Answer::State(status, pending) => state(session, *status, pending.as_slice()),
-        Answer::Refused(code) => with_payload(0xff, session, &code.to_be_bytes()),
+        ReplyBody::Opened => with_payload(0x81, session, &[]),
+        ReplyBody::Fed(status, accepted, text) => fed(session, *status, *accepted, text.as_str()),
+        ReplyBody::WasReset => with_payload(0x83, session, &[]),
+        ReplyBody::Closed => with_payload(0x84, session, &[]),
+        ReplyBody::Loaded(count) => with_payload(0x85, session, &count.to_be_bytes()),
+        ReplyBody::State(status, pending) => state(session, *status, pending.as_slice()),
+        ReplyBody::Refused(code) => with_payload(0xff, session, &code.to_be_bytes()),
     }
 }

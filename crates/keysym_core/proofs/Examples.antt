@@ -4,9 +4,9 @@ use Rattle.std.specs.Prelude.{Some, None, codes}
 use Rattle.std.specs.Char.{encode_utf8}
 use Rattle.keysym_core.specs.Keysym.{is_ignored}
 use Rattle.keysym_core.specs.Names.{KeysymNames, text, value, character_of}
-use Rattle.keysym_core.specs.Header.{Entry, entry_of, with_line}
+use Rattle.keysym_core.specs.Header.{HeaderEntry, entry_of, with_line}
 use Rattle.keysym_core.specs.HeaderLine.{DefinesEntry, NotesCharacter}
-use Rattle.keysym_core.proofs.HeaderComments.{character_said}
+use Rattle.keysym_core.proofs.HeaderComments.{character_sound}
 use Rattle.keysym_core.proofs.HeaderRead.{line_read}
 use Rattle.keysym_core.specs.Printed.{printed}
 use Rattle.keysym_core.specs.declared.fault.NameFault.TheVariants.{BadLine, ValueTooLarge, NameConflict}
@@ -87,8 +87,8 @@ alpha = refl
 not_quite_one : entry_of (codes "topleftsummation 0x08b1 /*(U+250C BOX DRAWINGS LIGHT DOWN AND RIGHT)*/") ≡ Some (record { name = codes "topleftsummation"; value = 0x8b1; character = Some 0x250c })
 not_quite_one = refl
 
-blank_behind_parenthesis : entry_of (codes "b 0x62 /*( U+0062 */") ≡ Some (record { name = codes "b"; value = 0x62; character = None })
-blank_behind_parenthesis = refl
+blank_after_parenthesis : entry_of (codes "b 0x62 /*( U+0062 */") ≡ Some (record { name = codes "b"; value = 0x62; character = None })
+blank_after_parenthesis = refl
 
 seven_digits : entry_of (codes "b 0x62 /* U+0000062 */") ≡ Some (record { name = codes "b"; value = 0x62; character = None })
 seven_digits = refl
@@ -159,17 +159,17 @@ without_comment = record {
   is_character = refl;
 }
 
-no_definition : (entry : Entry) → DefinesEntry (codes "#define XK_odd 12") entry → ⊥
+no_definition : (entry : HeaderEntry) → DefinesEntry (codes "#define XK_odd 12") entry → ⊥
 no_definition entry d = let e = line_read (codes "#define XK_odd 12") entry d in cc
 
 no_parenthesis_before_a_blank : NotesCharacter (codes "( U+0062 */") None
-no_parenthesis_before_a_blank = character_said (codes "( U+0062 */")
+no_parenthesis_before_a_blank = character_sound (codes "( U+0062 */")
 
 too_many_digits : NotesCharacter (codes " U+0000062 */") None
-too_many_digits = character_said (codes " U+0000062 */")
+too_many_digits = character_sound (codes " U+0000062 */")
 
 control_is_no_character : NotesCharacter (codes " U+007F */") None
-control_is_no_character = character_said (codes " U+007F */")
+control_is_no_character = character_sound (codes " U+007F */")
 
 -- ---- lines in order
 

@@ -5,10 +5,10 @@ use Rattle.std.specs.List.{list_all}
 use Rattle.std.proofs.lemmas.Bool.{and_parts}
 use Rattle.compose_text.specs.Numbers.{is_between, is_hexadecimal_digit, is_hexadecimal, hexadecimal}
 use Rattle.compose_text.specs.Bytes.{is_blank, begins}
-use Rattle.keysym_core.specs.Header.{is_graphic, run, behind_run, begins_with, graphic_character, numbered_character, unparenthesized, noted_character}
+use Rattle.keysym_core.specs.Header.{is_graphic, run, after_run, begins_with, graphic_character, numbered_character, unparenthesized, noted_character}
 use Rattle.keysym_core.specs.HeaderLine.{NotesNumber, NotesCharacter}
 use Rattle.keysym_core.proofs.Forms.{not-true}
-use Rattle.keysym_core.proofs.HeaderRuns.{run_all, behind_all, starts, start_said, parts_of, run_passes, behind_stops, some_if}
+use Rattle.keysym_core.proofs.HeaderRuns.{run_all, after_all, starts, start_sound, parts_of, run_passes, after_stops, some_if}
 
 -- ---- graphic characters
 
@@ -36,8 +36,8 @@ in_order : (a b c d e : List ℕ) → a ++ b ++ c ++ d ++ e ≡ a ++ (b ++ (c ++
 in_order a b c d e = simp append_assoc
 
 -- after the blanks
-behind_blanks : (text blanks rest : List ℕ) → text ≡ blanks ++ rest → list_all is_blank blanks ≡ true → begins is_blank rest ≡ false → noted_character text ≡ numbered_character (unparenthesized rest)
-behind_blanks text blanks rest e all stops = ap noted_character e ∙ ap (λ t. numbered_character (unparenthesized t)) (behind_all is_blank blanks rest all stops)
+after_blanks : (text blanks rest : List ℕ) → text ≡ blanks ++ rest → list_all is_blank blanks ≡ true → begins is_blank rest ≡ false → noted_character text ≡ numbered_character (unparenthesized rest)
+after_blanks text blanks rest e all stops = ap noted_character e ∙ ap (λ t. numbered_character (unparenthesized t)) (after_all is_blank blanks rest all stops)
 
 noted_read : (text : List ℕ) (number : ℕ) → NotesNumber text number → noted_character text ≡ graphic_character number
 noted_read text number n =
@@ -46,8 +46,8 @@ noted_read text number n =
     let stops : begins is_hexadecimal_digit n.others ≡ false = not-true (begins is_hexadecimal_digit n.others) n.are_all_digits in
     let read = number_read n.digits n.others n.are_digits stops ∙ ap graphic_character n.is_number in
     elim n.is_opening [
-      | inl o ↦ behind_blanks text n.blanks prefix (e ∙ ap (λ t. n.blanks ++ (t ++ prefix)) o) n.are_blanks refl ∙ read
-      | inr o ↦ behind_blanks text n.blanks (codes "(" ++ prefix) (e ∙ ap (λ t. n.blanks ++ (t ++ prefix)) o) n.are_blanks refl ∙ read
+      | inl o ↦ after_blanks text n.blanks prefix (e ∙ ap (λ t. n.blanks ++ (t ++ prefix)) o) n.are_blanks refl ∙ read
+      | inr o ↦ after_blanks text n.blanks (codes "(" ++ prefix) (e ∙ ap (λ t. n.blanks ++ (t ++ prefix)) o) n.are_blanks refl ∙ read
     ]
 
 -- ---- what is read is a number by the grammar
@@ -63,26 +63,26 @@ opened (b ∷ bytes) = go (b == 40) refl
     go true e = (codes "(", inr refl, ap (λ x. x ∷ bytes) (eqb-true b 40 e))
     go false e = ([], inl refl, refl)
 
-graphic_said : (n c : ℕ) → graphic_character n ≡ Some c → (n ≡ c) × IsTrue (is_graphic c)
-graphic_said n c e = go (is_graphic n) refl
+graphic_sound : (n c : ℕ) → graphic_character n ≡ Some c → (n ≡ c) × IsTrue (is_graphic c)
+graphic_sound n c e = go (is_graphic n) refl
   where
     go : (t : Bool) → is_graphic n ≡ t → (n ≡ c) × IsTrue (is_graphic c)
     go true g = let s = graphic_some n g in let same : n ≡ c = cc in (same, ap is_graphic (sym same) ∙ g)
     go false g = let s = graphic_none n (ap not g) in cc
 
-noted_said : (text : List ℕ) (c : ℕ) → noted_character text ≡ Some c → NotesNumber text c × IsTrue (is_graphic c)
-noted_said text c e =
-    let rest = behind_run is_blank text in
+noted_sound : (text : List ℕ) (c : ℕ) → noted_character text ≡ Some c → NotesNumber text c × IsTrue (is_graphic c)
+noted_sound text c e =
+    let rest = after_run is_blank text in
     let o = opened rest in
     let marked = unparenthesized rest in
     let digits = run is_hexadecimal_digit (drop 2 marked) in
-    let others = behind_run is_hexadecimal_digit (drop 2 marked) in
+    let others = after_run is_hexadecimal_digit (drop 2 marked) in
     let s = some_if (begins_with (codes "U+") marked && is_hexadecimal 4 6 digits) (graphic_character (hexadecimal digits)) c e in
     let tests = and_parts (begins_with (codes "U+") marked) (is_hexadecimal 4 6 digits) s.0 in
-    let g = graphic_said (hexadecimal digits) c s.1 in
+    let g = graphic_sound (hexadecimal digits) c s.1 in
     let bytes : text ≡ run is_blank text ++ (o.0 ++ (codes "U+" ++ (digits ++ others))) =
     parts_of is_blank text ∙ ap (λ t. run is_blank text ++ t)
-    (o.2 ∙ ap (λ t. o.0 ++ t) (start_said (codes "U+") marked tests.0 ∙ ap (λ t. codes "U+" ++ t) (parts_of is_hexadecimal_digit (drop 2 marked)))) in (
+    (o.2 ∙ ap (λ t. o.0 ++ t) (start_sound (codes "U+") marked tests.0 ∙ ap (λ t. codes "U+" ++ t) (parts_of is_hexadecimal_digit (drop 2 marked)))) in (
       record {
         blanks = run is_blank text;
         opening = o.0;
@@ -92,7 +92,7 @@ noted_said text c e =
         are_blanks = run_passes is_blank text;
         is_opening = o.1;
         are_digits = tests.1;
-        are_all_digits = ap not (behind_stops is_hexadecimal_digit (drop 2 marked));
+        are_all_digits = ap not (after_stops is_hexadecimal_digit (drop 2 marked));
         is_number = g.0;
       },
       g.1,
@@ -108,11 +108,11 @@ no_character n e = go (is_graphic n) refl
     go true g = let s = graphic_some n g in cc
 
 -- the character that is read from the text of a comment is its character by the grammar
-pub character_said : (text : List ℕ) → NotesCharacter text (noted_character text)
-character_said text = go (noted_character text) refl
+pub character_sound : (text : List ℕ) → NotesCharacter text (noted_character text)
+character_sound text = go (noted_character text) refl
   where
     go : (o : Option ℕ) → noted_character text ≡ o → NotesCharacter text o
-    go (Some c) e = noted_said text c e
+    go (Some c) e = noted_sound text c e
     go None e = λ number n. no_character number (sym (noted_read text number n) ∙ e)
 
 not_both : (t : Bool) → t ≡ true → not t ≡ true → ⊥
@@ -126,4 +126,4 @@ character_read text None n = go (noted_character text) refl
   where
     go : (o : Option ℕ) → noted_character text ≡ o → noted_character text ≡ None
     go None e = e
-    go (Some c) e = let s = noted_said text c e in absurd (not_both (is_graphic c) s.1 (n c s.0))
+    go (Some c) e = let s = noted_sound text c e in absurd (not_both (is_graphic c) s.1 (n c s.0))

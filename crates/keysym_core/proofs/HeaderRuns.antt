@@ -4,7 +4,7 @@ use Rattle.std.specs.List.{list_all}
 use Rattle.std.specs.Cmp.Lexicographic.{bytes_decides}
 use Rattle.std.proofs.Math.Seq.{take-append_seam, drop-append_seam}
 use Rattle.std.proofs.lemmas.Bool.{and_parts, and_from}
-use Rattle.keysym_core.specs.Header.{run, run_length, behind_run, begins_with}
+use Rattle.keysym_core.specs.Header.{run, run_length, after_run, begins_with}
 use Rattle.compose_text.specs.Bytes.{begins}
 
 -- ---- bytes that pass the test, before one that does not
@@ -22,13 +22,13 @@ pub run_all : (p : ℕ → Bool) (prefix rest : List ℕ) → list_all p prefix 
 run_all p prefix rest all stops = ap (λ n. take n (prefix ++ rest)) (run_length-all p prefix rest all stops) ∙ take-append_seam prefix rest
 
 -- if all these bytes pass the test, and the next does not, that one comes after the run
-pub behind_all : (p : ℕ → Bool) (prefix rest : List ℕ) → list_all p prefix ≡ true → begins p rest ≡ false → behind_run p (prefix ++ rest) ≡ rest
-behind_all p prefix rest all stops = ap (λ n. drop n (prefix ++ rest)) (run_length-all p prefix rest all stops) ∙ drop-append_seam prefix rest
+pub after_all : (p : ℕ → Bool) (prefix rest : List ℕ) → list_all p prefix ≡ true → begins p rest ≡ false → after_run p (prefix ++ rest) ≡ rest
+after_all p prefix rest all stops = ap (λ n. drop n (prefix ++ rest)) (run_length-all p prefix rest all stops) ∙ drop-append_seam prefix rest
 
 -- ---- the run at the beginning of any bytes
 
 -- bytes are their first run and what follows it
-pub parts_of : (p : ℕ → Bool) (bytes : List ℕ) → bytes ≡ run p bytes ++ behind_run p bytes
+pub parts_of : (p : ℕ → Bool) (bytes : List ℕ) → bytes ≡ run p bytes ++ after_run p bytes
 parts_of p bytes = sym (take-append-drop (run_length p bytes) bytes)
 
 -- one more byte
@@ -48,11 +48,11 @@ run_passes p (b ∷ bytes) = go (p b) refl (run_passes p bytes)
     go false e h = ap (λ n. list_all p (take n (b ∷ bytes))) (run_none p b bytes e)
 
 -- what follows a run does not begin with a byte that passes the test
-pub behind_stops : (p : ℕ → Bool) (bytes : List ℕ) → begins p (behind_run p bytes) ≡ false
-behind_stops p [] = refl
-behind_stops p (b ∷ bytes) = go (p b) refl (behind_stops p bytes)
+pub after_stops : (p : ℕ → Bool) (bytes : List ℕ) → begins p (after_run p bytes) ≡ false
+after_stops p [] = refl
+after_stops p (b ∷ bytes) = go (p b) refl (after_stops p bytes)
   where
-    go : (t : Bool) → p b ≡ t → begins p (behind_run p bytes) ≡ false → begins p (behind_run p (b ∷ bytes)) ≡ false
+    go : (t : Bool) → p b ≡ t → begins p (after_run p bytes) ≡ false → begins p (after_run p (b ∷ bytes)) ≡ false
     go true e h = ap (λ n. begins p (drop n (b ∷ bytes))) (run_more p b bytes e) ∙ h
     go false e h = ap (λ n. begins p (drop n (b ∷ bytes))) (run_none p b bytes e) ∙ e
 
@@ -72,8 +72,8 @@ pub starts : (start rest : List ℕ) → begins_with start (start ++ rest) ≡ t
 starts start rest = (bytes_decides (take (length start) (start ++ rest)) start).1 (take-append_seam start rest)
 
 -- bytes that begin with a start are the start and what is left after it
-pub start_said : (start bytes : List ℕ) → begins_with start bytes ≡ true → bytes ≡ start ++ drop (length start) bytes
-start_said start bytes h = sym (take-append-drop (length start) bytes) ∙ ap (λ t. t ++ drop (length start) bytes) ((bytes_decides (take (length start) bytes) start).0 h)
+pub start_sound : (start bytes : List ℕ) → begins_with start bytes ≡ true → bytes ≡ start ++ drop (length start) bytes
+start_sound start bytes h = sym (take-append-drop (length start) bytes) ∙ ap (λ t. t ++ drop (length start) bytes) ((bytes_decides (take (length start) bytes) start).0 h)
 
 -- ---- tests
 

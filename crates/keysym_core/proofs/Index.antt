@@ -47,24 +47,24 @@ module _ (entries : List CharacterRow) (d : CharacterRow) (c low index : ℕ)
     (keysyms : (x k : ℕ) → list_any (is_entry x k) entries ≡ true → k ≤ max_keysym)
     (split : IsPartitionPoint (λ (e : CharacterRow). ltb (rank e) (c * 0x1_0000_0000 + low) ≡ true) (λ (e : CharacterRow). ltb (rank e) (c * 0x1_0000_0000 + low) ≡ false) entries index) where
   -- an entry not below `low` is at the index or after it
-  pub behind_index : (k : ℕ) → low ≤ k → (e : EntryAt c k entries d) → index ≤ e.index
-  behind_index k more e = ⊎_elim
+  pub after_index : (k : ℕ) → low ≤ k → (e : EntryAt c k entries d) → index ≤ e.index
+  after_index k more e = ⊎_elim
       (λ before. absurd
       (let low_rank = ltb-true (rank (get_or entries e.index d)) (c * 0x1_0000_0000 + low) (split.0 e.index d (omega arith) before) in omega (arith, low_rank, e.character, e.value, more)))
       (λ after. after)
       (cases_lt e.index index)
 
   -- after all entries there is none
-  pub none_behind : length entries ≤ index → IsLeastFrom low (λ k. list_any (is_entry c k) entries ≡ true) None
-  none_behind past = λ k more there.
+  pub none_later : length entries ≤ index → IsLeastFrom low (λ k. list_any (is_entry c k) entries ≡ true) None
+  none_later past = λ k more there.
       let e = entry_index c k entries d there in
-      omega (arith, behind_index k more e, e.inside)
+      omega (arith, after_index k more e, e.inside)
 
   -- if the entry at the index has another character, there is none
   pub none_of_another : index < length entries → (get_or entries index d).character ≢ c → IsLeastFrom low (λ k. list_any (is_entry c k) entries ≡ true) None
   none_of_another inside other = λ k more there.
       let e = entry_index c k entries d there in
-      let later = sorted index e.index d (behind_index k more e) e.inside in
+      let later = sorted index e.index d (after_index k more e) e.inside in
       let from = ltb-false (rank (get_or entries index d)) (c * 0x1_0000_0000 + low) (split.1 index d (omega arith) inside) in
       let small = keysyms (get_or entries index d).character (get_or entries index d).value (entry_found entries index d inside) in
       let keysym = keysyms c k there in
@@ -78,6 +78,6 @@ module _ (entries : List CharacterRow) (d : CharacterRow) (c low index : ℕ)
         ap (λ x. list_any (is_entry x (get_or entries index d).value) entries) (sym same) ∙ entry_found entries index d inside,
         λ j more there.
             let e = entry_index c j entries d there in
-            let later = sorted index e.index d (behind_index j more e) e.inside in
+            let later = sorted index e.index d (after_index j more e) e.inside in
             omega (arith, later, same, e.character, e.value),
       )

@@ -11,4 +11,4 @@ pub mod Texts
 pub mod HeaderRuns
 pub mod HeaderComments
 pub mod HeaderRead
-pub mod HeaderSaid
+pub mod HeaderSound

@@ -24,14 +24,14 @@ run_length p bytes = position_or_len (λ b. not (p b)) bytes
 abbrev pub run : (ℕ → Bool) → List ℕ → List ℕ
 run p bytes = take (run_length p bytes) bytes
 
-abbrev pub behind_run : (ℕ → Bool) → List ℕ → List ℕ
-behind_run p bytes = drop (run_length p bytes) bytes
+abbrev pub after_run : (ℕ → Bool) → List ℕ → List ℕ
+after_run p bytes = drop (run_length p bytes) bytes
 
 abbrev pub begins_with : List ℕ → List ℕ → Bool
 begins_with start bytes = bytes_eq (take (length start) bytes) start
 
 -- the definition in a line: a name, its value, and the character in its comment
-pub record Entry : Type 0 where
+pub record HeaderEntry : Type 0 where
   pub name : List ℕ
   pub value : ℕ
   pub character : Option ℕ
@@ -56,34 +56,34 @@ unparenthesized (b ∷ bytes) = if b == 40 then bytes else b ∷ bytes
 
 -- the character at the beginning of a comment
 abbrev pub noted_character : List ℕ → Option ℕ
-noted_character text = numbered_character (unparenthesized (behind_run is_blank text))
+noted_character text = numbered_character (unparenthesized (after_run is_blank text))
 
 -- the text of the comment at the end of a line, which is empty without a comment
 abbrev pub comment_text : List ℕ → Option (List ℕ)
 comment_text rest = if length rest == 0 then Some [] else if begins_with (codes "/*") rest then Some (drop 2 rest) else None
 
 -- the value and what follows it: `0x`, one to eight digits, blanks, and perhaps a comment
-abbrev pub valued : List ℕ → List ℕ → Option Entry
-valued name number =
+abbrev pub valued_entry : List ℕ → List ℕ → Option HeaderEntry
+valued_entry name number =
     let digits = run is_hexadecimal_digit (drop 2 number) in
-    let rest = behind_run is_hexadecimal_digit (drop 2 number) in
+    let rest = after_run is_hexadecimal_digit (drop 2 number) in
     if begins_with (codes "0x") number && is_hexadecimal 1 8 digits
-    then option_map (λ text. record { name = name; value = hexadecimal digits; character = noted_character text }) (comment_text (behind_run is_blank rest))
+    then option_map (λ text. record { name = name; value = hexadecimal digits; character = noted_character text }) (comment_text (after_run is_blank rest))
     else None
 
 -- the definition after `#define XK_`: a name, blanks, and its value
-abbrev pub entry_of : List ℕ → Option Entry
+abbrev pub entry_of : List ℕ → Option HeaderEntry
 entry_of bytes =
-    let blanks = behind_run is_name_byte bytes in
-    if run_length is_name_byte bytes == 0 || run_length is_blank blanks == 0 then None else valued (run is_name_byte bytes) (behind_run is_blank blanks)
+    let blanks = after_run is_name_byte bytes in
+    if run_length is_name_byte bytes == 0 || run_length is_blank blanks == 0 then None else valued_entry (run is_name_byte bytes) (after_run is_blank blanks)
 
 abbrev pub define : List ℕ
 define = codes "#define XK_"
 
 -- the definition in a whole line: the entry to which DefinesEntry of HeaderLine relates it, and none if there is no
 -- such entry
-abbrev pub entry_said : List ℕ → Option Entry
-entry_said line = if begins_with define line then entry_of (drop (length define) line) else None
+abbrev pub defined_entry : List ℕ → Option HeaderEntry
+defined_entry line = if begins_with define line then entry_of (drop (length define) line) else None
 
 -- ---- the names in the lines
 
@@ -109,13 +109,13 @@ with_noted (Ok names) v None = Ok names
 with_noted (Ok names) v (Some c) = Ok (record names { characters = with_character names.characters v c })
 
 -- the names, and the definition in the line n
-abbrev pub with_entry : KeysymNames → ℕ → Option Entry → Result KeysymNames NameFault
+abbrev pub with_entry : KeysymNames → ℕ → Option HeaderEntry → Result KeysymNames NameFault
 with_entry names n None = Err (BadLine n)
 with_entry names n (Some entry) = if is_keysym entry.value then with_noted (with_name names n entry.name entry.value) entry.value entry.character else Err (ValueTooLarge n)
 
 -- the names, and the definition in the text of the line n, which is skipped if it does not define the name of a keysym
 abbrev pub with_text : KeysymNames → ℕ → List ℕ → Result KeysymNames NameFault
-with_text names n line = if begins_with define line then with_entry names n (entry_said line) else Ok names
+with_text names n line = if begins_with define line then with_entry names n (defined_entry line) else Ok names
 
 -- the names, and the definition in the line n
 abbrev pub with_line : KeysymNames → ℕ → List ℕ → Result KeysymNames NameFault
@@ -133,13 +133,13 @@ names_of header = with_lines (Ok core_names) 1 (lines_of header)
 
 -- ---- the result of a function, unless memory runs out
 
-abbrev pub NamesGives : Result KeysymNames NameFault → Result KeysymNames NameFault → Type 0
-NamesGives (Ok names) said = said ≡ Ok names
-NamesGives (Err NoMemory) said = Unit {0}
-NamesGives (Err fault) said = said ≡ Err fault
+abbrev pub NamesReturns : Result KeysymNames NameFault → Result KeysymNames NameFault → Type 0
+NamesReturns (Ok names) expected = expected ≡ Ok names
+NamesReturns (Err NoMemory) expected = Unit {0}
+NamesReturns (Err fault) expected = expected ≡ Err fault
 
 -- the same for a function that changes the names
-abbrev pub ChangeGives : {A : Type 0} → Result A NameFault → KeysymNames → Result KeysymNames NameFault → Type 0
-ChangeGives (Ok x) after said = said ≡ Ok after
-ChangeGives (Err NoMemory) after said = Unit {0}
-ChangeGives (Err fault) after said = said ≡ Err fault
+abbrev pub ChangeReturns : {A : Type 0} → Result A NameFault → KeysymNames → Result KeysymNames NameFault → Type 0
+ChangeReturns (Ok x) after expected = expected ≡ Ok after
+ChangeReturns (Err NoMemory) after expected = Unit {0}
+ChangeReturns (Err fault) after expected = expected ≡ Err fault

@@ -4,7 +4,7 @@ use Rattle.std.specs.Prelude.{◌≡◌, ◌⊎◌, ℕ, Bool, not, ◌&&◌, na
 use Rattle.std.specs.List.{list_all}
 use Rattle.compose_text.specs.Numbers.{is_hexadecimal_digit, is_hexadecimal, hexadecimal}
 use Rattle.compose_text.specs.Bytes.{begins, is_blank, is_name_byte}
-use Rattle.keysym_core.specs.Header.{Entry, define, is_graphic}
+use Rattle.keysym_core.specs.Header.{HeaderEntry, define, is_graphic}
 
 -- at least one byte, and all of them pass the test
 abbrev pub are_some : (ℕ → Bool) → List ℕ → Bool
@@ -46,7 +46,7 @@ CommentNotes (Some text) character = NotesCharacter text character
 
 -- the line defines the entry: `#define XK_`, its name, blanks, `0x`, one to eight digits of its value, perhaps blanks,
 -- and perhaps a comment
-pub record DefinesEntry (line : List ℕ) (entry : Entry) : Type 0 where
+pub record DefinesEntry (line : List ℕ) (entry : HeaderEntry) : Type 0 where
   pub blanks : List ℕ
   pub digits : List ℕ
   pub more_blanks : List ℕ

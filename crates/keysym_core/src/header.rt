@@ -11,23 +11,23 @@ use std::str;
 
 /// The definition in a line: a name with its value, and the character in the comment after it.
 #[derive(Drop)]
-pub(crate) struct Entry<'a> {
+pub(crate) struct HeaderEntry<'a> {
     pub name: &'a str,
     pub value: u32,
     pub character: Option<char>,
 }
 
-impl<'a> Model for Entry<'a> {
+impl<'a> Model for HeaderEntry<'a> {
     ghost use Rattle.keysym_core.specs.Header as words;
 
-    ghost Value = { words.Entry };
+    ghost Value = { words.HeaderEntry };
 
     ghost view = { λ e. record { name = e.name.now; value = e.value; character = e.character } };
 }
 
 /// Returns the definition that follows `#define XK_`; `None` if it is not a definition. O(n) in the
 /// bytes.
-pub(crate) fn entry_of(bytes: &[u8]) -> Option<Entry<'_>>
+pub(crate) fn entry_of(bytes: &[u8]) -> Option<HeaderEntry<'_>>
     ensures { result ≡ words.entry_of bytes.now }
 {
     let name_length = name_length(bytes);
@@ -36,18 +36,18 @@ pub(crate) fn entry_of(bytes: &[u8]) -> Option<Entry<'_>>
     if name_length == 0 || blank_length == 0 {
         return None;
     }
-    valued(str::from_utf8(name).unwrap(), &others[blank_length..])
+    valued_entry(str::from_utf8(name).unwrap(), &others[blank_length..])
 }
 
 /// Returns the entry of this name with its value, and the character in the comment after it.
-fn valued<'a>(name: &'a str, number: &[u8]) -> Option<Entry<'a>>
-    ensures { result ≡ words.valued name.now number.now }
+fn valued_entry<'a>(name: &'a str, number: &[u8]) -> Option<HeaderEntry<'a>>
+    ensures { result ≡ words.valued_entry name.now number.now }
 {
     let digits_on = number.strip_prefix(b"0x")?;
     let (digits, rest) = digits_on.split_at(digit_length(digits_on));
     let value = hexadecimal_number(1, 8, digits)?;
     let text = comment_text(&rest[blank_length(rest)..])?;
-    Some(Entry {
+    Some(HeaderEntry {
         name,
         value,
         character: noted_character(text),

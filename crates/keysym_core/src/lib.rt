@@ -17,7 +17,7 @@
 #![tactic(auto)]
 
 ghost use Rattle.std.specs.Prelude.{◌≡◌, ℕ, List, Some};
-ghost use Rattle.keysym_core.specs.Header.{Entry, entry_said};
+ghost use Rattle.keysym_core.specs.Header.{HeaderEntry, defined_entry};
 ghost use Rattle.keysym_core.specs.HeaderLine.{DefinesEntry};
 
 mod character_index;
@@ -41,10 +41,10 @@ pub use shown::{KeyList, ShownChar, ShownKeysym};
 /// A line of a header defines at most one entry, and what is read from the line is the entry that
 /// it defines.
 pub fn law_header_line()
-    ensures read { (line : List ℕ) (entry : Entry) → DefinesEntry line entry
-        → entry_said line ≡ Some entry }
-    ensures said { (line : List ℕ) (entry : Entry) → entry_said line ≡ Some entry
+    ensures read { (line : List ℕ) (entry : HeaderEntry) → DefinesEntry line entry
+        → defined_entry line ≡ Some entry }
+    ensures expected { (line : List ℕ) (entry : HeaderEntry) → defined_entry line ≡ Some entry
         → DefinesEntry line entry }
-    ensures one { (line : List ℕ) (a b : Entry) → DefinesEntry line a → DefinesEntry line b
+    ensures one { (line : List ℕ) (a b : HeaderEntry) → DefinesEntry line a → DefinesEntry line b
         → a ≡ b }
 {}

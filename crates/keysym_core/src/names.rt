@@ -2,7 +2,7 @@
 ghost use Rattle.std.specs.Prelude.{◌≡◌, ◌≤◌, ℕ, length, map, IfOk, IfErr, Some, string_bytes};
 ghost use Rattle.keysym_core.specs.Names.{value, character_of, text};
 ghost use Rattle.keysym_core.specs.Core.{core_names};
-ghost use Rattle.keysym_core.specs.Header.{NamesGives, names_of};
+ghost use Rattle.keysym_core.specs.Header.{NamesReturns, names_of};
 ghost use Rattle.keysym_core.specs.Next.{IsNextOf};
 ghost use Rattle.keysym_core.specs.Printed.{printed};
 ghost use Rattle.keysym_core.specs.declared.fault.NameFault.TheVariants.{NoMemory};
@@ -59,7 +59,7 @@ impl Names {
     ///
     /// Errors: the fault of the first faulty line; `NoMemory` if memory runs out.
     pub fn read(alloc: Global, header: &[u8]) -> Result<Names, NameFault>
-        ensures { NamesGives result (names_of header.now) }
+        ensures { NamesReturns result (names_of header.now) }
     {
         law_core_names();
         let core = NameTable::of_rows(alloc, &CORE_NAMES)?;

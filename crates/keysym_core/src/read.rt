@@ -1,11 +1,11 @@
 //! Reading a header of names, line by line.
 ghost use Rattle.std.specs.Prelude.{◌≡◌, ◌+◌, ◌≤◌, length, Some, Ok};
 ghost use Rattle.compose_text.specs.Lines.{lines_of};
-ghost use Rattle.keysym_core.specs.Header.{with_name, with_noted, with_entry, with_text, with_line, with_lines, NamesGives, ChangeGives};
+ghost use Rattle.keysym_core.specs.Header.{with_name, with_noted, with_entry, with_text, with_line, with_lines, NamesReturns, ChangeReturns};
 
 use crate::fault::NameFault;
 use crate::form::form_value;
-use crate::header::{Entry, entry_of};
+use crate::header::{HeaderEntry, entry_of};
 use crate::keysym::Keysym;
 use crate::table::NameTable;
 use compose_text::first_line;
@@ -14,7 +14,7 @@ use std::str;
 /// Returns the table with the definitions of a header added, or the fault of the first faulty line.
 /// O(n) in the bytes.
 pub(crate) fn with_lines(table: NameTable, header: &[u8]) -> Result<NameTable, NameFault>
-    ensures { NamesGives result (with_lines (Ok table) 1 (lines_of header.now)) }
+    ensures { NamesReturns result (with_lines (Ok table) 1 (lines_of header.now)) }
 {
     let mut grown = table;
     let mut rest = header;
@@ -29,7 +29,7 @@ pub(crate) fn with_lines(table: NameTable, header: &[u8]) -> Result<NameTable, N
 
 /// Adds the definition of a line to the table. Lines are counted from 1.
 fn take_line(table: &mut NameTable, line: usize, bytes: &[u8]) -> Result<(), NameFault>
-    ensures { ChangeGives result table.new (with_line table.old line bytes.now) }
+    ensures { ChangeReturns result table.new (with_line table.old line bytes.now) }
 {
     match str::from_utf8(bytes) {
         Ok(_) => take_text(table, line, bytes),
@@ -39,7 +39,7 @@ fn take_line(table: &mut NameTable, line: usize, bytes: &[u8]) -> Result<(), Nam
 
 /// Adds the definition in the text of a line to the table.
 fn take_text(table: &mut NameTable, line: usize, bytes: &[u8]) -> Result<(), NameFault>
-    ensures { ChangeGives result table.new (with_text table.old line bytes.now) }
+    ensures { ChangeReturns result table.new (with_text table.old line bytes.now) }
 {
     match bytes.strip_prefix(b"#define XK_") {
         Some(definition) => match entry_of(definition) {
@@ -51,8 +51,8 @@ fn take_text(table: &mut NameTable, line: usize, bytes: &[u8]) -> Result<(), Nam
 }
 
 /// Adds a definition to the table.
-fn take_entry(table: &mut NameTable, line: usize, entry: &Entry<'_>) -> Result<(), NameFault>
-    ensures { ChangeGives result table.new (with_entry table.old line (Some entry.now)) }
+fn take_entry(table: &mut NameTable, line: usize, entry: &HeaderEntry<'_>) -> Result<(), NameFault>
+    ensures { ChangeReturns result table.new (with_entry table.old line (Some entry.now)) }
 {
     let Some(keysym) = Keysym::new(entry.value) else {
         return Err(NameFault::ValueTooLarge { line });
@@ -71,7 +71,7 @@ fn take_name(
     name: &str,
     keysym: Keysym,
 ) -> Result<(), NameFault>
-    ensures { ChangeGives result table.new (with_name table.old line name.now keysym) }
+    ensures { ChangeReturns result table.new (with_name table.old line name.now keysym) }
 {
     if let Some(known) = table.row_value(name) {
         if known != keysym {

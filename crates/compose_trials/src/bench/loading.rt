@@ -10,7 +10,7 @@ use compose_model::Rule;
 use compose_read::Sources;
 use compose_service::Service;
 use compose_tree::ComposeTable;
-use compose_wire::{Answer, Body, Payload, Request};
+use compose_wire::{Body, Payload, ReplyBody, Request};
 
 /// The number of times that the table is loaded, and the same bytes are checked.
 const LOADS: u32 = 100;
@@ -108,7 +108,7 @@ fn is_loaded<T: ComposeTable>(
     request: &Request,
 ) -> bool {
     let reply = service.answer(rt.alloc(), request);
-    matches!(&reply.answer, Answer::Loaded(_))
+    matches!(&reply.answer, ReplyBody::Loaded(_))
 }
 
 /// Checks the same bytes.

@@ -5,7 +5,7 @@ use crate::failure::Failure;
 use crate::input::read_file;
 use arrayvec::ArrayVec;
 use compose_cert::Certificate;
-use compose_lex::{Said, lex_line_into};
+use compose_lex::{LineContent, lex_line_into};
 use keysym_core::Names;
 
 /// Measures how all lines of a table are lexed. Errors: see [`Failure`].
@@ -50,7 +50,7 @@ fn count_events(lines: &[&str]) -> u64 {
 /// Returns the number of events of a line.
 fn events_on<'a>(line: &'a str, events: &mut ArrayVec<&'a str, 32>) -> u64 {
     match lex_line_into(line, events) {
-        Ok(Said::Production { .. }) => events.len() as u64,
+        Ok(LineContent::Production { .. }) => events.len() as u64,
         _ => 0,
     }
 }

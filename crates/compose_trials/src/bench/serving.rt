@@ -5,7 +5,7 @@ use compose_cert::Repertoire;
 use compose_model::Rule;
 use compose_service::Service;
 use compose_tree::ComposeTable;
-use compose_wire::{Answer, Body, Reply, Request};
+use compose_wire::{Body, Reply, ReplyBody, Request};
 use keysym_core::Names;
 
 /// Starts a service over the table of a file, without a repertoire. The files are those of the
@@ -75,7 +75,7 @@ pub fn open_sessions<T: ComposeTable>(
 ) -> Result<(), Failure> {
     for session in 0..count {
         let reply = ask(rt, service, session, Body::Open);
-        if !matches!(&reply.answer, Answer::Opened) {
+        if !matches!(&reply.answer, ReplyBody::Opened) {
             return Err(Failure::Input);
         }
     }
@@ -92,7 +92,7 @@ pub fn close_sessions<T: ComposeTable>(
 ) -> Result<(), Failure> {
     for session in from..to {
         let reply = ask(rt, service, session, Body::Close);
-        if !matches!(&reply.answer, Answer::Closed) {
+        if !matches!(&reply.answer, ReplyBody::Closed) {
             return Err(Failure::Input);
         }
     }

@@ -3,7 +3,7 @@
 use crate::bench::figures::print;
 use crate::bench::serving::{close_sessions, open_sessions, read_count};
 use crate::bench::stopwatch::{Stopwatch, now};
-use crate::bench::typing::{Counts, read_keys};
+use crate::bench::typing::{TestCounts, read_keys};
 use crate::failure::Failure;
 use crate::input::read_names;
 use arrayvec::ArrayString;
@@ -11,7 +11,7 @@ use compose_model::Status;
 use compose_service::Service;
 use compose_state::ComposeState;
 use compose_tree::ComposeTable;
-use compose_wire::{Answer, Body, Reply, Request};
+use compose_wire::{Body, Reply, ReplyBody, Request};
 use keysym_core::{Keysym, Names};
 
 /// The number of rounds of typing the same keys, and of opening and closing the same sessions.
@@ -134,7 +134,7 @@ fn feed_round<T: ComposeTable>(
     presses: &[Press],
     count: u32,
     stopwatch: &mut Stopwatch,
-) -> Result<Counts, Failure> {
+) -> Result<TestCounts, Failure> {
     let mut states = states_at_rest(rt, count)?;
     let start = now(rt)?;
     let counts = feed_all(table, names, presses, &mut states);
@@ -159,8 +159,8 @@ fn feed_all<T: ComposeTable>(
     names: &Names,
     presses: &[Press],
     states: &mut [ComposeState],
-) -> Counts {
-    let mut counts = Counts::new();
+) -> TestCounts {
+    let mut counts = TestCounts::new();
     let mut text: ArrayString<255> = ArrayString::new();
     for press in presses {
         if let Some(state) = states.get_mut(press.session as usize) {
@@ -179,7 +179,7 @@ fn answer_round<T: ComposeTable>(
     presses: &[Press],
     count: u32,
     stopwatch: &mut Stopwatch,
-) -> Result<Counts, Failure> {
+) -> Result<TestCounts, Failure> {
     open_sessions(rt, service, count)?;
     let start = now(rt)?;
     let counts = answer_all(rt, service, presses)?;
@@ -193,15 +193,15 @@ fn answer_all<T: ComposeTable>(
     rt: &HostRuntime,
     service: &mut Service<T>,
     presses: &[Press],
-) -> Result<Counts, Failure> {
-    let mut counts = Counts::new();
+) -> Result<TestCounts, Failure> {
+    let mut counts = TestCounts::new();
     for press in presses {
         let request = Request {
             session: press.session,
             body: Body::Key(press.keysym.value()),
         };
         let reply = service.answer(rt.alloc(), &request);
-        let Answer::Fed(status, _, text) = &reply.answer else {
+        let ReplyBody::Fed(status, _, text) = &reply.answer else {
             return Err(Failure::Input);
         };
         counts.count(*status, text.as_str());
@@ -216,7 +216,7 @@ fn whole_round<T: ComposeTable>(
     presses: &[Press],
     count: u32,
     stopwatch: &mut Stopwatch,
-) -> Result<Counts, Failure> {
+) -> Result<TestCounts, Failure> {
     open_sessions(rt, service, count)?;
     let start = now(rt)?;
     let counts = answer_all_whole(rt, service, presses)?;
@@ -230,8 +230,8 @@ fn answer_all_whole<T: ComposeTable>(
     rt: &HostRuntime,
     service: &mut Service<T>,
     presses: &[Press],
-) -> Result<Counts, Failure> {
-    let mut counts = Counts::new();
+) -> Result<TestCounts, Failure> {
+    let mut counts = TestCounts::new();
     for press in presses {
         let request = Request {
             session: press.session,
@@ -251,7 +251,7 @@ fn answer_all_whole<T: ComposeTable>(
 #[inline(never)]
 fn fed_of(reply: &Reply) -> Option<(Status, &str)> {
     match &reply.answer {
-        Answer::Fed(status, _, text) => Some((*status, text.as_str())),
+        ReplyBody::Fed(status, _, text) => Some((*status, text.as_str())),
         _ => None,
     }
 }

@@ -12,7 +12,7 @@ use keysym_core::{Keysym, Names};
 /// The number of times that each status came, the number of bytes of all committed texts, and the
 /// sum of their first bytes.
 #[derive(Clone, Copy, PartialEq, Eq, Drop)]
-pub struct Counts {
+pub struct TestCounts {
     nothing: u64,
     composing: u64,
     composed: u64,
@@ -21,10 +21,10 @@ pub struct Counts {
     first_bytes: u64,
 }
 
-impl Counts {
+impl TestCounts {
     /// Makes counts of no key.
-    pub fn new() -> Counts {
-        Counts {
+    pub fn new() -> TestCounts {
+        TestCounts {
             nothing: 0,
             composing: 0,
             composed: 0,
@@ -78,7 +78,7 @@ fn type_file(
 }
 
 /// Prints the time and the counts.
-fn print_counts(rt: &HostRuntime, time: u64, counts: Counts) -> Result<(), Failure> {
+fn print_counts(rt: &HostRuntime, time: u64, counts: TestCounts) -> Result<(), Failure> {
     print(
         rt,
         &[
@@ -121,8 +121,8 @@ fn keysym_at(bytes: &[u8], index: usize) -> Option<Keysym> {
 }
 
 /// Feeds each key, and reads the status and the text each time.
-fn type_all(table: &PackedTable, names: &Names, keys: &[Keysym]) -> Counts {
-    let mut counts = Counts::new();
+fn type_all(table: &PackedTable, names: &Names, keys: &[Keysym]) -> TestCounts {
+    let mut counts = TestCounts::new();
     let mut state = ComposeState::new();
     let mut text: ArrayString<255> = ArrayString::new();
     for key in keys {

@@ -9,7 +9,7 @@ use std::io::ErrorKind;
 
 /// A client and its stream.
 #[derive(Drop)]
-pub struct Client {
+pub struct TestClient {
     /// All bytes of it that arrive.
     pub sends: Vec<u8>,
     /// Whether its stream breaks after these bytes, and does not just end.
@@ -26,10 +26,10 @@ pub struct Client {
     room: usize,
 }
 
-impl Client {
+impl TestClient {
     /// Makes a client of which no bytes have arrived.
-    pub fn new(alloc: Global, sends: Vec<u8>, breaks: bool, takes: usize) -> Client {
-        Client {
+    pub fn new(alloc: Global, sends: Vec<u8>, breaks: bool, takes: usize) -> TestClient {
+        TestClient {
             sends,
             breaks,
             takes,

@@ -7,11 +7,11 @@ use crate::devices::{Behaviour, TrialReader, TrialWriter};
 use crate::failure::Failure;
 use crate::input::{read_file, start_service};
 use crate::network::Network;
-use crate::network::client::Client;
-use crate::output::say;
+use crate::network::client::TestClient;
+use crate::output::print_line;
 use crate::serving::serve;
-use compose_hub::{ConnectionEnd, Limits, Report, serve_at_once};
-use compose_serve::{Device, Ended, ServeFault};
+use compose_hub::{ConnectionEnd, EndReport, Limits, serve_at_once};
+use compose_serve::{Device, ServeFault, StreamEnd};
 use compose_service::Service;
 use compose_tree::PackedTable;
 use std::alloc::Global;
@@ -29,8 +29,8 @@ struct Ends {
     ends: Vec<Option<ConnectionEnd>>,
 }
 
-impl Report for Ends {
-    ghost told = { λ ends. None };
+impl EndReport for Ends {
+    ghost reported = { λ ends. None };
 
     /// Keeps the end. It is an error if the connection already has one.
     fn ended(&mut self, number: u32, how: ConnectionEnd) -> io::Result<()> {
@@ -52,7 +52,7 @@ impl Report for Ends {
 /// The number of clients, of those that were cut while they took replies, and of those that were
 /// idle.
 #[derive(Clone, Copy, Drop)]
-struct Counts {
+struct TestCounts {
     clients: u64,
     cut: u64,
     idle: u64,
@@ -65,7 +65,7 @@ pub fn run_all(rt: &HostRuntime, seed: &str, schedules: &str) -> Result<(), Fail
     let seed = read_number(seed)?;
     let schedules = read_number(schedules)?;
     let load = read_file(rt, "load")?;
-    let mut counts = Counts {
+    let mut counts = TestCounts {
         clients: 0,
         cut: 0,
         idle: 0,
@@ -73,11 +73,11 @@ pub fn run_all(rt: &HostRuntime, seed: &str, schedules: &str) -> Result<(), Fail
     for number in 0..schedules {
         let schedule = seed.wrapping_add(number);
         if !run_one(rt, &load, Chance::new(schedule), &mut counts)? {
-            return say(rt, format_args!("schedule {schedule} is wrong"));
+            return print_line(rt, format_args!("schedule {schedule} is wrong"));
         }
     }
-    let Counts { clients, cut, idle } = counts;
-    say(
+    let TestCounts { clients, cut, idle } = counts;
+    print_line(
         rt,
         format_args!("schedules {schedules}, clients {clients}, cut {cut}, idle {idle}"),
     )
@@ -96,7 +96,7 @@ fn run_one(
     rt: &HostRuntime,
     load: &[u8],
     chance: Chance,
-    counts: &mut Counts,
+    counts: &mut TestCounts,
 ) -> Result<bool, Failure> {
     let mut chance = chance;
     let clients = memory(clients_of(rt.alloc(), load, &mut chance))?;
@@ -154,7 +154,7 @@ fn longest_of(limits: Limits) -> usize {
 }
 
 /// Makes random clients; the first one loads.
-fn clients_of(alloc: Global, load: &[u8], chance: &mut Chance) -> io::Result<Vec<Client>> {
+fn clients_of(alloc: Global, load: &[u8], chance: &mut Chance) -> io::Result<Vec<TestClient>> {
     let mut clients = Vec::new(alloc);
     for index in 0..CLIENTS {
         let load: &[u8] = if index == 0 { load } else { &[] };
@@ -164,7 +164,12 @@ fn clients_of(alloc: Global, load: &[u8], chance: &mut Chance) -> io::Result<Vec
 }
 
 /// Makes a random client with this index, which may be cut anywhere.
-fn client_of(alloc: Global, index: u32, load: &[u8], chance: &mut Chance) -> io::Result<Client> {
+fn client_of(
+    alloc: Global,
+    index: u32,
+    load: &[u8],
+    chance: &mut Chance,
+) -> io::Result<TestClient> {
     let mut sends = requests_of(alloc, index, load, chance)?;
     let mut breaks = false;
     if chance.once_in(4) {
@@ -176,7 +181,7 @@ fn client_of(alloc: Global, index: u32, load: &[u8], chance: &mut Chance) -> io:
     } else {
         usize::MAX
     };
-    Ok(Client::new(alloc, sends, breaks, takes))
+    Ok(TestClient::new(alloc, sends, breaks, takes))
 }
 
 /// Makes random requests over the two sessions of a client, with bytes after some of them that are
@@ -233,10 +238,10 @@ fn put_request(sends: &mut Vec<u8>, session: u32, chance: &mut Chance) -> io::Re
 /// Whether each client got what a service of its own answers, one client after another.
 fn compare_all(
     rt: &HostRuntime,
-    clients: &[Client],
+    clients: &[TestClient],
     ends: &Ends,
     limits: Limits,
-    counts: &mut Counts,
+    counts: &mut TestCounts,
 ) -> Result<bool, Failure> {
     let mut service = start_service(rt)?;
     for (client, end) in clients.iter().zip(ends.ends.iter()) {
@@ -253,7 +258,7 @@ fn compare_all(
 }
 
 /// Counts a client by its end.
-fn count(counts: &mut Counts, end: ConnectionEnd) {
+fn count(counts: &mut TestCounts, end: ConnectionEnd) {
     counts.clients = counts.clients.saturating_add(1);
     match end {
         ConnectionEnd::Served(Err(ServeFault::Write)) => counts.cut = counts.cut.saturating_add(1),
@@ -267,7 +272,7 @@ fn serve_alone(
     rt: &HostRuntime,
     service: &mut Service<PackedTable>,
     bytes: &[u8],
-) -> Result<(Result<Ended, ServeFault>, Vec<u8>), Failure> {
+) -> Result<(Result<StreamEnd, ServeFault>, Vec<u8>), Failure> {
     let behaviour = Behaviour {
         most: usize::MAX,
         failing: 0,
@@ -285,10 +290,10 @@ fn serve_alone(
 /// Whether a client got all replies to the bytes of it that arrived, and its connection ended as
 /// their stream does; or only the first replies, if it took no more or was idle.
 fn is_right(
-    client: &Client,
+    client: &TestClient,
     end: ConnectionEnd,
     limits: Limits,
-    alone: Result<Ended, ServeFault>,
+    alone: Result<StreamEnd, ServeFault>,
     replies: &[u8],
 ) -> bool {
     let taken = client.taken.as_slice();
@@ -299,7 +304,7 @@ fn is_right(
         ConnectionEnd::Idle => limits.idle.is_some() && replies.starts_with(taken),
         ConnectionEnd::Served(Err(ServeFault::Read)) => client.breaks && taken == replies,
         ConnectionEnd::Served(ended) => {
-            let broken = client.breaks && ended != Ok(Ended::Malformed);
+            let broken = client.breaks && ended != Ok(StreamEnd::Malformed);
             !broken && ended == alone && taken == replies
         }
         ConnectionEnd::Stalled => false,

@@ -13,8 +13,8 @@ returns-in-None-clause-state g c =
     let leads : target_of table s.pending c.args.keysym ≡ None = search rules in
     c.break_off.ensures.state ∙ fed_apart table s c.args.keysym (sym c.is_ignored-ignored.ensures ∙ c.if-ignored.false) leads
 
-pub returns-in-None-clause-told : goal.returns-in-None-clause-told
-returns-in-None-clause-told g c =
+pub returns-in-None-clause-reported : goal.returns-in-None-clause-reported
+returns-in-None-clause-reported g c =
     let table = g.T.ComposeTable.definitions c.args.table.now in
     let s : Session = session_of c.args.state.now in
     let leads : target_of table s.pending c.args.keysym ≡ None = search rules in

@@ -16,8 +16,8 @@ returns-in-Node-clause-state g c =
     let leads : target_of table s.pending c.args.keysym ≡ t = search rules in
     c.extend.ensures ∙ session_after table s c.args.keysym t c.requires.accepted leads _ _ refl refl
 
-pub returns-in-Node-clause-told : goal.returns-in-Node-clause-told
-returns-in-Node-clause-told g c =
+pub returns-in-Node-clause-reported : goal.returns-in-Node-clause-reported
+returns-in-Node-clause-reported g c =
     let table = g.T.ComposeTable.definitions c.args.table.now in
     let s : Session = session_of c.args.state.now in
     let t : Option Target = Some (Node c.in-Node.field-0) in
@@ -33,8 +33,8 @@ returns-in-Leaf-clause-state g c =
     let leads : target_of table s.pending c.args.keysym ≡ t = search rules in
     c.finish.ensures ∙ session_after table s c.args.keysym t c.requires.accepted leads _ _ refl refl
 
-pub returns-in-Leaf-clause-told : goal.returns-in-Leaf-clause-told
-returns-in-Leaf-clause-told g c =
+pub returns-in-Leaf-clause-reported : goal.returns-in-Leaf-clause-reported
+returns-in-Leaf-clause-reported g c =
     let table = g.T.ComposeTable.definitions c.args.table.now in
     let s : Session = session_of c.args.state.now in
     let t : Option Target = Some (Leaf c.in-Leaf.leaf) in

@@ -1,6 +1,6 @@
 use Rattle.std.proofs.Common.{rules, ◌≡◌, ◌⊎◌, refl, subst, inr, string_bytes}
 use Rattle.std.specs.Prelude.{Err}
-use Rattle.compose_find.specs.FindGives.{words}
+use Rattle.compose_find.specs.FindReturns.{words}
 use Rattle.compose_find.specs.Found.{found, wanted, missing_root, missing_file, refused}
 use Rattle.compose_c.specs.Faults.{of_part}
 use Rattle.compose_c.specs.Finds as finds

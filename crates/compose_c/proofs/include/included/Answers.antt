@@ -7,12 +7,12 @@ use Rattle.compose_c.proofs.include.included.Goals as goal
 
 pub returns-in-Ok-Blank : goal.returns-in-Ok-Blank
 returns-in-Ok-Blank c =
-    let P : Line → Type 0 = λ said. IsLine c.args.text.now (reading said) in
+    let P : Line → Type 0 = λ reason. IsLine c.args.text.now (reading reason) in
     none_blank c.args.text.now (subst P c.in-Ok-Blank.field-0-is c.in-Ok-Blank.ensures.found)
 
 pub returns-in-Ok-Production : goal.returns-in-Ok-Production
 returns-in-Ok-Production c =
-    let P : Line → Type 0 = λ said. IsLine c.args.text.now (reading said) in
+    let P : Line → Type 0 = λ reason. IsLine c.args.text.now (reading reason) in
     none_production c.args.text.now _ _ _ (subst P c.in-Ok-Production.field-0-is c.in-Ok-Production.ensures.found)
 
 pub returns-in-Err : goal.returns-in-Err

@@ -1,7 +1,7 @@
 use Rattle.std.proofs.Common.{◌≡◌, Ok, rules}
 use Rattle.keysym_core.specs.Header.{names_of}
 use Rattle.compose_bundle.specs.Bundle.{Bundle, IsBundle}
-use Rattle.compose_tree.specs.TableGives.{first_table}
+use Rattle.compose_tree.specs.TableReturns.{first_table}
 use Rattle.compose_c.specs.Compiled.{rule_of}
 use Rattle.compose_c.proofs.Loads.{missed}
 use Rattle.compose_c.proofs.load.read.Goals as goal

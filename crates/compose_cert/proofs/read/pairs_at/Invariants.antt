@@ -1,7 +1,7 @@
 use Rattle.std.proofs.Common.{◌≡◌, ◌+◌, ◌-◌}
 use Rattle.compose_text.specs.Lines.{divide}
 use Rattle.compose_cert.specs.Reading.{times, line_at, pair_of}
-use Rattle.compose_cert.specs.Says.{behind}
+use Rattle.compose_cert.specs.StepReturns.{behind}
 use Rattle.compose_cert.proofs.read.pairs_at.Given as goal
 
 -- the pairs so far, and the remaining ones after them, are all of them

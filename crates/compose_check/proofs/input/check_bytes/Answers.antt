@@ -1,7 +1,7 @@
 use Rattle.std.proofs.Common.{◌≡◌, rules}
-use Rattle.compose_migration.specs.MigrationGives.{parts}
+use Rattle.compose_migration.specs.MigrationReturns.{parts}
 use Rattle.compose_check.specs.Input.{parts_of, verdict_on}
-use Rattle.compose_check.specs.CheckGives.{input_of}
+use Rattle.compose_check.specs.CheckReturns.{input_of}
 use Rattle.compose_check.proofs.PartsRead.{migration_refused, fault_gives, verdict_gives, yes_promises}
 use Rattle.compose_check.proofs.input.check_bytes.Goals as goal
 
@@ -19,19 +19,19 @@ returns-clause-exact g c =
 pub returns-clause-valid : goal.returns-clause-valid
 returns-clause-valid g c =
     let m = parts g.T.ComposeTable.definitions c.in_ok-migration.migration in
-    λ p said yes. (yes_promises (input_of c.args.input.now) m c.in_ok-migration.ensures c.check_migration.result c.check_migration.ensures p said yes).valid
+    λ p expected yes. (yes_promises (input_of c.args.input.now) m c.in_ok-migration.ensures c.check_migration.result c.check_migration.ensures p expected yes).valid
 
 pub returns-clause-follows : goal.returns-clause-follows
 returns-clause-follows g c =
     let m = parts g.T.ComposeTable.definitions c.in_ok-migration.migration in
-    λ p said yes. (yes_promises (input_of c.args.input.now) m c.in_ok-migration.ensures c.check_migration.result c.check_migration.ensures p said yes).follows
+    λ p expected yes. (yes_promises (input_of c.args.input.now) m c.in_ok-migration.ensures c.check_migration.result c.check_migration.ensures p expected yes).follows
 
 pub returns-clause-waits : goal.returns-clause-waits
 returns-clause-waits g c =
     let m = parts g.T.ComposeTable.definitions c.in_ok-migration.migration in
-    λ p said yes. (yes_promises (input_of c.args.input.now) m c.in_ok-migration.ensures c.check_migration.result c.check_migration.ensures p said yes).waits
+    λ p expected yes. (yes_promises (input_of c.args.input.now) m c.in_ok-migration.ensures c.check_migration.result c.check_migration.ensures p expected yes).waits
 
 pub returns-clause-types : goal.returns-clause-types
 returns-clause-types g c =
     let m = parts g.T.ComposeTable.definitions c.in_ok-migration.migration in
-    λ p said yes. (yes_promises (input_of c.args.input.now) m c.in_ok-migration.ensures c.check_migration.result c.check_migration.ensures p said yes).types
+    λ p expected yes. (yes_promises (input_of c.args.input.now) m c.in_ok-migration.ensures c.check_migration.result c.check_migration.ensures p expected yes).types

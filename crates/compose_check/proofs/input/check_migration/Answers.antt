@@ -1,7 +1,7 @@
 use Rattle.std.proofs.Common.{rules}
-use Rattle.compose_migration.specs.MigrationGives.{parts}
+use Rattle.compose_migration.specs.MigrationReturns.{parts}
 use Rattle.compose_check.specs.Input.{certified_parts}
-use Rattle.compose_check.specs.CheckGives.{IsVerdict}
+use Rattle.compose_check.specs.CheckReturns.{IsVerdict}
 use Rattle.compose_check.proofs.PartsRead.{repertoire_refused, certificate_refused, all_read, fault_gives}
 use Rattle.compose_check.proofs.input.check_migration.Goals as goal
 

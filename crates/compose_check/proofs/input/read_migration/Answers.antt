@@ -1,8 +1,8 @@
 use Rattle.std.proofs.Common.{subst}
 use Rattle.compose_migration.specs.Migration.{migration_of}
-use Rattle.compose_migration.specs.MigrationGives.{MigrationRefused}
+use Rattle.compose_migration.specs.MigrationReturns.{MigrationRefused}
 use Rattle.compose_migration.specs.declared.fault.MigrationFault.{MigrationFault}
-use Rattle.compose_check.specs.CheckGives.{input_of}
+use Rattle.compose_check.specs.CheckReturns.{input_of}
 use Rattle.compose_check.proofs.PartsRead.{no_key_name}
 use Rattle.compose_check.proofs.input.read_migration.Goals as goal
 

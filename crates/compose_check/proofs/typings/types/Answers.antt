@@ -15,7 +15,7 @@ returns-then-not-is_empty g c =
     let i = c.loop-keysym.keysym-index in
     sym (types_at names table u earlier i k c.in-Some.last.now c.args.character (omega arith) c.keysym-item.is
     ∙ and_left (is_empty (step names table u k).text) (types_from names table (pending_after table u k) (drop (i + 1) earlier ++ c.in-Some.last.now ∷ []) c.args.character)
-    (ap is_empty (sym c.feed.ensures.told.text) ∙ sym c.is_empty.ensures ∙ c.if-not-is_empty.true))
+    (ap is_empty (sym c.feed.ensures.reported.text) ∙ sym c.is_empty.ensures ∙ c.if-not-is_empty.true))
     ∙ c.loop-keysym.invariant
 
 pub loop-keysym-preserved : goal.loop-keysym-preserved
@@ -29,5 +29,5 @@ loop-keysym-preserved g c =
     ap (λ (s : Session). types_from names table s.pending (drop (i + 1) earlier ++ c.in-Some.last.now ∷ []) c.args.character) c.feed.ensures.state
     ∙ sym (types_at names table u earlier i k c.in-Some.last.now c.args.character (omega arith) c.keysym-item.is
     ∙ ap (λ b. b && types_from names table (pending_after table u k) (drop (i + 1) earlier ++ c.in-Some.last.now ∷ []) c.args.character)
-    (ap is_empty (sym c.feed.ensures.told.text) ∙ sym c.is_empty.ensures ∙ c.if-not-is_empty.false))
+    (ap is_empty (sym c.feed.ensures.reported.text) ∙ sym c.is_empty.ensures ∙ c.if-not-is_empty.false))
     ∙ c.loop-keysym.invariant

@@ -6,12 +6,12 @@ use Rattle.compose_compare.specs.declared.Change.{Change}
 use Rattle.compose_compare.specs.declared.Change.TheVariants.{Removed}
 use Rattle.compose_compare.specs.Change.{change, old_changes}
 use Rattle.compose_compare.specs.Passes.{IsWritten}
-use Rattle.compose_compare.proofs.Placed.{root_stands, root_same}
+use Rattle.compose_compare.proofs.Placed.{root_position, root_same}
 use Rattle.compose_compare.proofs.Written.{whole_table}
 use Rattle.compose_compare.proofs.comparison.all_old.Goals as goal
 
 pub visit_old-requires-clause-stand : goal.visit_old-requires-clause-stand
-visit_old-requires-clause-stand g c = root_stands c.args.names.now (g.T.ComposeTable.definitions c.args.old.now) (g.U.ComposeTable.definitions c.args.new.now)
+visit_old-requires-clause-stand g c = root_position c.args.names.now (g.T.ComposeTable.definitions c.args.old.now) (g.U.ComposeTable.definitions c.args.new.now)
 
 pub visit_old-requires-clause-same : goal.visit_old-requires-clause-same
 visit_old-requires-clause-same g c = root_same (g.U.ComposeTable.definitions c.args.new.now) (g.T.ComposeTable.definitions c.args.old.now)

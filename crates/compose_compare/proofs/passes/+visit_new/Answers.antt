@@ -11,14 +11,14 @@ use Rattle.compose_compare.specs.declared.Change.{Change}
 use Rattle.compose_compare.specs.Change.{change, is_new_start}
 use Rattle.compose_compare.specs.Passes.{node_of, node_in, begins_anew, new_change, IsWritten}
 use Rattle.compose_compare.proofs.Children.{to_node, to_leaf, child_path, deeper}
-use Rattle.compose_compare.proofs.Placed.{some_below, node_on, new_told, anew_on, starts_on}
+use Rattle.compose_compare.proofs.Placed.{some_below, node_on, new_reported, anew_on, starts_on}
 use Rattle.compose_compare.proofs.Written.{is_through, node_written, leaf_written, all_written}
 use Rattle.compose_compare.proofs.passes.+visit_new.Goals.{in-Node, in-Leaf}
 use Rattle.compose_compare.proofs.passes.+visit_new.Goals as goal
 
 -- the change of a sequence of the new table
-abbrev told : KeysymNames → List ℕ → List Definition → List Definition → List ℕ → Option Change
-told names fresh old new s = cond (is_sequence old s) None (Some (change names fresh old new s))
+abbrev reported : KeysymNames → List ℕ → List Definition → List Definition → List ℕ → Option Change
+reported names fresh old new s = cond (is_sequence old s) None (Some (change names fresh old new s))
 
 pub target_from-there-requires : goal.target_from-there-requires
 target_from-there-requires g t c = some_below (g.T.ComposeTable.definitions c.args.old.now) (node (g.U.ComposeTable.definitions c.args.new.now) c.args.node.0) c.args.same c.requires.same
@@ -86,10 +86,10 @@ loop-index-preserved g t c = elim c.match-target.branch [
       record {
         fits = ap length w.changes-is ∙ w.visit_new.ensures.fits;
         written =
-            subst (λ (xs : List (Option Change)). IsWritten None (told names fresh old new) new (is_through p (take (c.loop-index.index + 1) (edges new p))) c.args.changes.now xs) (sym w.changes-is)
-            (node_written None (told names fresh old new) new c.requires.new_settled p
+            subst (λ (xs : List (Option Change)). IsWritten None (reported names fresh old new) new (is_through p (take (c.loop-index.index + 1) (edges new p))) c.args.changes.now xs) (sym w.changes-is)
+            (node_written None (reported names fresh old new) new c.requires.new_settled p
             (edges new p) c.loop-index.index k c.args.changes.now c.loop-index.changes w.visit_new.new.changes c.edge-keysym.ensures.keysym c.loop-index.invariant.written to.extended
-            (subst (λ (q : List ℕ). IsWritten None (told names fresh old new) new (is_proper_prefix q) c.loop-index.changes w.visit_new.new.changes)
+            (subst (λ (q : List ℕ). IsWritten None (reported names fresh old new) new (is_proper_prefix q) c.loop-index.changes w.visit_new.new.changes)
             (sym (child_path new p k w.in-Node.child to)) w.visit_new.ensures.written));
       })
   | in-Leaf w ↦ (
@@ -108,13 +108,13 @@ loop-index-preserved g t c = elim c.match-target.branch [
       let starts : w.is_start-starts.result ≡ is_new_start names fresh old new (p ++ k ∷ []) =
       w.is_start-starts.ensures ∙ ap (λ b. b && not (c.args.node.0 == 0 && same (model.text names k) text)) begins
       ∙ starts_on names fresh old new c.args.node.0 k text c.requires.in_range to.sequence texted in
-      let value : w.new_change.result ≡ told names fresh old new (p ++ k ∷ []) =
+      let value : w.new_change.result ≡ reported names fresh old new (p ++ k ∷ []) =
       w.new_change.ensures ∙ ap (λ o. new_change o w.is_start-starts.result) (c.target_from-there.ensures p c.requires.same)
-      ∙ new_told names fresh old new p k c.requires.old_settled w.is_start-starts.result starts in
+      ∙ new_reported names fresh old new p k c.requires.old_settled w.is_start-starts.result starts in
       record {
         fits = ap length w.changes-is ∙ length-set c.loop-index.changes w.in-Leaf.leaf.0 w.new_change.result ∙ c.loop-index.invariant.fits;
         written =
-            leaf_written None (told names fresh old new) new c.requires.new_settled p
+            leaf_written None (reported names fresh old new) new c.requires.new_settled p
             (edges new p) c.loop-index.index k c.args.changes.now c.loop-index.changes c.match-target.changes c.edge-keysym.ensures.keysym c.loop-index.invariant.written to.sequence
             (let n = leaf_below new (p ++ k ∷ []) to.sequence in let fits = c.loop-index.invariant.fits in omega arith)
             (w.changes-is ∙ ap (λ n. set c.loop-index.changes n w.new_change.result) (sym to.number) ∙ ap (set c.loop-index.changes (leaf_number new (p ++ k ∷ []))) value);
@@ -125,5 +125,5 @@ pub returns-clause-written : goal.returns-clause-written
 returns-clause-written g t c =
     let old = g.T.ComposeTable.definitions c.args.old.now in
     let new = g.U.ComposeTable.definitions c.args.new.now in
-    all_written None (told c.args.names.now c.args.fresh.now old new) new c.requires.new_settled (node new c.args.node.0) c.loop-index.index c.args.changes.now c.loop-index.changes
+    all_written None (reported c.args.names.now c.args.fresh.now old new) new c.requires.new_settled (node new c.args.node.0) c.loop-index.index c.args.changes.now c.loop-index.changes
     (let e = c.edge_count-index-end.ensures in omega arith) c.loop-index.invariant.written

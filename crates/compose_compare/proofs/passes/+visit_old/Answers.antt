@@ -8,9 +8,9 @@ use Rattle.compose_tree.proofs.Steps.{leaf_below}
 use Rattle.compose_compare.specs.declared.Change.{Change}
 use Rattle.compose_compare.specs.declared.Change.TheVariants.{Removed}
 use Rattle.compose_compare.specs.Change.{change}
-use Rattle.compose_compare.specs.Passes.{node_of, node_in, stand_of, old_change, IsWritten}
+use Rattle.compose_compare.specs.Passes.{node_of, node_in, position_node, old_change, IsWritten}
 use Rattle.compose_compare.proofs.Children.{to_node, to_leaf, child_path, deeper}
-use Rattle.compose_compare.proofs.Placed.{some_below, node_on, old_told}
+use Rattle.compose_compare.proofs.Placed.{some_below, node_on, old_reported}
 use Rattle.compose_compare.proofs.Written.{is_through, node_written, leaf_written, all_written}
 use Rattle.compose_compare.proofs.passes.+visit_old.Goals.{in-Node, in-Leaf}
 use Rattle.compose_compare.proofs.passes.+visit_old.Goals as goal
@@ -39,7 +39,7 @@ visit_old-requires g t c κs within =
               (
                 to.in_range,
                 (
-                  c.stand_after-after.ensures ∙ ap (stand_of names old new) path,
+                  c.node_after-after.ensures ∙ ap (position_node names old new) path,
                   (
                     c.node_at.ensures ∙ ap node_in (c.target_from-there.ensures p c.requires.same) ∙ node_on new p k ∙ ap (node_of new) path,
                     c.loop-index.invariant.fits,
@@ -87,7 +87,7 @@ loop-index-preserved g t c = elim c.match-target.branch [
       let to = to_leaf old p k c.edge-keysym.result.1 w.in-Leaf.leaf c.edge-keysym.ensures.target w.in-Leaf.is in
       let value : (fresh : List ℕ) → w.old_change.result ≡ change names fresh old new (p ++ k ∷ []) = (λ fresh.
       w.old_change.ensures ∙ ap (old_change w.is_some.result) (c.target_from-there.ensures p c.requires.same)
-      ∙ old_told names fresh old new p k c.requires.new_settled to.sequence w.is_some.result (w.is_some.ensures ∙ ap is_some c.stand_after-after.ensures)) in
+      ∙ old_reported names fresh old new p k c.requires.new_settled to.sequence w.is_some.result (w.is_some.ensures ∙ ap is_some c.node_after-after.ensures)) in
       record {
         fits = ap length w.changes-is ∙ length-set c.loop-index.changes w.in-Leaf.leaf.0 w.old_change.result ∙ c.loop-index.invariant.fits;
         written =

@@ -11,9 +11,9 @@ returns-in-None c =
     ∙ sym
     (ap (option_map (λ (x : Line). x.number))
     (find_here (is_stale (map (λ text. string_bytes text) c.args.texts.now)) c.args.lines.now c.loop-line.line-index c.line-item.result c.loop-line-test.true c.line-item.is
-    (sym c.in-None.ensures.told) c.loop-line.invariant))
+    (sym c.in-None.ensures.reported) c.loop-line.invariant))
 
 pub loop-line-preserved : goal.loop-line-preserved
 loop-line-preserved c =
     find_later (is_stale (map (λ text. string_bytes text) c.args.texts.now)) c.args.lines.now c.loop-line.line-index c.line-item.result c.loop-line-test.true c.line-item.is
-    (sym c.in-Some.ensures.told) c.loop-line.invariant
+    (sym c.in-Some.ensures.reported) c.loop-line.invariant

@@ -5,7 +5,7 @@ use Rattle.compose_tree.specs.declared.table.NodeId.{NodeId}
 use Rattle.compose_tree.specs.declared.table.Target.{Target}
 use Rattle.compose_tree.proofs.Steps.{Leads, leads}
 use Rattle.compose_compare.proofs.Children.{to_node, to_leaf, child_path}
-use Rattle.compose_diff_rows.proofs.LongerNow.{Led, nowhere, onward}
+use Rattle.compose_diff_rows.proofs.LongerNow.{KeysLead, nowhere, onward}
 use Rattle.compose_diff_rows.proofs.longer.+node_named.Goals as goal
 
 pub returns-in_err-node : goal.returns-in_err-node
@@ -18,8 +18,8 @@ returns-in_err-node g t c =
     let rest = map (λ x. x.now) c.in-Some.rest.now in
     let whole : map (λ x. x.now) c.args.keys.now ≡ key ∷ rest = ap (map (λ x. x.now)) c.in-Some.ensures.cases.0 in
     let behind = subst (λ (o : Option Target). Leads table p k o) (sym c.in_err-node.ensures) (leads table p k) in
-    subst (λ (keys : List (List ℕ)). Led names table p keys c.from_residual-in_err-node.result) (sym whole)
-    (subst (λ (o : Option NodeId). Led names table p (key ∷ rest) o) (sym c.from_residual-in_err-node.ensures) (nowhere names table p key rest k c.in_ok-lookup.ensures behind.extended))
+    subst (λ (keys : List (List ℕ)). KeysLead names table p keys c.from_residual-in_err-node.result) (sym whole)
+    (subst (λ (o : Option NodeId). KeysLead names table p (key ∷ rest) o) (sym c.from_residual-in_err-node.ensures) (nowhere names table p key rest k c.in_ok-lookup.ensures behind.extended))
 
 pub node_named-requires : goal.node_named-requires
 node_named-requires g t c κs within =
@@ -37,7 +37,7 @@ returns-in-Node g t c =
     let rest = map (λ x. x.now) c.in-Some.rest.now in
     let whole : map (λ x. x.now) c.args.keys.now ≡ key ∷ rest = ap (map (λ x. x.now)) c.in-Some.ensures.cases.0 in
     let to = to_node table p k c.in_ok-node.field-0 c.in-Node.node (sym c.in_ok-node.ensures) c.in-Node.is in
-    subst (λ (keys : List (List ℕ)). Led names table p keys c.node_named.result) (sym whole)
+    subst (λ (keys : List (List ℕ)). KeysLead names table p keys c.node_named.result) (sym whole)
     (onward names table p key rest k c.in_ok-lookup.ensures (node table c.in-Node.node.0) (child_path table p k c.in-Node.node to) c.node_named.result c.node_named.ensures)
 
 pub returns-in-Leaf : goal.returns-in-Leaf
@@ -50,4 +50,4 @@ returns-in-Leaf g t c =
     let rest = map (λ x. x.now) c.in-Some.rest.now in
     let whole : map (λ x. x.now) c.args.keys.now ≡ key ∷ rest = ap (map (λ x. x.now)) c.in-Some.ensures.cases.0 in
     let to = to_leaf table p k c.in_ok-node.field-0 c.in-Leaf.field-0 (sym c.in_ok-node.ensures) c.in-Leaf.is in
-    subst (λ (keys : List (List ℕ)). Led names table p keys None) (sym whole) (nowhere names table p key rest k c.in_ok-lookup.ensures to.extended)
+    subst (λ (keys : List (List ℕ)). KeysLead names table p keys None) (sym whole) (nowhere names table p key rest k c.in_ok-lookup.ensures to.extended)

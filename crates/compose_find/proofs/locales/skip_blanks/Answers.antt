@@ -2,7 +2,7 @@ use Rattle.std.proofs.Common.{◌∙◌, sym, ap, arith, drop}
 use Rattle.std.proofs.lemmas.List.{take_rest}
 use Rattle.std.proofs.lemmas.List.Sums.{prefix_len-le-length}
 use Rattle.compose_text.specs.Bytes.{is_blank}
-use Rattle.compose_lex.proofs.Scans.{behind_left}
+use Rattle.compose_lex.proofs.Scans.{after_left}
 use Rattle.compose_find.proofs.locales.skip_blanks.Goals as goal
 
 pub slice_bounds-result-count : goal.slice_bounds-result-count
@@ -12,4 +12,4 @@ pub slice_bounds-result-start : goal.slice_bounds-result-start
 slice_bounds-result-start c = let bound = prefix_len-le-length is_blank c.args.bytes.now in omega (arith, bound, c.blank_len.ensures)
 
 pub returns : goal.returns
-returns c = take_rest c.args.bytes.now c.blank_len.result ∙ ap (λ n. drop n c.args.bytes.now) c.blank_len.ensures ∙ sym (behind_left is_blank c.args.bytes.now)
+returns c = take_rest c.args.bytes.now c.blank_len.result ∙ ap (λ n. drop n c.args.bytes.now) c.blank_len.ensures ∙ sym (after_left is_blank c.args.bytes.now)

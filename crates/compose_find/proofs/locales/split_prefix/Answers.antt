@@ -1,7 +1,7 @@
 use Rattle.std.proofs.Common.{◌∙◌, sym, ap, arith, drop, take}
 use Rattle.std.proofs.lemmas.List.{take_rest}
 use Rattle.std.proofs.lemmas.List.Sums.{prefix_len-le-length}
-use Rattle.compose_lex.proofs.Scans.{prefix_taken, behind_left}
+use Rattle.compose_lex.proofs.Scans.{prefix_taken, after_left}
 use Rattle.compose_find.proofs.locales.split_prefix.Goals as goal
 
 pub slice_bounds-result-count : goal.slice_bounds-result-count
@@ -15,4 +15,4 @@ returns-clause-leading o c = ap (λ n. take n c.args.bytes.now) c.leading_len-le
 
 pub returns-clause-rest : goal.returns-clause-rest
 returns-clause-rest o c =
-    take_rest c.args.bytes.now c.leading_len-len.result ∙ ap (λ n. drop n c.args.bytes.now) c.leading_len-len.ensures ∙ sym (behind_left o.C.ByteClass.has c.args.bytes.now)
+    take_rest c.args.bytes.now c.leading_len-len.result ∙ ap (λ n. drop n c.args.bytes.now) c.leading_len-len.ensures ∙ sym (after_left o.C.ByteClass.has c.args.bytes.now)

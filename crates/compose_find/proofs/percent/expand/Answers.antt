@@ -1,5 +1,5 @@
 use Rattle.std.proofs.Common.{◌∙◌, ap, rules}
-use Rattle.compose_find.specs.FindGives.{words, onto}
+use Rattle.compose_find.specs.FindReturns.{words, onto}
 use Rattle.compose_find.specs.Expand.{path_of}
 use Rattle.compose_find.proofs.Percents.{onto-none, piece_more}
 use Rattle.compose_find.proofs.percent.expand.Goals as goal

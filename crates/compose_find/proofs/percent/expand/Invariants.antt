@@ -2,7 +2,7 @@ use Rattle.std.proofs.Common.{◌≡◌, length, string_bytes}
 use denote.Text.{Utf8}
 use denote.Shadow.{shadow}
 use Rattle.compose_find.specs.Expand.{path_of}
-use Rattle.compose_find.specs.FindGives.{words, onto}
+use Rattle.compose_find.specs.FindReturns.{words, onto}
 use Rattle.compose_find.proofs.percent.expand.Given as goal
 
 -- the path so far, and what the rest expands to

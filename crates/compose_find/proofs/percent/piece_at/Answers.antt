@@ -1,7 +1,7 @@
 use Rattle.std.proofs.Common.{◌≡◌, ◌∙◌, sym, ap, arith, Some, None}
 use Rattle.std.specs.Prelude.{slice_get, option_copied}
 use Rattle.compose_lex.proofs.Firsts.{cut_first}
-use Rattle.compose_find.specs.FindGives.{words}
+use Rattle.compose_find.specs.FindReturns.{words}
 use Rattle.compose_find.proofs.Percents.{percent_piece, plain_piece}
 use Rattle.compose_find.proofs.percent.piece_at.Goals.{in_default-via-in-Some+in_default, in_default-via-in_default}
 use Rattle.compose_find.proofs.percent.piece_at.Goals as goal

@@ -1,7 +1,7 @@
 use Rattle.std.proofs.Common.{◌≡◌, ◌-◌, take, drop, sym, ap, ◌∙◌, subst, arith}
 use Rattle.std.specs.List.{prefix_len}
 use Rattle.std.specs.Str.{IsCharBoundary}
-use Rattle.compose_lex.proofs.Scans.{prefix_taken, behind_left}
+use Rattle.compose_lex.proofs.Scans.{prefix_taken, after_left}
 use Rattle.compose_find.specs.Expand.{is_plain}
 use Rattle.compose_find.proofs.Percents.{cut_at_percent}
 use Rattle.compose_find.proofs.percent.split_plain.Goals as goal
@@ -29,4 +29,4 @@ pub returns-clause-rest : goal.returns-clause-rest
 returns-clause-rest c =
     let text = c.args.text.now in
     let len = c.leading_len-len.ensures ∙ ap (prefix_len is_plain) c.as_bytes.ensures.value in
-    c.range_from.ensures.value ∙ ap (λ n. drop n text) len ∙ sym (behind_left is_plain text)
+    c.range_from.ensures.value ∙ ap (λ n. drop n text) len ∙ sym (after_left is_plain text)

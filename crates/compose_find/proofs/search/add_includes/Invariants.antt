@@ -1,6 +1,6 @@
 use Rattle.std.proofs.Common.{◌≡◌, ◌≤◌, length, drop}
 use Rattle.compose_find.specs.Found as found
-use Rattle.compose_find.specs.FindGives.{words}
+use Rattle.compose_find.specs.FindReturns.{words}
 use Rattle.compose_find.proofs.search.add_includes.Given as goal
 
 -- the remaining includes lead from the sources so far to the same result as all of them

@@ -1,8 +1,8 @@
 use Rattle.std.proofs.Common.{[], ◌≡◌, ◌∙◌, ◌+◌, ◌-◌, ◌<◌, suc, sym, ap, arith, rules, length, get_or, Some, Vec, Global}
 use Rattle.std.specs.Prelude.{Err, slice_get}
 use Rattle.std.proofs.lemmas.Option.{slice_get-get_or}
-use Rattle.compose_find.specs.Found.{FoundSource, found_on, with_includes_of}
-use Rattle.compose_find.specs.FindGives.{words}
+use Rattle.compose_find.specs.Found.{FoundSource, search_from, with_includes_of}
+use Rattle.compose_find.specs.FindReturns.{words}
 use Rattle.compose_find.proofs.Searches.{search_ends, search_goes, search_stops, passed}
 use Rattle.compose_find.proofs.search.find_sources.Goals as goal
 
@@ -18,7 +18,7 @@ returns-in_err-add_includes_of c =
     let left : 64 - index ≡ suc (63 - index) = omega (arith, c.loop-index.invariant.1) in
     let is : c.from_residual-in_err-add_includes_of.result ≡ Err c.in_err-add_includes_of.field-0.0 = search rules in
     passed {X = Unit {0}} (λ _. c.add_includes_of.new.sources.items) (λ (m : Vec _ Global). m.items) c.in_err-add_includes_of.field-0.0 _ (with_includes_of files words from sources) _ is
-    (λ stop stopped. sym c.loop-index.invariant.0 ∙ ap (λ n. found_on files words n index sources) left ∙ search_stops files words (63 - index) index sources from stop at stopped)
+    (λ stop stopped. sym c.loop-index.invariant.0 ∙ ap (λ n. search_from files words n index sources) left ∙ search_stops files words (63 - index) index sources from stop at stopped)
     (c.in_err-add_includes_of.ensures.adds from at)
 
 pub loop-index-preserved : goal.loop-index-preserved
@@ -30,9 +30,9 @@ loop-index-preserved c =
     let left : 64 - index ≡ suc (63 - index) = omega (arith, c.loop-index.invariant.1) in
     let next : 64 - (index + 1) ≡ 63 - index = omega arith in
     let one : index + 1 ≡ 1 + index = omega arith in (
-      ap (λ n. found_on files words n (index + 1) c.add_includes_of.new.sources.items) next ∙ ap (λ p. found_on files words (63 - index) p c.add_includes_of.new.sources.items) one
+      ap (λ n. search_from files words n (index + 1) c.add_includes_of.new.sources.items) next ∙ ap (λ p. search_from files words (63 - index) p c.add_includes_of.new.sources.items) one
           ∙ sym (search_goes files words (63 - index) index sources from c.add_includes_of.new.sources.items at (c.in_ok-add_includes_of.ensures.adds from at))
-          ∙ ap (λ n. found_on files words n index sources) (sym left) ∙ c.loop-index.invariant.0,
+          ∙ ap (λ n. search_from files words n index sources) (sym left) ∙ c.loop-index.invariant.0,
       c.in_ok-add_includes_of.ensures.few,
     )
 

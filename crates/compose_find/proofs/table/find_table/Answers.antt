@@ -3,7 +3,7 @@ use Rattle.std.specs.Prelude.{Ok, slice_get}
 use Rattle.std.proofs.lemmas.Option.{slice_get-get_or}
 use Rattle.compose_read.specs.Sources.{add_fault}
 use Rattle.compose_find.specs.Found.{found}
-use Rattle.compose_find.specs.FindGives.{words}
+use Rattle.compose_find.specs.FindReturns.{words}
 use Rattle.compose_find.proofs.Followed.{finds_sources}
 use Rattle.compose_find.proofs.Held.{finds_bytes, no_fault}
 use Rattle.compose_find.proofs.table.find_table.Goals as goal

@@ -4,71 +4,71 @@ use Rattle.compose_hub.specs.Serving.{World, world, at_now, ServedSoFar, AllAreS
 use Rattle.compose_machine.specs.Machine.{Reading}
 use Rattle.compose_many.specs.declared.owners.Owner.{Owner}
 use Rattle.compose_many.specs.Numbered.{StreamState}
-use Rattle.compose_hub.specs.Ends.{ToldEnd}
+use Rattle.compose_hub.specs.Ends.{ReportedEnd}
 use Rattle.compose_hub.specs.declared.client.Limits.{Limits}
 use Rattle.compose_hub.specs.declared.client.Client.{Client}
-use Rattle.compose_hub.proofs.Serving.{nothing_happened, none_served, serves_stay, still_so_far, stays, all_told}
+use Rattle.compose_hub.proofs.Serving.{nothing_happened, none_served, serves_stay, still_so_far, stays, all_reported}
 use Rattle.compose_hub.specs.Rounds.{AreWithinRooms}
 use Rattle.compose_hub.proofs.Rooms.{no_rooms}
 use Rattle.compose_hub.proofs.server.serve_at_once.Goals as goal
 
 -- catching up reports no new end
-caught_up : (limits : Limits) (reading : Reading) (first : World) (state : OwnedService) (streams : ℕ → StreamState) (told told' : Option (List ToldEnd)) (accepted : ℕ) (slots : List (Option Client)) → told' ≡ told
-    → ServedSoFar limits reading first (at_now state streams told) accepted slots → ServedSoFar limits reading first (at_now state streams told') accepted slots
-caught_up limits reading first state streams told told' accepted slots same s = subst (λ (t : Option (List ToldEnd)). ServedSoFar limits reading first (at_now state streams t) accepted slots) (sym same) s
+caught_up : (limits : Limits) (reading : Reading) (first : World) (state : OwnedService) (streams : ℕ → StreamState) (reported reported' : Option (List ReportedEnd)) (accepted : ℕ) (slots : List (Option Client)) → reported' ≡ reported
+    → ServedSoFar limits reading first (at_now state streams reported) accepted slots → ServedSoFar limits reading first (at_now state streams reported') accepted slots
+caught_up limits reading first state streams reported reported' accepted slots same s = subst (λ (t : Option (List ReportedEnd)). ServedSoFar limits reading first (at_now state streams t) accepted slots) (sym same) s
 
 pub returns-in_err-server-clause-serves : goal.returns-in_err-server-clause-serves
 returns-in_err-server-clause-serves g c =
-    nothing_happened c.args.limits g.A.Answer.reading (g.A.Answer.state c.args.service.now) (g.N.Streams.stream c.args.sockets.now) (g.E.Report.told c.args.report.now)
+    nothing_happened c.args.limits g.A.Responder.reading (g.A.Responder.state c.args.service.now) (g.N.Streams.stream c.args.sockets.now) (g.E.EndReport.reported c.args.report.now)
 
 pub rounds-init : goal.rounds-init
 rounds-init g c = record {
   served =
-      none_served c.args.limits g.A.Answer.reading (g.A.Answer.state c.args.service.now) c.in_ok-server.server.owners.items (g.N.Streams.stream c.args.sockets.now) (g.E.Report.told c.args.report.now) c.in_ok-server.server.accepted
+      none_served c.args.limits g.A.Responder.reading (g.A.Responder.state c.args.service.now) c.in_ok-server.server.owners.items (g.N.Streams.stream c.args.sockets.now) (g.E.EndReport.reported c.args.report.now) c.in_ok-server.server.accepted
       c.in_ok-server.server.slots.items c.in_ok-server.ensures.1 c.in_ok-server.ensures.2 c.in_ok-server.ensures.3;
   rooms = no_rooms c.in_ok-server.server.slots.items c.in_ok-server.ensures.1;
 }
 
 pub returns-then-is_done-clause-serves : goal.returns-then-is_done-clause-serves
 returns-then-is_done-clause-serves g c =
-    let first = world (g.A.Answer.state c.args.service.now) (g.N.Streams.stream c.args.sockets.now) (g.E.Report.told c.args.report.now) in
-    let state = owned (g.A.Answer.state c.rounds.service) c.rounds.server.owners.items in
-    let told = g.E.Report.told c.catch_up-behind.new.self in
-    let accepted = c.accept_all.ensures.goes_on g.A.Answer.reading state told first (caught_up c.args.limits g.A.Answer.reading first state (g.N.Streams.stream c.rounds.sockets) (g.E.Report.told c.rounds.report) told c.rounds.server.accepted c.rounds.server.slots.items c.catch_up-behind.ensures c.rounds.invariant.served) in
+    let first = world (g.A.Responder.state c.args.service.now) (g.N.Streams.stream c.args.sockets.now) (g.E.EndReport.reported c.args.report.now) in
+    let state = owned (g.A.Responder.state c.rounds.service) c.rounds.server.owners.items in
+    let reported = g.E.EndReport.reported c.catch_up-behind.new.self in
+    let accepted = c.accept_all.ensures.goes_on g.A.Responder.reading state reported first (caught_up c.args.limits g.A.Responder.reading first state (g.N.Streams.stream c.rounds.sockets) (g.E.EndReport.reported c.rounds.report) reported c.rounds.server.accepted c.rounds.server.slots.items c.catch_up-behind.ensures c.rounds.invariant.served) in
     accepted.so_far
 
 pub returns-then-is_done-clause-all : goal.returns-then-is_done-clause-all
 returns-then-is_done-clause-all g c =
-    let first = world (g.A.Answer.state c.args.service.now) (g.N.Streams.stream c.args.sockets.now) (g.E.Report.told c.args.report.now) in
-    let state = owned (g.A.Answer.state c.rounds.service) c.rounds.server.owners.items in
-    let told = g.E.Report.told c.catch_up-behind.new.self in
-    let accepted = c.accept_all.ensures.goes_on g.A.Answer.reading state told first (caught_up c.args.limits g.A.Answer.reading first state (g.N.Streams.stream c.rounds.sockets) (g.E.Report.told c.rounds.report) told c.rounds.server.accepted c.rounds.server.slots.items c.catch_up-behind.ensures c.rounds.invariant.served) in (
+    let first = world (g.A.Responder.state c.args.service.now) (g.N.Streams.stream c.args.sockets.now) (g.E.EndReport.reported c.args.report.now) in
+    let state = owned (g.A.Responder.state c.rounds.service) c.rounds.server.owners.items in
+    let reported = g.E.EndReport.reported c.catch_up-behind.new.self in
+    let accepted = c.accept_all.ensures.goes_on g.A.Responder.reading state reported first (caught_up c.args.limits g.A.Responder.reading first state (g.N.Streams.stream c.rounds.sockets) (g.E.EndReport.reported c.rounds.report) reported c.rounds.server.accepted c.rounds.server.slots.items c.catch_up-behind.ensures c.rounds.invariant.served) in (
       accepted.so_far,
-      all_told c.args.limits g.A.Answer.reading first (at_now state (g.N.Streams.stream c.accept_all.new.sockets) told) c.accept_all.new.self.accepted c.accept_all.new.self.slots.items
+      all_reported c.args.limits g.A.Responder.reading first (at_now state (g.N.Streams.stream c.accept_all.new.sockets) reported) c.accept_all.new.self.accepted c.accept_all.new.self.slots.items
           (sym c.is_done.ensures ∙ c.if-is_done.true) accepted,
     )
 
 pub returns-in_err-poll-clause-serves : goal.returns-in_err-poll-clause-serves
 returns-in_err-poll-clause-serves g c =
-    let first = world (g.A.Answer.state c.args.service.now) (g.N.Streams.stream c.args.sockets.now) (g.E.Report.told c.args.report.now) in
-    let state = owned (g.A.Answer.state c.rounds.service) c.rounds.server.owners.items in
-    let told = g.E.Report.told c.catch_up-behind.new.self in
-    let accepted = c.accept_all.ensures.goes_on g.A.Answer.reading state told first (caught_up c.args.limits g.A.Answer.reading first state (g.N.Streams.stream c.rounds.sockets) (g.E.Report.told c.rounds.report) told c.rounds.server.accepted c.rounds.server.slots.items c.catch_up-behind.ensures c.rounds.invariant.served) in
-    serves_stay c.args.limits g.A.Answer.reading first state (g.N.Streams.stream c.accept_all.new.sockets) (g.N.Streams.stream c.poll.new.self) told
+    let first = world (g.A.Responder.state c.args.service.now) (g.N.Streams.stream c.args.sockets.now) (g.E.EndReport.reported c.args.report.now) in
+    let state = owned (g.A.Responder.state c.rounds.service) c.rounds.server.owners.items in
+    let reported = g.E.EndReport.reported c.catch_up-behind.new.self in
+    let accepted = c.accept_all.ensures.goes_on g.A.Responder.reading state reported first (caught_up c.args.limits g.A.Responder.reading first state (g.N.Streams.stream c.rounds.sockets) (g.E.EndReport.reported c.rounds.report) reported c.rounds.server.accepted c.rounds.server.slots.items c.catch_up-behind.ensures c.rounds.invariant.served) in
+    serves_stay c.args.limits g.A.Responder.reading first state (g.N.Streams.stream c.accept_all.new.sockets) (g.N.Streams.stream c.poll.new.self) reported
     (stays (g.N.Streams.stream c.accept_all.new.sockets) (g.N.Streams.stream c.poll.new.self) c.poll.ensures) accepted.so_far
 
 pub returns-in_err-take_turns-clause-serves : goal.returns-in_err-take_turns-clause-serves
 returns-in_err-take_turns-clause-serves g c =
-    let first = world (g.A.Answer.state c.args.service.now) (g.N.Streams.stream c.args.sockets.now) (g.E.Report.told c.args.report.now) in
-    let state = owned (g.A.Answer.state c.rounds.service) c.rounds.server.owners.items in
-    let told = g.E.Report.told c.catch_up-behind.new.self in
-    let accepted = c.accept_all.ensures.goes_on g.A.Answer.reading state told first (caught_up c.args.limits g.A.Answer.reading first state (g.N.Streams.stream c.rounds.sockets) (g.E.Report.told c.rounds.report) told c.rounds.server.accepted c.rounds.server.slots.items c.catch_up-behind.ensures c.rounds.invariant.served) in
+    let first = world (g.A.Responder.state c.args.service.now) (g.N.Streams.stream c.args.sockets.now) (g.E.EndReport.reported c.args.report.now) in
+    let state = owned (g.A.Responder.state c.rounds.service) c.rounds.server.owners.items in
+    let reported = g.E.EndReport.reported c.catch_up-behind.new.self in
+    let accepted = c.accept_all.ensures.goes_on g.A.Responder.reading state reported first (caught_up c.args.limits g.A.Responder.reading first state (g.N.Streams.stream c.rounds.sockets) (g.E.EndReport.reported c.rounds.report) reported c.rounds.server.accepted c.rounds.server.slots.items c.catch_up-behind.ensures c.rounds.invariant.served) in
     let owners : c.mark_ready.new.self.owners.items ≡ c.rounds.server.owners.items = c.mark_ready.ensures.owners ∙ ap (λ v. v.owners.items) c.count_time.ensures ∙ c.accept_all.ensures.owners in
     let waited =
     subst
-    (λ (o : List Owner). ServedSoFar c.args.limits g.A.Answer.reading first (at_now (owned (g.A.Answer.state c.rounds.service) o) (g.N.Streams.stream c.passed.new.self) told) c.mark_ready.new.self.accepted
+    (λ (o : List Owner). ServedSoFar c.args.limits g.A.Responder.reading first (at_now (owned (g.A.Responder.state c.rounds.service) o) (g.N.Streams.stream c.passed.new.self) reported) c.mark_ready.new.self.accepted
     c.mark_ready.new.self.slots.items) (sym owners)
-    (still_so_far c.args.limits g.A.Answer.reading first state (g.N.Streams.stream c.accept_all.new.sockets) (g.N.Streams.stream c.passed.new.self) told
+    (still_so_far c.args.limits g.A.Responder.reading first state (g.N.Streams.stream c.accept_all.new.sockets) (g.N.Streams.stream c.passed.new.self) reported
     (stays (g.N.Streams.stream c.accept_all.new.sockets) (g.N.Streams.stream c.passed.new.self) (λ n. c.passed.ensures n ∙ c.poll.ensures n)) c.accept_all.new.self.accepted c.mark_ready.new.self.accepted
     c.accept_all.new.self.slots.items c.mark_ready.new.self.slots.items (c.mark_ready.ensures.still.0 ∙ ap (λ v. v.accepted) c.count_time.ensures)
     (subst (λ (v : List (Option Client)). AllAreStill v c.mark_ready.new.self.slots.items) (ap (λ v. v.slots.items) c.count_time.ensures) c.mark_ready.ensures.still.1) accepted)
@@ -77,16 +77,16 @@ returns-in_err-take_turns-clause-serves g c =
 
 pub returns-in_err-give_up-clause-serves : goal.returns-in_err-give_up-clause-serves
 returns-in_err-give_up-clause-serves g c =
-    let first = world (g.A.Answer.state c.args.service.now) (g.N.Streams.stream c.args.sockets.now) (g.E.Report.told c.args.report.now) in
-    let state = owned (g.A.Answer.state c.rounds.service) c.rounds.server.owners.items in
-    let told = g.E.Report.told c.catch_up-behind.new.self in
-    let accepted = c.accept_all.ensures.goes_on g.A.Answer.reading state told first (caught_up c.args.limits g.A.Answer.reading first state (g.N.Streams.stream c.rounds.sockets) (g.E.Report.told c.rounds.report) told c.rounds.server.accepted c.rounds.server.slots.items c.catch_up-behind.ensures c.rounds.invariant.served) in
+    let first = world (g.A.Responder.state c.args.service.now) (g.N.Streams.stream c.args.sockets.now) (g.E.EndReport.reported c.args.report.now) in
+    let state = owned (g.A.Responder.state c.rounds.service) c.rounds.server.owners.items in
+    let reported = g.E.EndReport.reported c.catch_up-behind.new.self in
+    let accepted = c.accept_all.ensures.goes_on g.A.Responder.reading state reported first (caught_up c.args.limits g.A.Responder.reading first state (g.N.Streams.stream c.rounds.sockets) (g.E.EndReport.reported c.rounds.report) reported c.rounds.server.accepted c.rounds.server.slots.items c.catch_up-behind.ensures c.rounds.invariant.served) in
     let owners : c.mark_ready.new.self.owners.items ≡ c.rounds.server.owners.items = c.mark_ready.ensures.owners ∙ ap (λ v. v.owners.items) c.count_time.ensures ∙ c.accept_all.ensures.owners in
     let waited =
     subst
-    (λ (o : List Owner). ServedSoFar c.args.limits g.A.Answer.reading first (at_now (owned (g.A.Answer.state c.rounds.service) o) (g.N.Streams.stream c.passed.new.self) told) c.mark_ready.new.self.accepted
+    (λ (o : List Owner). ServedSoFar c.args.limits g.A.Responder.reading first (at_now (owned (g.A.Responder.state c.rounds.service) o) (g.N.Streams.stream c.passed.new.self) reported) c.mark_ready.new.self.accepted
     c.mark_ready.new.self.slots.items) (sym owners)
-    (still_so_far c.args.limits g.A.Answer.reading first state (g.N.Streams.stream c.accept_all.new.sockets) (g.N.Streams.stream c.passed.new.self) told
+    (still_so_far c.args.limits g.A.Responder.reading first state (g.N.Streams.stream c.accept_all.new.sockets) (g.N.Streams.stream c.passed.new.self) reported
     (stays (g.N.Streams.stream c.accept_all.new.sockets) (g.N.Streams.stream c.passed.new.self) (λ n. c.passed.ensures n ∙ c.poll.ensures n)) c.accept_all.new.self.accepted c.mark_ready.new.self.accepted
     c.accept_all.new.self.slots.items c.mark_ready.new.self.slots.items (c.mark_ready.ensures.still.0 ∙ ap (λ v. v.accepted) c.count_time.ensures)
     (subst (λ (v : List (Option Client)). AllAreStill v c.mark_ready.new.self.slots.items) (ap (λ v. v.slots.items) c.count_time.ensures) c.mark_ready.ensures.still.1) accepted)
@@ -94,26 +94,26 @@ returns-in_err-give_up-clause-serves g c =
     let turned = c.in_ok-take_turns.ensures.goes_on first waited in
     let shared =
     subst
-    (λ (o : List Owner). ServedSoFar c.args.limits g.A.Answer.reading first (at_now (owned (g.A.Answer.state c.take_turns.new.service) o) (g.N.Streams.stream c.take_turns.new.sockets)
-    (g.E.Report.told c.take_turns.new.report)) c.share_room.new.self.accepted c.share_room.new.self.slots.items) (sym c.share_room.ensures.owners)
-    (still_so_far c.args.limits g.A.Answer.reading first (owned (g.A.Answer.state c.take_turns.new.service) c.take_turns.new.self.owners.items) (g.N.Streams.stream c.take_turns.new.sockets) (g.N.Streams.stream c.take_turns.new.sockets)
-    (g.E.Report.told c.take_turns.new.report) (λ n. (refl, refl)) c.take_turns.new.self.accepted c.share_room.new.self.accepted c.take_turns.new.self.slots.items c.share_room.new.self.slots.items
+    (λ (o : List Owner). ServedSoFar c.args.limits g.A.Responder.reading first (at_now (owned (g.A.Responder.state c.take_turns.new.service) o) (g.N.Streams.stream c.take_turns.new.sockets)
+    (g.E.EndReport.reported c.take_turns.new.report)) c.share_room.new.self.accepted c.share_room.new.self.slots.items) (sym c.share_room.ensures.owners)
+    (still_so_far c.args.limits g.A.Responder.reading first (owned (g.A.Responder.state c.take_turns.new.service) c.take_turns.new.self.owners.items) (g.N.Streams.stream c.take_turns.new.sockets) (g.N.Streams.stream c.take_turns.new.sockets)
+    (g.E.EndReport.reported c.take_turns.new.report) (λ n. (refl, refl)) c.take_turns.new.self.accepted c.share_room.new.self.accepted c.take_turns.new.self.slots.items c.share_room.new.self.slots.items
     c.share_room.ensures.still.0 c.share_room.ensures.still.1 turned)
     in
     c.give_up.ensures.happened first shared
 
 pub rounds-preserved : goal.rounds-preserved
 rounds-preserved g c =
-    let first = world (g.A.Answer.state c.args.service.now) (g.N.Streams.stream c.args.sockets.now) (g.E.Report.told c.args.report.now) in
-    let state = owned (g.A.Answer.state c.rounds.service) c.rounds.server.owners.items in
-    let told = g.E.Report.told c.catch_up-behind.new.self in
-    let accepted = c.accept_all.ensures.goes_on g.A.Answer.reading state told first (caught_up c.args.limits g.A.Answer.reading first state (g.N.Streams.stream c.rounds.sockets) (g.E.Report.told c.rounds.report) told c.rounds.server.accepted c.rounds.server.slots.items c.catch_up-behind.ensures c.rounds.invariant.served) in
+    let first = world (g.A.Responder.state c.args.service.now) (g.N.Streams.stream c.args.sockets.now) (g.E.EndReport.reported c.args.report.now) in
+    let state = owned (g.A.Responder.state c.rounds.service) c.rounds.server.owners.items in
+    let reported = g.E.EndReport.reported c.catch_up-behind.new.self in
+    let accepted = c.accept_all.ensures.goes_on g.A.Responder.reading state reported first (caught_up c.args.limits g.A.Responder.reading first state (g.N.Streams.stream c.rounds.sockets) (g.E.EndReport.reported c.rounds.report) reported c.rounds.server.accepted c.rounds.server.slots.items c.catch_up-behind.ensures c.rounds.invariant.served) in
     let owners : c.mark_ready.new.self.owners.items ≡ c.rounds.server.owners.items = c.mark_ready.ensures.owners ∙ ap (λ v. v.owners.items) c.count_time.ensures ∙ c.accept_all.ensures.owners in
     let waited =
     subst
-    (λ (o : List Owner). ServedSoFar c.args.limits g.A.Answer.reading first (at_now (owned (g.A.Answer.state c.rounds.service) o) (g.N.Streams.stream c.passed.new.self) told) c.mark_ready.new.self.accepted
+    (λ (o : List Owner). ServedSoFar c.args.limits g.A.Responder.reading first (at_now (owned (g.A.Responder.state c.rounds.service) o) (g.N.Streams.stream c.passed.new.self) reported) c.mark_ready.new.self.accepted
     c.mark_ready.new.self.slots.items) (sym owners)
-    (still_so_far c.args.limits g.A.Answer.reading first state (g.N.Streams.stream c.accept_all.new.sockets) (g.N.Streams.stream c.passed.new.self) told
+    (still_so_far c.args.limits g.A.Responder.reading first state (g.N.Streams.stream c.accept_all.new.sockets) (g.N.Streams.stream c.passed.new.self) reported
     (stays (g.N.Streams.stream c.accept_all.new.sockets) (g.N.Streams.stream c.passed.new.self) (λ n. c.passed.ensures n ∙ c.poll.ensures n)) c.accept_all.new.self.accepted c.mark_ready.new.self.accepted
     c.accept_all.new.self.slots.items c.mark_ready.new.self.slots.items (c.mark_ready.ensures.still.0 ∙ ap (λ v. v.accepted) c.count_time.ensures)
     (subst (λ (v : List (Option Client)). AllAreStill v c.mark_ready.new.self.slots.items) (ap (λ v. v.slots.items) c.count_time.ensures) c.mark_ready.ensures.still.1) accepted)
@@ -121,10 +121,10 @@ rounds-preserved g c =
     let turned = c.in_ok-take_turns.ensures.goes_on first waited in
     let shared =
     subst
-    (λ (o : List Owner). ServedSoFar c.args.limits g.A.Answer.reading first (at_now (owned (g.A.Answer.state c.take_turns.new.service) o) (g.N.Streams.stream c.take_turns.new.sockets)
-    (g.E.Report.told c.take_turns.new.report)) c.share_room.new.self.accepted c.share_room.new.self.slots.items) (sym c.share_room.ensures.owners)
-    (still_so_far c.args.limits g.A.Answer.reading first (owned (g.A.Answer.state c.take_turns.new.service) c.take_turns.new.self.owners.items) (g.N.Streams.stream c.take_turns.new.sockets) (g.N.Streams.stream c.take_turns.new.sockets)
-    (g.E.Report.told c.take_turns.new.report) (λ n. (refl, refl)) c.take_turns.new.self.accepted c.share_room.new.self.accepted c.take_turns.new.self.slots.items c.share_room.new.self.slots.items
+    (λ (o : List Owner). ServedSoFar c.args.limits g.A.Responder.reading first (at_now (owned (g.A.Responder.state c.take_turns.new.service) o) (g.N.Streams.stream c.take_turns.new.sockets)
+    (g.E.EndReport.reported c.take_turns.new.report)) c.share_room.new.self.accepted c.share_room.new.self.slots.items) (sym c.share_room.ensures.owners)
+    (still_so_far c.args.limits g.A.Responder.reading first (owned (g.A.Responder.state c.take_turns.new.service) c.take_turns.new.self.owners.items) (g.N.Streams.stream c.take_turns.new.sockets) (g.N.Streams.stream c.take_turns.new.sockets)
+    (g.E.EndReport.reported c.take_turns.new.report) (λ n. (refl, refl)) c.take_turns.new.self.accepted c.share_room.new.self.accepted c.take_turns.new.self.slots.items c.share_room.new.self.slots.items
     c.share_room.ensures.still.0 c.share_room.ensures.still.1 turned)
     in
     record {

@@ -6,7 +6,7 @@ use Rattle.compose_hub.proofs.server.serve_at_once.Given as goal
 abbrev pub invariant-rounds : goal.invariant-rounds
 invariant-rounds g l = record {
   served :
-      ServedSoFar l.limits g.A.Answer.reading (world (g.A.Answer.state l.fn.service) (g.N.Streams.stream l.fn.sockets) (g.E.Report.told l.fn.report))
-      (at_now (owned (g.A.Answer.state l.service) l.server.owners.items) (g.N.Streams.stream l.sockets) (g.E.Report.told l.report)) l.server.accepted l.server.slots.items;
+      ServedSoFar l.limits g.A.Responder.reading (world (g.A.Responder.state l.fn.service) (g.N.Streams.stream l.fn.sockets) (g.E.EndReport.reported l.fn.report))
+      (at_now (owned (g.A.Responder.state l.service) l.server.owners.items) (g.N.Streams.stream l.sockets) (g.E.EndReport.reported l.report)) l.server.accepted l.server.slots.items;
   rooms : AreWithinRooms l.server.slots.items;
 }

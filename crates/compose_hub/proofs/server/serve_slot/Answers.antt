@@ -1,6 +1,6 @@
 use Rattle.std.proofs.Common.{◌≡◌, ◌∙◌, true, refl, sym, ap, inr, subst, rules}
 use Rattle.std.specs.Prelude.{ℕ, Option, Some, None, Result}
-use Rattle.compose_serve.specs.declared.ends.Ended.{Ended}
+use Rattle.compose_serve.specs.declared.ends.StreamEnd.{StreamEnd}
 use Rattle.compose_serve.specs.declared.ends.ServeFault.{ServeFault}
 use Rattle.compose_many.specs.declared.turn.Turn.TheVariants.{GoesOn, Loaded, Waits, NeedsRoom, Ends}
 use Rattle.compose_hub.specs.Sockets.{KeepsBytes}
@@ -22,10 +22,10 @@ follows c taken now waits_for time number is ended none = (
   λ d e. let same : now ≡ d = cc in subst (λ (t : Client). (t.waits_for ≡ waits_for) × (t.since ≡ time)) same (ap (λ (t : Client). t.waits_for) is, ap (λ (t : Client). t.since) is),
 )
 
-abbrev ends_as : ℕ → Result Ended ServeFault → Option (ℕ × ConnectionEnd)
+abbrev ends_as : ℕ → Result StreamEnd ServeFault → Option (ℕ × ConnectionEnd)
 ends_as n how = Some (n, Served how)
 
-ended_as : (m n : ℕ) (how : Result Ended ServeFault) → m ≡ n → ends_as m how ≡ ends_as n how
+ended_as : (m n : ℕ) (how : Result StreamEnd ServeFault) → m ≡ n → ends_as m how ≡ ends_as n how
 ended_as m n how e = ap (λ (k : ℕ). ends_as k how) e
 
 pub returns-in-GoesOn-clause-turns : goal.returns-in-GoesOn-clause-turns

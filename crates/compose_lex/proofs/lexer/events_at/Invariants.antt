@@ -10,7 +10,7 @@ abbrev pub invariant-loop-behind : goal.invariant-loop-behind
 invariant-loop-behind l = record {
   text : shadow (Utf8 l.rest);
   read : with_prefix (map (λ e. e.now) l.events.items) (events_at l.line_len (32 - length l.events.items) l.rest)
-      ≡ with_prefix (map (λ e. e.now) l.fn.events.items) (events_at l.line_len (32 - length l.fn.events.items) l.fn.behind_event);
+      ≡ with_prefix (map (λ e. e.now) l.fn.events.items) (events_at l.line_len (32 - length l.fn.events.items) l.fn.after_event);
 }
 
 abbrev pub decreases-loop-behind : goal.decreases-loop-behind

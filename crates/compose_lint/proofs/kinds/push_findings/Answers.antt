@@ -1,7 +1,7 @@
 use Rattle.std.proofs.Common.{◌∙◌, ◌++◌, map, ap}
 use Rattle.compose_lint.specs.Lines.{LintLine, all_lines}
 use Rattle.compose_lint.specs.Findings.{when, line_findings, form_kinds, prefix_kinds, comment_kinds, redundant_kinds}
-use Rattle.compose_lint.specs.declared.finding.Kind.TheVariants.{Comment}
+use Rattle.compose_lint.specs.declared.finding.FindingKind.TheVariants.{Comment}
 use Rattle.compose_lint.proofs.OneMore.{one_more}
 use Rattle.compose_lint.proofs.kinds.push_findings.Goals as goal
 

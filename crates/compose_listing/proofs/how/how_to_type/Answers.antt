@@ -1,6 +1,6 @@
 use Rattle.std.proofs.Common.{rules, [], map, ◌∙◌, subst, Option}
 use Rattle.std.specs.Prelude.{option_copied}
-use Rattle.compose_migration.specs.MigrationGives.{named_parts, table_given}
+use Rattle.compose_migration.specs.MigrationReturns.{named_parts, table_given}
 use Rattle.compose_answer.specs.Parts.{TypedParts}
 use Rattle.compose_model.specs.Certificate.{Repertoire}
 use Rattle.compose_answer.specs.declared.refusal.Refusal.TheVariants.{NoMemory}

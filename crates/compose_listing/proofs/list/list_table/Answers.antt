@@ -1,6 +1,6 @@
 use Rattle.std.proofs.Common.{rules, ℕ, List, map, ◌∙◌, subst, string_bytes}
 use Rattle.std.specs.Prelude.{option_copied}
-use Rattle.compose_migration.specs.MigrationGives.{named_parts, table_given}
+use Rattle.compose_migration.specs.MigrationReturns.{named_parts, table_given}
 use Rattle.compose_answer.specs.Parts.{type_parts}
 use Rattle.compose_answer.specs.declared.refusal.Refusal.TheVariants.{NoMemory}
 use Rattle.compose_tool.proofs.Steps.{refusal_gives, named_refused, table_refused, typed_read}

@@ -32,10 +32,10 @@ loop-index-preserved g c = elim c.match-target.branch [
       let text = w.text_of.result.now in
       let before = string_bytes c.loop-index.lines in
       let to = to_leaf table p k c.edge-keysym.result.1 leaf c.edge-keysym.ensures.target w.in-Leaf.is in
-      let said : string_bytes w.push_text.new.lines ≡ before ++ (leads form w.deref.result.now (Some text) n ++ 10 ∷ []) = when_ok w.push_text.result w.in_ok-push_text-in-Leaf.field-0 w.in_ok-push_text-in-Leaf.was
+      let expected : string_bytes w.push_text.new.lines ≡ before ++ (leads form w.deref.result.now (Some text) n ++ 10 ∷ []) = when_ok w.push_text.result w.in_ok-push_text-in-Leaf.field-0 w.in_ok-push_text-in-Leaf.was
       (w.push_text.ensures n) in
       line_more (next_line form c.args.names.now table p) (edges table p) c.loop-index.index k before (string_bytes c.match-target.lines) c.edge-keysym.ensures.keysym c.loop-index.invariant
-      (ap string_bytes w.lines-is ∙ said ∙ ap (λ q. before ++ (leads form q (Some text) n ++ 10 ∷ [])) (w.deref.ensures ∙ c.in_ok-key.ensures)
+      (ap string_bytes w.lines-is ∙ expected ∙ ap (λ q. before ++ (leads form q (Some text) n ++ 10 ∷ [])) (w.deref.ensures ∙ c.in_ok-key.ensures)
       ∙ ap (λ (o : Option (List ℕ)). before ++ (leads form key o n ++ 10 ∷ []))
       (ap (λ (t : List ℕ). Some t) w.text_of.ensures ∙ sym (leaf_has table c.node_count.ensures.settled p k leaf to))))
   | in-Node+in_ok-push_count-in-Node w ↦ (
@@ -48,9 +48,9 @@ loop-index-preserved g c = elim c.match-target.branch [
       let n = w.sequences_after.result in
       let before = string_bytes c.loop-index.lines in
       let to = to_node table p k c.edge-keysym.result.1 child c.edge-keysym.ensures.target w.in-Node.is in
-      let said : string_bytes w.push_count.new.lines ≡ before ++ (leads form w.deref-in-Node.result.now None n ++ 10 ∷ []) = w.in_ok-push_count-in-Node.ensures in
+      let expected : string_bytes w.push_count.new.lines ≡ before ++ (leads form w.deref-in-Node.result.now None n ++ 10 ∷ []) = w.in_ok-push_count-in-Node.ensures in
       line_more (next_line form c.args.names.now table p) (edges table p) c.loop-index.index k before (string_bytes c.match-target.lines) c.edge-keysym.ensures.keysym c.loop-index.invariant
-      (ap string_bytes w.lines-is ∙ said ∙ ap (λ q. before ++ (leads form q None n ++ 10 ∷ [])) (w.deref-in-Node.ensures ∙ c.in_ok-key.ensures)
+      (ap string_bytes w.lines-is ∙ expected ∙ ap (λ q. before ++ (leads form q None n ++ 10 ∷ [])) (w.deref-in-Node.ensures ∙ c.in_ok-key.ensures)
       ∙ ap (λ (o : Option (List ℕ)). before ++ (leads form key o n ++ 10 ∷ [])) (sym (node_has table c.node_count.ensures.settled p k child to))
       ∙ ap (λ (m : ℕ). before ++ (leads form key (text_at table (p ++ k ∷ [])) m ++ 10 ∷ [])) (w.sequences_after.ensures ∙ ap (count_after table) (sym (child_path table p k child to)))))
 ]

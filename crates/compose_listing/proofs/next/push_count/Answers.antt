@@ -10,9 +10,9 @@ use Rattle.compose_listing.proofs.next.push_count.Goals.{in-Lines+in_ok-push_key
 use Rattle.compose_listing.proofs.next.push_count.Goals as goal
 
 -- a newline is appended after the text
-ended : {X E : Type 0} (r : Result X E) (old said before after : List ℕ) → after ≡ (if is_ok r then before ++ 10 ∷ [] else before) → before ≡ old ++ said → OnOk r (after ≡ old ++ (said ++ 10 ∷ []))
-ended (Ok x) old said before after e h = e ∙ ap (λ t. t ++ 10 ∷ []) h ∙ append_assoc old said (10 ∷ [])
-ended (Err x) old said before after e h = tt
+ended : {X E : Type 0} (r : Result X E) (old expected before after : List ℕ) → after ≡ (if is_ok r then before ++ 10 ∷ [] else before) → before ≡ old ++ expected → OnOk r (after ≡ old ++ (expected ++ 10 ∷ []))
+ended (Ok x) old expected before after e h = e ∙ ap (λ t. t ++ 10 ∷ []) h ∙ append_assoc old expected (10 ∷ [])
+ended (Err x) old expected before after e h = tt
 
 pub returns : goal.returns
 unfolding encode_utf8

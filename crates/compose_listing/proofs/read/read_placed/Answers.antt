@@ -1,5 +1,5 @@
 use Rattle.std.proofs.Common.{rules, ap}
-use Rattle.compose_tree.specs.TableGives.{first_table}
+use Rattle.compose_tree.specs.TableReturns.{first_table}
 use Rattle.compose_migration.specs.Migration.{or_because}
 use Rattle.compose_migration.proofs.Tables.{why_none}
 use Rattle.compose_answer.specs.Parts.{no_only_table}

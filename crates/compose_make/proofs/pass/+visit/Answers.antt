@@ -11,7 +11,7 @@ use Rattle.compose_tree.specs.declared.table.Target.TheVariants.{Node, Leaf}
 use Rattle.compose_tree.proofs.Lookups.{node_few, node_listed}
 use Rattle.compose_tree.proofs.Steps.{Leads, leads, ToNode, ToLeaf}
 use Rattle.compose_make.specs.Least.{are_keys}
-use Rattle.compose_make.specs.Wanted.{WantedCharacter, AreLeast, offered, is_behind, characters_of}
+use Rattle.compose_make.specs.Wanted.{WantedCharacter, AreLeast, offered_row, is_whole_after, characters_of}
 use Rattle.compose_make.proofs.Behind.{is_through, seen_skip, seen_node, seen_leaf, seen_all}
 use Rattle.compose_tree.specs.declared.table.NodeId.{NodeId}
 use Rattle.compose_tree.specs.declared.table.LeafId.{LeafId}
@@ -94,7 +94,7 @@ loop-index-preserved g t c = elim c.match-target.branch [
             λ passes a. subst (λ (rows : List WantedCharacter). AreLeast (λ d v. passes d v || is_through table repertoire d p (take (c.loop-index.index + 1) (edges table n)) v) rows) (sym w.rows-is)
             (seen_node no_names table repertoire c.requires.settled p
             (edges table n) c.loop-index.index k c.args.rows.now c.loop-index.rows w.visit.new.rows c.edge-keysym.ensures.keysym extended c.loop-index.invariant.least
-            (λ q b. subst (λ (x : List ℕ). AreLeast (λ d v. q d v || is_behind table repertoire d x v) w.visit.new.rows) longer (w.visit.ensures.least q b)) passes a);
+            (λ q b. subst (λ (x : List ℕ). AreLeast (λ d v. q d v || is_whole_after table repertoire d x v) w.visit.new.rows) longer (w.visit.ensures.least q b)) passes a);
       })
   | in-Leaf w ↦ (
       let table = g.U.ComposeTable.definitions c.args.new.now in
@@ -108,7 +108,7 @@ loop-index-preserved g t c = elim c.match-target.branch [
       let texted : text_at table (p ++ k ∷ []) ≡ Some text = ap (λ q. text_at table (q ++ k ∷ [])) c.requires.path ∙ sym to.text ∙ w.text.ensures.value in
       let keys : are_keys repertoire (p ++ k ∷ []) ≡ true = with_last (is_key repertoire) p k c.requires.by_keys (sym c.is_key.ensures ∙ c.if-not-is_key.false) in
       let longer : w.as_slice-in-Leaf.result.now ≡ p ++ k ∷ [] = w.as_slice-in-Leaf.ensures.value ∙ c.with_key-longer.ensures in
-      let rows_are : c.match-target.rows ≡ map (offered text (p ++ k ∷ [])) c.loop-index.rows = w.rows-is ∙ w.offer_text.ensures ∙ ap (λ x. map (offered text x) c.loop-index.rows) longer in
+      let rows_are : c.match-target.rows ≡ map (offered_row text (p ++ k ∷ [])) c.loop-index.rows = w.rows-is ∙ w.offer_text.ensures ∙ ap (λ x. map (offered_row text x) c.loop-index.rows) longer in
       record {
         characters = ap characters_of rows_are ∙ offered_characters text (p ++ k ∷ []) c.loop-index.rows ∙ c.loop-index.invariant.characters;
         least =

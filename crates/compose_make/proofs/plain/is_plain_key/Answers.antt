@@ -15,7 +15,7 @@ step-requires g c = some_node (g.U.ComposeTable.definitions c.args.new.now)
 pub returns : goal.returns
 returns g c =
     let table = g.U.ComposeTable.definitions c.args.new.now in
-    let told : has_edge table [] c.args.keysym ≡ not c.is_none.result =
+    let reported : has_edge table [] c.args.keysym ≡ not c.is_none.result =
     sym (some_target table [] c.args.keysym) ∙ ap (λ p. is_some (target_of table p c.args.keysym)) (sym (node_zero table)) ∙ ap is_some (sym c.step.ensures) ∙ c.is_none.ensures in
     plain_test (is_key c.args.repertoire.now c.args.keysym) (is_ignored c.args.keysym) (has_edge table [] c.args.keysym) c.is_none.result (sym c.is_key.ensures ∙ c.if-not-is_key.false)
-    (sym c.is_ignored.ensures ∙ c.if-is_ignored.false) told
+    (sym c.is_ignored.ensures ∙ c.if-is_ignored.false) reported

@@ -5,7 +5,7 @@ use Rattle.compose_make.specs.Wanted.{IsOfRows, WantedCharacter, AreLeast, chara
 use Rattle.compose_model.proofs.NodeLemmas.{node_zero}
 use Rattle.compose_make.specs.Candidates.{is_plain}
 use Rattle.compose_make.proofs.Reduction.{is_candidate}
-use Rattle.compose_make.proofs.FoundRows.{all_looked_at, answered}
+use Rattle.compose_make.proofs.FoundRows.{all_visited, answered}
 use Rattle.compose_make.proofs.typings.find_typings.Goals as goal
 
 pub visit-requires-clause-path : goal.visit-requires-clause-path
@@ -22,6 +22,6 @@ returns-clause-found g c =
     let characters : characters_of rows ≡ repertoire.characters = c.visit.ensures.characters ∙ ap characters_of c.deref_mut.ensures.value ∙ c.in_ok-rows.ensures.characters in
     let plain : AreLeast (is_plain names table repertoire) c.deref_mut.result.now = subst (AreLeast (is_plain names table repertoire)) (sym c.deref_mut.ensures.value) c.in_ok-rows.ensures.least in
     let all : AreLeast (is_candidate names table repertoire) rows =
-    all_looked_at names table repertoire c.node_count.ensures.settled rows (c.visit.ensures.least (is_plain names table repertoire) plain) in
+    all_visited names table repertoire c.node_count.ensures.settled rows (c.visit.ensures.least (is_plain names table repertoire) plain) in
     answered names table repertoire c.node_count.ensures.settled rows c.typings_of.result c.count.ensures.sound.rise characters all
     (subst (λ (rs : List WantedCharacter). IfOk c.typings_of.result (IsOfRows rs)) is c.typings_of.ensures.found)

@@ -5,8 +5,8 @@ use Rattle.compose_model.proofs.NodeLemmas.{node_zero}
 use Rattle.compose_make.specs.Candidates.{is_plain}
 use Rattle.compose_make.proofs.Reduction.{is_candidate}
 use Rattle.compose_make.specs.Wanted.{WantedCharacter, AreLeast, characters_of, all_missing}
-use Rattle.compose_make.proofs.FoundRows.{all_looked_at}
-use Rattle.compose_make.proofs.Missing.{missing_told}
+use Rattle.compose_make.proofs.FoundRows.{all_visited}
+use Rattle.compose_make.proofs.Missing.{missing_found}
 use Rattle.compose_make.proofs.typings.untypable.Goals as goal
 
 pub visit-requires-clause-path : goal.visit-requires-clause-path
@@ -23,6 +23,6 @@ returns-clause-found g c =
     let characters : characters_of rows ≡ repertoire.characters = c.visit.ensures.characters ∙ ap characters_of c.deref_mut.ensures.value ∙ c.in_ok-rows.ensures.characters in
     let plain : AreLeast (is_plain names table repertoire) c.deref_mut.result.now = subst (AreLeast (is_plain names table repertoire)) (sym c.deref_mut.ensures.value) c.in_ok-rows.ensures.least in
     let all : AreLeast (is_candidate names table repertoire) rows =
-    all_looked_at names table repertoire c.node_count.ensures.settled rows (c.visit.ensures.least (is_plain names table repertoire) plain) in
-    missing_told (λ cs. cs.items) names table repertoire c.node_count.ensures.settled rows c.missing_of.result c.count.ensures.sound.rise characters all
+    all_visited names table repertoire c.node_count.ensures.settled rows (c.visit.ensures.least (is_plain names table repertoire) plain) in
+    missing_found (λ cs. cs.items) names table repertoire c.node_count.ensures.settled rows c.missing_of.result c.count.ensures.sound.rise characters all
     (subst (λ (rs : List WantedCharacter). IfOk c.missing_of.result (λ missing. missing.items ≡ all_missing rs)) is c.missing_of.ensures.found)

@@ -1,7 +1,7 @@
 use Rattle.std.proofs.Common.{◌≡◌, sym, ◌∙◌, ap, arith, get_or, length, take, ℕ, ◌-◌, ◌<◌}
 use Rattle.std.proofs.lemmas.Bool.{eqb-true, eq-eqb}
 use Rattle.std.specs.Option.{option_map}
-use Rattle.compose_manifest.specs.ManifestGives.{entry}
+use Rattle.compose_manifest.specs.ManifestReturns.{entry}
 use Rattle.std.proofs.lemmas.Str.{IsCharBoundary-after_ascii}
 use Rattle.compose_manifest.proofs.Tabs.{TabAt, first_tab, no_entry, bad_entry, good_entry}
 use Rattle.compose_manifest.proofs.manifest.split_entry.Goals as goal

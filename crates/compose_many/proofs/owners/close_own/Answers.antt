@@ -8,7 +8,7 @@ use Rattle.compose_many.proofs.owners.close_own.Goals as goal
 pub returns-in_default : goal.returns-in_default
 returns-in_default g c =
     let none : first_own c.args.number c.sessions.owners.items ≡ None = search rules in
-    closed_all c.args.number g.A.Answer.reading (g.A.Answer.state c.args.service.now) (g.A.Answer.state c.sessions.service) (g.A.Answer.state c.sessions.service) c.args.owners.now.items c.sessions.owners.items
+    closed_all c.args.number g.A.Responder.reading (g.A.Responder.state c.args.service.now) (g.A.Responder.state c.sessions.service) (g.A.Responder.state c.sessions.service) c.args.owners.now.items c.sessions.owners.items
     c.sessions.owners.items c.sessions.invariant none
 
 pub sessions-smaller : goal.sessions-smaller
@@ -20,5 +20,5 @@ pub sessions-preserved : goal.sessions-preserved
 sessions-preserved g c =
     let some : first_own c.args.number c.sessions.owners.items ≡ Some c.in-Some.session = search rules in
     let so = c.close.ensures.so in
-    closed_more c.args.number g.A.Answer.reading (g.A.Answer.state c.args.service.now) (g.A.Answer.state c.sessions.service) (g.A.Answer.state c.close.new.service) c.args.owners.now.items
+    closed_more c.args.number g.A.Responder.reading (g.A.Responder.state c.args.service.now) (g.A.Responder.state c.sessions.service) (g.A.Responder.state c.close.new.service) c.args.owners.now.items
     c.sessions.owners.items c.close.new.owners.items c.sessions.invariant c.in-Some.session some so.0 so.1 so.2 so.3 c.close.ensures.owners

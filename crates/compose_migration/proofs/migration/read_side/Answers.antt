@@ -1,5 +1,5 @@
 use Rattle.std.proofs.Common.{rules}
-use Rattle.compose_tree.specs.TableGives.{first_table}
+use Rattle.compose_tree.specs.TableReturns.{first_table}
 use Rattle.compose_migration.proofs.Tables.{side_refused}
 use Rattle.compose_migration.proofs.migration.read_side.Goals as goal
 

@@ -4,7 +4,7 @@ use Rattle.std.specs.List.{starts_with}
 use Rattle.std.proofs.lemmas.List.{take_rest}
 use Rattle.std.proofs.lemmas.List.Sums.{prefix_len-le-length}
 use Rattle.compose_text.specs.Bytes.{is_blank}
-use Rattle.compose_lex.proofs.Scans.{behind_left}
+use Rattle.compose_lex.proofs.Scans.{after_left}
 use Rattle.compose_places.proofs.counting.begins_definition.Goals as goal
 
 pub slice_bounds-starts_with-count : goal.slice_bounds-starts_with-count
@@ -17,4 +17,4 @@ pub returns : goal.returns
 returns c =
     let line = c.args.line.now in
     c.starts_with.ensures.value
-    ∙ ap (λ rest. starts_with nat_eq rest (codes "<")) (take_rest line c.blank_len.result ∙ ap (λ n. drop n line) c.blank_len.ensures ∙ sym (behind_left is_blank line))
+    ∙ ap (λ rest. starts_with nat_eq rest (codes "<")) (take_rest line c.blank_len.result ∙ ap (λ n. drop n line) c.blank_len.ensures ∙ sym (after_left is_blank line))

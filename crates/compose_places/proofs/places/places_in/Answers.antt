@@ -2,32 +2,32 @@ use Rattle.std.proofs.Common.{◌≡◌, ◌-◌, ◌+◌, map, take, sym, ap, a
 use Rattle.std.specs.Prelude.{filter}
 use Rattle.compose_read.specs.Lines.{Visit}
 use Rattle.compose_read.specs.Visits.{visit_of}
-use Rattle.compose_places.specs.Places.{says_definition, place_of}
+use Rattle.compose_places.specs.Places.{is_definition_line, place_of}
 use Rattle.compose_places.proofs.PlacesSoFar.{all_found, nothing_more, one_more}
 use Rattle.compose_places.proofs.places.places_in.Goals as goal
 
 pub loop-lines-preserved : goal.loop-lines-preserved
 loop-lines-preserved c =
     let lines = c.loop-lines.lines in record {
-      told =
-          nothing_more (λ (v : Visit). says_definition v.bytes) place_of c.loop-lines.places.items _ c.loop-lines.visits (1000000 - lines) c.loop-lines.invariant.told
+      decided =
+          nothing_more (λ (v : Visit). is_definition_line v.bytes) place_of c.loop-lines.places.items _ c.loop-lines.visits (1000000 - lines) c.loop-lines.invariant.decided
           (visit_of c.in-Some.line) c.next.new.self (1000000 - (lines + 1)) c.in-Some.ensures.steps
-          (omega (arith, c.loop-lines-test.true)) (sym c.if-says_definition.ensures);
+          (omega (arith, c.loop-lines-test.true)) (sym c.if-is_definition_line.ensures);
       read = omega (arith, c.loop-lines-test.true);
     }
 
 pub loop-lines-preserved-in-Continue-1 : goal.loop-lines-preserved-in-Continue-1
 loop-lines-preserved-in-Continue-1 c =
     let lines = c.loop-lines.lines in record {
-      told =
-          one_more (λ (v : Visit). says_definition v.bytes) place_of c.loop-lines.places.items _ c.loop-lines.visits (1000000 - lines) c.loop-lines.invariant.told
+      decided =
+          one_more (λ (v : Visit). is_definition_line v.bytes) place_of c.loop-lines.places.items _ c.loop-lines.visits (1000000 - lines) c.loop-lines.invariant.decided
           (visit_of c.in-Some.line) c.next.new.self (1000000 - (lines + 1)) c.in-Some.ensures.steps
-          (omega (arith, c.loop-lines-test.true)) (sym c.if-says_definition.ensures) c.push.new.self.items c.in_ok-push.ensures.items;
+          (omega (arith, c.loop-lines-test.true)) (sym c.if-is_definition_line.ensures) c.push.new.self.items c.in_ok-push.ensures.items;
       read = omega (arith, c.loop-lines-test.true);
     }
 
 pub returns : goal.returns
 returns c =
     let lines = c.loop-lines.lines in let none : 1000000 - lines ≡ 0 = omega (arith, c.loop-lines-test.false) in
-    all_found (λ (v : Visit). says_definition v.bytes) place_of c.loop-lines.places.items _ c.loop-lines.visits (1000000 - lines) c.loop-lines.invariant.told
-    (ap (λ n. map place_of (filter (λ (v : Visit). says_definition v.bytes) (take n c.loop-lines.visits))) none)
+    all_found (λ (v : Visit). is_definition_line v.bytes) place_of c.loop-lines.places.items _ c.loop-lines.visits (1000000 - lines) c.loop-lines.invariant.decided
+    (ap (λ n. map place_of (filter (λ (v : Visit). is_definition_line v.bytes) (take n c.loop-lines.visits))) none)

@@ -3,7 +3,7 @@ use Rattle.std.specs.Prelude.{Err, IfSome}
 use Rattle.compose_read.specs.Lines.{Visit, visits_below}
 use Rattle.compose_read.specs.Progress.{read_so_far, reading_on, ReadsOn}
 use Rattle.compose_read.proofs.TextLines.{text_lines, next_text}
-use Rattle.compose_read.specs.Rows.{Drafted}
+use Rattle.compose_read.specs.Rows.{DraftRows}
 use Rattle.compose_read.specs.Kept.{AreKept}
 use Rattle.compose_read.specs.declared.kept.KeptSource.{KeptSource}
 use Rattle.compose_read.specs.Visits.{left_to_visit}
@@ -17,7 +17,7 @@ loop-bytes-init t c =
       reads = λ ws. ap (λ d. reading_on names sources (read_so_far c.args.progress.now.lines d) (left_to_visit sources left source (8 - left) 0 c.without_mark-rest.result.now ++ ws)) c.reserve.ensures
           ∙ ap (λ vs. reading_on names sources c.args.progress.now (vs ++ ws))
           (ap (left_to_visit sources left source (8 - left) 0) c.without_mark-rest.ensures ∙ sym (visits_are sources left source c.bytes.result.now c.requires.within.0 c.bytes.ensures));
-      kept = subst (λ (d : Drafted). AreKept names sources d.table c.args.kept.now.by_source) (sym c.reserve.ensures) c.requires.kept;
+      kept = subst (λ (d : DraftRows). AreKept names sources d.table c.args.kept.now.by_source) (sym c.reserve.ensures) c.requires.kept;
       read =
           ap (λ vs. c.args.progress.now.lines + length vs)
           (ap (left_to_visit sources left source (8 - left) 0) c.without_mark-rest.ensures ∙ sym (visits_are sources left source c.bytes.result.now c.requires.within.0 c.bytes.ensures));

@@ -2,7 +2,7 @@ use Rattle.std.proofs.Common.{◌≡◌, ◌∙◌, List, sym, ap, subst, rules}
 use Rattle.std.specs.Prelude.{Result, Ok, Err}
 use Rattle.compose_model.specs.Table.{Definition}
 use Rattle.compose_read.specs.Read.{definitions_of}
-use Rattle.compose_read.specs.ReadGives.{ReadGives}
+use Rattle.compose_read.specs.ReadReturns.{ReadReturns}
 use Rattle.compose_read.proofs.ReadLines.{all_read, root_refused}
 use Rattle.compose_read.proofs.KeptSources.{none_kept}
 use Rattle.compose_read.specs.declared.ReadFault.{ReadFault}
@@ -12,7 +12,7 @@ pub returns-in_err-read_source-clause-exact : goal.returns-in_err-read_source-cl
 returns-in_err-read_source-clause-exact c =
     let fault = c.in_err-read_source.field-0.0 in
     let is : c.from_residual.result ≡ Err fault = search rules in
-    subst (λ r. ReadGives (λ (table : List Definition). table) r (definitions_of c.args.names.now c.args.sources.now c.args.root.now)) (sym is)
+    subst (λ r. ReadReturns (λ (table : List Definition). table) r (definitions_of c.args.names.now c.args.sources.now c.args.root.now)) (sym is)
     (root_refused c.args.names.now c.args.sources.now c.args.root.now c.in-Some.source (sym c.index_of.ensures.index ∙ c.in-Some.is)
     (λ (table : List Definition). table) c.new.result c.read_source.new.progress fault c.new.ensures c.in_err-read_source.ensures.reads)
 

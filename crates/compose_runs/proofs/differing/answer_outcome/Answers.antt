@@ -10,9 +10,9 @@ returns c =
     let fresh = map (λ name. name.now) c.args.fresh.now in let shown = c.in_ok-shown.shown in
     ok_map (λ outcome. (own : List ℕ) × IsOutcome own fresh (string_bytes c.new.result) (Ok shown) outcome) (ShowsAnswer c.args.colored c.args.answer fresh)
     c.outcome_with.result
-    (λ outcome said. record {
+    (λ outcome spec. record {
       shown = shown;
       is_shown = c.in_ok-shown.ensures;
-      own = said.0;
-      is = subst (λ details. IsOutcome said.0 fresh details (Ok shown) outcome) c.new.ensures.bytes said.1;
+      own = spec.0;
+      is = subst (λ details. IsOutcome spec.0 fresh details (Ok shown) outcome) c.new.ensures.bytes spec.1;
     }) c.outcome_with.ensures

@@ -3,8 +3,8 @@ use Rattle.std.specs.Prelude.{flat_map}
 use Rattle.std.specs.Str.Lines.{lines}
 use Rattle.keysym_core.specs.Header.{names_of}
 use Rattle.compose_answer.specs.Parts.{type_parts}
-use Rattle.compose_answer.specs.Refused.{Gives}
-use Rattle.compose_migration.specs.MigrationGives.{table_given}
+use Rattle.compose_answer.specs.Refused.{Returns}
+use Rattle.compose_migration.specs.MigrationReturns.{table_given}
 use Rattle.compose_report.proofs.Results.{ok_map}
 use Rattle.compose_tool.specs.Answers.{AreListsTyped}
 use Rattle.compose_key_lists.specs.Lists.{refused_line, words_in}
@@ -29,10 +29,10 @@ returns g c =
       are_keys = subst (AreWritten (names_of header) words) (sym same)
           (subst (λ ws. AreWritten (names_of header) ws written) given (subst (λ h. AreWritten (names_of h) (map now_of c.deref-2.result.now) written) c.deref.ensures.value c.in_ok-written.ensures));
       answered = answered;
-      is = subst (λ s. Gives (AreListsTyped counts) answered (type_parts header keys s)) c.input-table.ensures
-          (subst (λ ns. Gives (AreListsTyped ns) answered (type_parts header keys (table_given c.input-table.result))) (c.deref-6.ensures.value ∙ c.in_ok-lists.ensures.counts)
-          (subst (λ k. Gives (AreListsTyped c.deref-6.result.now) answered (type_parts header (map now_of k) (table_given c.input-table.result))) c.deref-5.ensures.value
-          (subst (λ h. Gives (AreListsTyped c.deref-6.result.now) answered (type_parts h (map now_of c.deref-5.result.now) (table_given c.input-table.result))) c.deref-4.ensures.value
+      is = subst (λ s. Returns (AreListsTyped counts) answered (type_parts header keys s)) c.input-table.ensures
+          (subst (λ ns. Returns (AreListsTyped ns) answered (type_parts header keys (table_given c.input-table.result))) (c.deref-6.ensures.value ∙ c.in_ok-lists.ensures.counts)
+          (subst (λ k. Returns (AreListsTyped c.deref-6.result.now) answered (type_parts header (map now_of k) (table_given c.input-table.result))) c.deref-5.ensures.value
+          (subst (λ h. Returns (AreListsTyped c.deref-6.result.now) answered (type_parts h (map now_of c.deref-5.result.now) (table_given c.input-table.result))) c.deref-4.ensures.value
           c.type_lists-answered.ensures)));
       printed = printed;
       reported = subst (λ k. IsTableOutcome false read (map now_of k) [] [] answered printed) c.deref-8.ensures.value c.in_ok-printed.ensures;

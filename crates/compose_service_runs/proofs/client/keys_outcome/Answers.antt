@@ -8,10 +8,10 @@ use Rattle.compose_service_runs.proofs.client.keys_outcome.Goals as goal
 pub returns : goal.returns
 returns g c =
     let verbose = c.args.verbose in let are_files = c.args.are_files in
-    ok_map (IsWorded (not are_files) c.tells_lines-detailed.result c.of-given.result (Err c.args.refusal))
+    ok_map (IsWorded (not are_files) c.wants_lines-detailed.result c.of-given.result (Err c.args.refusal))
     (IsKeysReported verbose are_files c.args.names.now (map (λ key. key.now) c.args.keys.now) c.args.refusal) c.worded_outcome.result
     (λ outcome worded. record {
       given = c.of-given.result;
       parts = c.of-given.ensures [] tt;
-      worded = subst (λ d. IsWorded (not are_files) d c.of-given.result (Err c.args.refusal) outcome) c.tells_lines-detailed.ensures worded;
+      worded = subst (λ d. IsWorded (not are_files) d c.of-given.result (Err c.args.refusal) outcome) c.wants_lines-detailed.ensures worded;
     }) c.worded_outcome.ensures

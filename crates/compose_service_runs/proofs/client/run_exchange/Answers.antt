@@ -1,5 +1,5 @@
 use Rattle.std.proofs.Common.{◌∙◌, ap, ℕ, List}
-use Rattle.compose_session.specs.Told.{reported}
+use Rattle.compose_session.specs.ReplyLine.{reported}
 use Rattle.compose_wire.specs.declared.reply.Reply.{Reply}
 use Rattle.compose_wire.specs.declared.request.Request.{Request}
 use Rattle.compose_service_runs.specs.Turns.{then_turns, turns_of}

@@ -1,6 +1,6 @@
 use Rattle.std.proofs.Common.{◌≡◌, ◌++◌, map, take}
 use Rattle.compose_wire.specs.declared.request.Body.TheVariants.{Key}
-use Rattle.compose_session.specs.Asked.{asks}
+use Rattle.compose_session.specs.AskedSession.{asks}
 use Rattle.compose_session.proofs.asked.push_keys.Given as goal
 
 abbrev pub invariant-loop-key : goal.invariant-loop-key

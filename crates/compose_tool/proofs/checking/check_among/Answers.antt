@@ -3,7 +3,7 @@ use Rattle.compose_model.specs.Certificate.{Certificate}
 use Rattle.compose_cert.specs.Reading.{certificate_of}
 use Rattle.compose_migration.specs.Migration.{or_because}
 use Rattle.compose_check.specs.Input.{no_certificate}
-use Rattle.compose_check.specs.CheckGives.{input_of}
+use Rattle.compose_check.specs.CheckReturns.{input_of}
 use Rattle.compose_answer.specs.Parts.{unread}
 use Rattle.compose_answer.specs.declared.answer.Answer.{Answer}
 use Rattle.compose_answer.specs.Refused.{IsRefused}

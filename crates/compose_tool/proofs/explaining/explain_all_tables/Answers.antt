@@ -1,5 +1,5 @@
 use Rattle.std.proofs.Common.{subst, rules}
-use Rattle.compose_migration.specs.MigrationGives.{parts}
+use Rattle.compose_migration.specs.MigrationReturns.{parts}
 use Rattle.compose_walk.specs.Evidence.{AreDifferences}
 use Rattle.compose_answer.specs.Parts.{Explainable}
 use Rattle.compose_tool.proofs.FreshKeysyms.{taken}
@@ -21,4 +21,4 @@ returns g c =
     let e : Explainable = record { move = move; fresh = fresh } in
     let are = AreDifferences move.names fresh move.old move.new in
     let ok = taken are move.old fresh e c.differences.result c.in_ok-found.found c.in_ok-found.was c.differences.ensures.bad_fresh c.differences.ensures.too_many c.in_ok-found.ensures.answer in
-    (e, ok.0, record { differences = c.in_ok-found.found; are = ok.1; some = λ none. (let e = c.is_empty.ensures.1 none in let f = c.if-is_empty.false in cc); is = c.in_ok-tell_all.ensures })
+    (e, ok.0, record { differences = c.in_ok-found.found; are = ok.1; some = λ none. (let e = c.is_empty.ensures.1 none in let f = c.if-is_empty.false in cc); is = c.in_ok-print_differences.ensures })

@@ -1,9 +1,9 @@
 use Rattle.std.proofs.Common.{rules, sym, ◌∙◌, ap, subst, nat_cmp}
 use Rattle.std.specs.Prelude.{Result}
 use Rattle.compose_model.specs.Nodes.{rising}
-use Rattle.compose_migration.specs.MigrationGives.{given_of, parts}
+use Rattle.compose_migration.specs.MigrationReturns.{given_of, parts}
 use Rattle.compose_answer.specs.Parts.{NoAnswer, Explainable, explain_parts}
-use Rattle.compose_answer.specs.Refused.{Gives}
+use Rattle.compose_answer.specs.Refused.{Returns}
 use Rattle.compose_tool.specs.Answers.{IsExplained}
 use Rattle.compose_tool.proofs.Steps.{refusal_gives, explain_refused, explain_read}
 use Rattle.compose_tool.proofs.explaining.explain_migration.Goals as goal
@@ -17,6 +17,6 @@ pub returns : goal.returns
 returns g c =
     let given = given_of c.args.input.now in
     let move = parts g.T.ComposeTable.definitions c.in_ok-migration.migration in
-    subst (λ (s : Result Explainable NoAnswer). Gives IsExplained c.explain_tables.result s)
+    subst (λ (s : Result Explainable NoAnswer). Returns IsExplained c.explain_tables.result s)
     (sym
     (explain_read given move c.in_ok-migration.ensures c.deref-2.result.now (c.deref-2.ensures.value ∙ c.in_ok-fresh.ensures ∙ ap (rising nat_cmp) c.deref.ensures.value))) c.explain_tables.ensures

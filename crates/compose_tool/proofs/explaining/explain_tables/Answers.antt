@@ -1,19 +1,19 @@
 use Rattle.std.proofs.Common.{subst, rules}
-use Rattle.compose_migration.specs.MigrationGives.{parts}
+use Rattle.compose_migration.specs.MigrationReturns.{parts}
 use Rattle.compose_walk.specs.Walks.{IsWalk}
 use Rattle.compose_answer.specs.Parts.{Explainable}
 use Rattle.compose_tool.proofs.FreshKeysyms.{taken}
 use Rattle.compose_tool.proofs.explaining.explain_tables.Goals as goal
 
-pub returns-in_ok-tell-in-Differs : goal.returns-in_ok-tell-in-Differs
-returns-in_ok-tell-in-Differs g c =
+pub returns-in_ok-counterexample_text-in-Differs : goal.returns-in_ok-counterexample_text-in-Differs
+returns-in_ok-counterexample_text-in-Differs g c =
     let move = parts g.T.ComposeTable.definitions c.args.migration.now in
     let fresh = c.args.fresh.now in
     let e : Explainable = record { move = move; fresh = fresh } in
     let is_walk = IsWalk move.names fresh move.old move.new in
     let ok = taken is_walk move.old fresh e c.walk.result c.in_ok-found.found c.in_ok-found.was c.walk.ensures.bad_fresh c.walk.ensures.too_many c.in_ok-found.ensures.answer in
     let least = subst is_walk c.in-Differs.is ok.1 in
-    (e, ok.0, record { differs = least.0; evidence = c.in-Differs.least; least = least.1; is = c.in_ok-tell-in-Differs.ensures })
+    (e, ok.0, record { differs = least.0; evidence = c.in-Differs.least; least = least.1; is = c.in_ok-counterexample_text-in-Differs.ensures })
 
 pub returns-in_ok-from_str-in-Follows : goal.returns-in_ok-from_str-in-Follows
 returns-in_ok-from_str-in-Follows g c =

@@ -1,9 +1,9 @@
 use Rattle.std.proofs.Common.{rules, sym, ◌∙◌, ap, subst, nat_cmp}
 use Rattle.std.specs.Prelude.{Result}
 use Rattle.compose_model.specs.Nodes.{rising}
-use Rattle.compose_migration.specs.MigrationGives.{parts}
+use Rattle.compose_migration.specs.MigrationReturns.{parts}
 use Rattle.compose_answer.specs.Parts.{NoAnswer, Needs}
-use Rattle.compose_answer.specs.Refused.{Gives}
+use Rattle.compose_answer.specs.Refused.{Returns}
 use Rattle.compose_tool.specs.Answers.{IsMadeText, needs_of}
 use Rattle.compose_tool.proofs.Steps.{refusal_gives, repertoire_refused, needs_read}
 use Rattle.compose_tool.proofs.making.make_from.Goals as goal
@@ -17,7 +17,7 @@ returns-in_err-repertoire g c =
 pub returns : goal.returns
 returns g c =
     let move = parts g.T.ComposeTable.definitions c.args.migration.now in
-    subst (λ (s : Result Needs NoAnswer). Gives IsMadeText c.tell_made.result s)
+    subst (λ (s : Result Needs NoAnswer). Returns IsMadeText c.print_made.result s)
     (sym
     (needs_read move c.args.repertoire.now c.in_ok-repertoire.repertoire c.in_ok-repertoire.ensures c.deref-2.result.now
-    (c.deref-2.ensures.value ∙ c.in_ok-fresh.ensures ∙ ap (rising nat_cmp) c.deref.ensures.value))) c.tell_made.ensures
+    (c.deref-2.ensures.value ∙ c.in_ok-fresh.ensures ∙ ap (rising nat_cmp) c.deref.ensures.value))) c.print_made.ensures

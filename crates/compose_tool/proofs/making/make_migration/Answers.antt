@@ -1,8 +1,8 @@
 use Rattle.std.proofs.Common.{rules, sym, subst}
 use Rattle.std.specs.Prelude.{Result}
-use Rattle.compose_migration.specs.MigrationGives.{given_of, parts}
+use Rattle.compose_migration.specs.MigrationReturns.{given_of, parts}
 use Rattle.compose_answer.specs.Parts.{NoAnswer, Needs, make_parts}
-use Rattle.compose_answer.specs.Refused.{Gives}
+use Rattle.compose_answer.specs.Refused.{Returns}
 use Rattle.compose_tool.specs.Answers.{IsMadeText}
 use Rattle.compose_tool.proofs.Steps.{refusal_gives, make_refused, make_read}
 use Rattle.compose_tool.proofs.making.make_migration.Goals as goal
@@ -16,5 +16,5 @@ returns-in_err-migration g c =
 pub returns : goal.returns
 returns g c =
     let move = parts g.T.ComposeTable.definitions c.in_ok-migration.migration in
-    subst (λ (s : Result Needs NoAnswer). Gives IsMadeText c.make_from.result s)
+    subst (λ (s : Result Needs NoAnswer). Returns IsMadeText c.make_from.result s)
     (sym (make_read (given_of c.args.input.now) move c.in_ok-migration.ensures c.args.repertoire.now)) c.make_from.ensures

@@ -7,5 +7,5 @@ use Rattle.compose_tool.proofs.parts.read_named.Goals as goal
 
 pub returns-in-Err : goal.returns-in-Err
 returns-in-Err c =
-    let said = named c.args.header.now (map (λ word. word.now) c.args.key_names.now) in
-    subst (λ (r : Refusal). IsRefused r (unmoved said)) (sym c.from.ensures) (migration_refused c.in-Err.fault said c.in-Err.ensures)
+    let expected = named c.args.header.now (map (λ word. word.now) c.args.key_names.now) in
+    subst (λ (r : Refusal). IsRefused r (unmoved expected)) (sym c.from.ensures) (migration_refused c.in-Err.fault expected c.in-Err.ensures)

@@ -11,5 +11,5 @@ loop-keysym-preserved g c =
     lines_more c.args.names.now table before c.feed-fed.new.self c.args.keys.now c.loop-keysym.keysym-index k k (string_bytes c.loop-keysym.lines) (fed_line c.feed-fed.result)
     (string_bytes c.push_line.new.lines)
     (typed_lines c.args.names.now table c.args.keys.now) c.loop-keysym-test.true c.keysym-item.is c.feed-fed.ensures.state
-    (line_is c.args.names.now table before k c.feed-fed.result c.feed-fed.ensures.told)
+    (line_is c.args.names.now table before k c.feed-fed.result c.feed-fed.ensures.reported)
     c.in_ok-push_line.ensures c.loop-keysym.invariant

@@ -1,5 +1,5 @@
 use Rattle.std.proofs.Common.{rules, map, ◌∙◌, ap}
-use Rattle.compose_migration.specs.MigrationGives.{named_parts, table_given}
+use Rattle.compose_migration.specs.MigrationReturns.{named_parts, table_given}
 use Rattle.compose_answer.specs.Parts.{type_parts}
 use Rattle.compose_tool.specs.Typed.{typed_lines}
 use Rattle.compose_tool.specs.Answers.{IsTyped}

@@ -2,23 +2,23 @@ use Rattle.std.proofs.Common.{◌≡◌, ◌+◌, ◌∙◌, ap, sym, set, take,
 use Rattle.std.proofs.Math.Seq.{take-length, drop-length}
 use Rattle.compose_tree.specs.declared.edge.NodeEdge.{NodeEdge}
 use Rattle.compose_tree.specs.declared.packed.PackedNode.{PackedNode}
-use Rattle.compose_tree.specs.Rows.{target_number, gathered}
+use Rattle.compose_tree.specs.Rows.{target_number, gathered_rows}
 use Rattle.compose_tree.specs.Packed.{packed_nodes, packed_edges}
 use Rattle.compose_tree.proofs.Gathering.{rows_count, counts_none}
 use Rattle.compose_tree.proofs.PackedLookups.{packed_count}
-use Rattle.compose_tree.proofs.Scattering.{laid, laid_none, laid_all, end_offset, put_at}
+use Rattle.compose_tree.proofs.Scattering.{laid_edges, laid_none, laid_all, end_offset, put_at}
 use Rattle.compose_tree.proofs.packed_table.pack_edges.Goals as goal
 
 pub bounds-nodes-depths : goal.bounds-nodes-depths
 bounds-nodes-depths c =
-    let rows = gathered 0 c.args.depths.now c.args.edges.now in
+    let rows = gathered_rows 0 c.args.depths.now c.args.edges.now in
     let n = ap length c.requires.nodes ∙ packed_count rows 0 in
     omega (arith, n, rows_count 0 c.args.depths.now c.args.edges.now)
 
 pub loop-edge-init : goal.loop-edge-init
 loop-edge-init c =
     let ds = c.args.depths.now in let es = c.args.edges.now in
-    let rows = gathered 0 ds es in
+    let rows = gathered_rows 0 ds es in
     let none : PackedNode = record { depth = 0; first = 0 } in
     let count : (get_or c.args.nodes.now (length ds) none).first ≡ length (packed_edges rows) =
     ap (λ ns. (get_or ns (length ds) none).first) c.requires.nodes ∙ ap (λ n. (get_or (packed_nodes 0 rows) n none).first) (sym (rows_count 0 ds es)) ∙ end_offset rows 0 none
@@ -85,8 +85,8 @@ pub returns : goal.returns
 returns c =
     let ds = c.args.depths.now in let es = c.args.edges.now in let k = c.loop-edge.edge-index in
     let all : k ≡ length es = omega arith in
-    c.loop-edge.invariant.so_far ∙ ap (λ n. laid 0 ds (take n es) (drop n es)) all
-    ∙ ap (λ x. laid 0 ds x (drop (length es) es)) (take-length es) ∙ ap (laid 0 ds es) (drop-length es) ∙ laid_all 0 ds es
+    c.loop-edge.invariant.so_far ∙ ap (λ n. laid_edges 0 ds (take n es) (drop n es)) all
+    ∙ ap (λ x. laid_edges 0 ds x (drop (length es) es)) (take-length es) ∙ ap (laid_edges 0 ds es) (drop-length es) ∙ laid_all 0 ds es
 
 pub pack_edge-requires : goal.pack_edge-requires
 pack_edge-requires c =

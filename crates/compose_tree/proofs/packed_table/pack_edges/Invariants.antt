@@ -1,11 +1,11 @@
 use Rattle.std.proofs.Common.{◌≡◌, take, drop}
-use Rattle.compose_tree.specs.Rows.{counts_of, gathered}
-use Rattle.compose_tree.proofs.Scattering.{laid}
+use Rattle.compose_tree.specs.Rows.{counts_of, gathered_rows}
+use Rattle.compose_tree.proofs.Scattering.{laid_edges}
 use Rattle.compose_tree.proofs.packed_table.pack_edges.Given as goal
 
 -- the edges so far are put, and counted at their nodes
 abbrev pub invariant-loop-edge : goal.invariant-loop-edge
 invariant-loop-edge l = record {
-  so_far : l.packed.items ≡ laid 0 l.fn.depths (take l.edge-index l.edges) (drop l.edge-index l.edges);
-  counted : l.counts.items ≡ counts_of (gathered 0 l.fn.depths (take l.edge-index l.edges));
+  so_far : l.packed.items ≡ laid_edges 0 l.fn.depths (take l.edge-index l.edges) (drop l.edge-index l.edges);
+  counted : l.counts.items ≡ counts_of (gathered_rows 0 l.fn.depths (take l.edge-index l.edges));
 }

@@ -1,15 +1,15 @@
 use Rattle.std.proofs.Common.{◌≡◌, ◌+◌, ◌∙◌, ap, get_or, length, zero-add, arith, rules}
 use Rattle.std.proofs.lemmas.List.{length-map, get_or_default}
-use Rattle.compose_tree.specs.Rows.{NodeRow, gathered, edges_at}
+use Rattle.compose_tree.specs.Rows.{NodeRow, gathered_rows, edges_at}
 use Rattle.compose_tree.specs.Packed.{packed_nodes}
 use Rattle.compose_tree.proofs.Gathering.{rows_count, count_at}
 use Rattle.compose_tree.proofs.Scattering.{nodes_step}
-use Rattle.compose_tree.proofs.Counts.{of_node_and_behind, all_from}
+use Rattle.compose_tree.proofs.Counts.{node_and_later, all_from}
 use Rattle.compose_tree.proofs.packed_table.pack_nodes.Goals as goal
 
 pub index-requires : goal.index-requires
 index-requires c =
-    let rows = gathered 0 c.args.depths.now c.args.edges.now in
+    let rows = gathered_rows 0 c.args.depths.now c.args.edges.now in
     let n = ap length c.in_ok-counts.ensures ∙ length-map rows (λ (row : NodeRow). length row.edges) ∙ rows_count 0 c.args.depths.now c.args.edges.now in
     omega (arith, n)
 
@@ -25,7 +25,7 @@ overflow_add-offset c =
     let count : c.index.result.now ≡ length (edges_at (0 + k) es) =
     c.index.ensures ∙ ap (λ counts. get_or counts k c.index.result.now) c.in_ok-counts.ensures ∙ count_at 0 k c.index.result.now ds es c.loop-index-test.true in
     let same = ap (λ i. length (edges_at i es)) (zero-add k) in
-    let left = of_node_and_behind k es in
+    let left = node_and_later k es in
     omega (arith, count, same, left, c.loop-index.invariant.left, c.requires.few)
 
 pub loop-index-preserved : goal.loop-index-preserved
@@ -38,7 +38,7 @@ loop-index-preserved c =
     record {
       nodes =
           nodes_step ds es k c.loop-index.offset (c.loop-index.offset + c.index.result.now) (get_or ds k 0)
-          (packed_nodes 0 (gathered 0 ds es)) c.loop-index.nodes.items c.push.new.self.items c.loop-index-test.true
+          (packed_nodes 0 (gathered_rows 0 ds es)) c.loop-index.nodes.items c.push.new.self.items c.loop-index-test.true
           (get_or_default ds k 0 (get_or ds k 0) c.loop-index-test.true) next c.in_ok-push.ensures.items c.loop-index.invariant.nodes;
-      left = (let left = of_node_and_behind k es in omega (arith, next, left, c.loop-index.invariant.left));
+      left = (let left = node_and_later k es in omega (arith, next, left, c.loop-index.invariant.left));
     }

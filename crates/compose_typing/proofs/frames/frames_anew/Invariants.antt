@@ -1,5 +1,5 @@
 use Rattle.std.proofs.Common.{◌≡◌, ◌+◌, ◌*◌, length, take}
-use Rattle.compose_typing.specs.Typing.{sent, typed_anew}
+use Rattle.compose_typing.specs.TypingSession.{sent, typed_anew}
 use Rattle.compose_typing.proofs.frames.frames_anew.Given as goal
 
 -- a Reset and the keys so far

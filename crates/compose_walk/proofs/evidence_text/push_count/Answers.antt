@@ -1,5 +1,5 @@
 use Rattle.std.proofs.Common.{string_bytes}
-use Rattle.compose_walk.proofs.Told.{counts}
+use Rattle.compose_walk.proofs.Reported.{counts}
 use Rattle.compose_walk.proofs.evidence_text.push_count.Goals as goal
 
 pub returns : goal.returns

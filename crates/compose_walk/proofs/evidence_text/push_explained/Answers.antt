@@ -1,7 +1,7 @@
 use Rattle.std.proofs.Common.{◌∙◌, ap, string_bytes}
 use Rattle.compose_walk.specs.Evidence.{Evidence}
 use Rattle.compose_walk.specs.Explained.{kind_word}
-use Rattle.compose_walk.proofs.Told.{four_lines}
+use Rattle.compose_walk.proofs.Reported.{four_lines}
 use Rattle.compose_walk.proofs.evidence_text.push_explained.Goals as goal
 
 pub returns : goal.returns

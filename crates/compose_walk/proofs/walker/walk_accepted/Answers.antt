@@ -1,7 +1,7 @@
 use Rattle.std.proofs.Common.{List, length, get_or, sym, ◌∙◌, ap, subst, arith, eqb-true, vec_len}
 use Rattle.std.specs.List.{IsFirstBest}
 use Rattle.std.proofs.lemmas.List.{nil_from_length}
-use Rattle.compose_walk.specs.Stands.{comes_sooner, stand_pairs}
+use Rattle.compose_walk.specs.Stands.{comes_sooner, partner_pairs}
 use Rattle.compose_walk.specs.declared.pass.Found.{Found}
 use Rattle.compose_walk.proofs.Founds.{place_of, first_is_least, none_is_follower, chosen_found}
 use Rattle.compose_walk.proofs.walker.walk_accepted.Goals as goal
@@ -12,7 +12,7 @@ returns-then-is_empty g c =
     none_is_follower c.args.names.now c.args.fresh.now (g.T.ComposeTable.definitions c.args.old.now)
     (g.U.ComposeTable.definitions c.args.new.now) c.node_count.ensures.settled.definitions c.node_count-2.ensures.settled.definitions c.requires
     (sym c.in_ok-pass.ensures.found ∙ nil_from_length c.in_ok-pass.pass.found.items (omega (arith, c.in_ok-pass.pass.found.ok.0)))
-    c.in_ok-pairs_of.field-0 (c.in_ok-pairs_of.ensures.pairs ∙ ap (stand_pairs 0) (c.deref.ensures.value ∙ c.in_ok-pass.ensures.stands))
+    c.in_ok-pairs_of.field-0 (c.in_ok-pairs_of.ensures.pairs ∙ ap (partner_pairs 0) (c.deref.ensures.value ∙ c.in_ok-pass.ensures.stands))
 
 pub evidence-requires-clause-in_range : goal.evidence-requires-clause-in_range
 evidence-requires-clause-in_range g c =

@@ -4,7 +4,7 @@ use Rattle.std.specs.List.{list_any}
 use Rattle.keysym_core.specs.Names.{CharacterRow}
 use Rattle.keysym_core.specs.GivenCharacters.{rank, is_entry}
 use Rattle.keysym_core.specs.Next.{IsLeastFrom}
-use Rattle.keysym_core.proofs.Index.{none_behind, none_of_another, least_at_index}
+use Rattle.keysym_core.proofs.Index.{none_later, none_of_another, least_at_index}
 use Rattle.keysym_core.proofs.character_index.next_given.Goals as goal
 
 pub returns-in_err-entry : goal.returns-in_err-entry
@@ -14,7 +14,7 @@ returns-in_err-entry c =
     (λ (e : CharacterRow). ltb (rank e) (c.args.character * 0x1_0000_0000 + c.args.low)) c.args.entries.now c.partition_point-index.result c.partition_point-index.ensures.partitioned
     (IsPartitionedBy-ltb rank c.args.entries.now (c.args.character * 0x1_0000_0000 + c.args.low) c.requires.sorted) (λ a r q k. search rules) in
     let past : length c.args.entries.now ≤ c.partition_point-index.result = search rules in
-    let none = none_behind c.args.entries.now (record { value = 0; character = 0 }) c.args.character c.args.low c.partition_point-index.result c.requires.sorted c.requires.keysyms split past in
+    let none = none_later c.args.entries.now (record { value = 0; character = 0 }) c.args.character c.args.low c.partition_point-index.result c.requires.sorted c.requires.keysyms split past in
     subst (IsLeastFrom c.args.low (λ k. list_any (is_entry c.args.character k) c.args.entries.now ≡ true)) (sym c.from_residual.ensures) none
 
 pub returns-then-entry-character : goal.returns-then-entry-character

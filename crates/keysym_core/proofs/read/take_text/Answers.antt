@@ -1,6 +1,6 @@
 use Rattle.std.proofs.Common.{◌∙◌, ap, sym, subst, cond, None, drop, length}
 use Rattle.std.specs.Prelude.{Ok}
-use Rattle.keysym_core.specs.Header.{define, entry_of, with_entry, ChangeGives}
+use Rattle.keysym_core.specs.Header.{define, entry_of, with_entry, ChangeReturns}
 use Rattle.keysym_core.proofs.read.take_text.Goals as goal
 
 pub returns-in-Some-entry_of : goal.returns-in-Some-entry_of
@@ -9,7 +9,7 @@ returns-in-Some-entry_of c =
     let defined = ap (λ b. cond b (with_entry names c.args.line (cond b (entry_of (drop (length define) c.args.bytes.now)) None)) (Ok names)) c.in-Some.ensures.cases.0
     ∙ ap (λ d. with_entry names c.args.line (entry_of d)) (sym c.in-Some.ensures.cases.1)
     ∙ ap (with_entry names c.args.line) (sym c.entry_of.ensures ∙ c.in-Some-entry_of.is) in
-    subst (ChangeGives c.take_entry.result c.take_entry.new.table) (sym defined) c.take_entry.ensures
+    subst (ChangeReturns c.take_entry.result c.take_entry.new.table) (sym defined) c.take_entry.ensures
 
 pub returns-in-None-entry_of : goal.returns-in-None-entry_of
 returns-in-None-entry_of c =

@@ -20,7 +20,7 @@ pub slots-init : goal.slots-init
 slots-init g c =
     let is : c.deref_mut-slot-items.result.now ≡ c.args.self.now.slots.items = c.deref_mut-slot-items.ensures.value in
     record {
-      goes_on = λ reading state told first s. subst (λ (now : List (Option Client)). ServedSoFar c.args.limits reading first (at_now state (g.N.Streams.stream c.args.sockets.now) told) c.args.self.now.accepted now) (sym is) s;
+      goes_on = λ reading state reported first s. subst (λ (now : List (Option Client)). ServedSoFar c.args.limits reading first (at_now state (g.N.Streams.stream c.args.sockets.now) reported) c.args.self.now.accepted now) (sym is) s;
       rooms = λ all. subst (λ (now : List (Option Client)). AreWithinRooms now) (sym is) all;
       ahead = λ key le. ap (λ (now : List (Option Client)). get_or now key None) is;
       tried = λ waits below. inr (record { attempts = refl; queue = c.retried-self.ensures; accepted = refl; none_free = refl });
@@ -37,8 +37,8 @@ slots-preserved-then-not-is_wanted g c =
     in
     let same = sym (set-get_or c.slots.slot-items c.slots.key c.slot-item.result) in
     record {
-      goes_on = λ reading state told first s. subst (λ (now : List (Option Client)). ServedSoFar c.args.limits reading first (at_now state (g.N.Streams.stream c.slots.sockets) told) c.slots.self.1.1.0 now)
-          same (c.slots.invariant.goes_on reading state told first s);
+      goes_on = λ reading state reported first s. subst (λ (now : List (Option Client)). ServedSoFar c.args.limits reading first (at_now state (g.N.Streams.stream c.slots.sockets) reported) c.slots.self.1.1.0 now)
+          same (c.slots.invariant.goes_on reading state reported first s);
       rooms = subst (λ (now : List (Option Client)). KeepsRooms c.args.self.now.slots.items now) same c.slots.invariant.rooms;
       ahead = subst (λ (now : List (Option Client)). (key : ℕ) → c.slots.key + 1 ≤ key → get_or now key None ≡ get_or c.args.self.now.slots.items key None) same
           (λ key le. c.slots.invariant.ahead key (omega (arith, le)));
@@ -52,8 +52,8 @@ slots-preserved g c =
     let wanted = both_hold (is_none slot) (is_wanted c.slots.self.1.1.1.0 c.slots.self.1.1.0 c.args.limits) (sym c.is_wanted.ensures ∙ c.if-not-is_wanted.false) in
     let some = both_hold (is_waits c.slots.self.1.1.1.0) (nat_lt c.slots.self.1.1.0 c.args.limits.connections) wanted.1 in
     record {
-      goes_on = λ reading state told first s. slot_accepted c.args.limits reading first state (g.N.Streams.stream c.slots.sockets) (g.N.Streams.stream c.accept_into-self.new.sockets) told c.slots.self.1.1.0
-          c.accept_into-self.new.accepted c.slots.slot-items c.slots.key slot c.accept_into-self.new.slot lt (c.slots.invariant.goes_on reading state told first s)
+      goes_on = λ reading state reported first s. slot_accepted c.args.limits reading first state (g.N.Streams.stream c.slots.sockets) (g.N.Streams.stream c.accept_into-self.new.sockets) reported c.slots.self.1.1.0
+          c.accept_into-self.new.accepted c.slots.slot-items c.slots.key slot c.accept_into-self.new.slot lt (c.slots.invariant.goes_on reading state reported first s)
           (ltb-true c.slots.self.1.1.0 c.args.limits.connections some.1) (free_is slot wanted.0) (get_or_default c.slots.slot-items c.slots.key c.slot-item.result slot lt)
           (keeps (c.slots.self.1.1.0 + 1) (g.N.Streams.stream c.slots.sockets) (g.N.Streams.stream c.accept_into-self.new.sockets) c.accept_into-self.ensures.stay) c.accept_into-self.ensures.accepts;
       rooms = λ all. rooms_set c.slots.slot-items c.slots.key c.accept_into-self.new.slot lt c.slot-item.result (c.slots.invariant.rooms all) c.accept_into-self.ensures.room;
@@ -62,10 +62,10 @@ slots-preserved g c =
     }
 
 pub returns-clause-goes_on : goal.returns-clause-goes_on
-returns-clause-goes_on g c reading state told first s =
+returns-clause-goes_on g c reading state reported first s =
     let len : length c.slots.slot-items ≡ c.args.self.now.slots.len = omega arith in
-    subst (λ (now : List (Option Client)). ServedSoFar c.args.limits reading first (at_now state (g.N.Streams.stream c.slots.sockets) told) c.slots.self.1.1.0 now)
-    (sym (take_at _ _ _ len)) (c.slots.invariant.goes_on reading state told first s)
+    subst (λ (now : List (Option Client)). ServedSoFar c.args.limits reading first (at_now state (g.N.Streams.stream c.slots.sockets) reported) c.slots.self.1.1.0 now)
+    (sym (take_at _ _ _ len)) (c.slots.invariant.goes_on reading state reported first s)
 
 pub returns-clause-rooms : goal.returns-clause-rooms
 returns-clause-rooms g c =

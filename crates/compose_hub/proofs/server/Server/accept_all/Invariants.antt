@@ -2,7 +2,7 @@ use Rattle.std.proofs.Common.{◌≡◌, ℕ, ◌≤◌, Option, List, true, get
 use Rattle.std.specs.Prelude.{None, nat_lt}
 use Rattle.compose_machine.specs.Machine.{Reading}
 use Rattle.compose_hub.specs.Turns.{OwnedService}
-use Rattle.compose_hub.specs.Ends.{ToldEnd}
+use Rattle.compose_hub.specs.Ends.{ReportedEnd}
 use Rattle.compose_hub.specs.Serving.{at_now, GoesOnServing}
 use Rattle.compose_hub.specs.Rounds.{KeepsRooms, is_waits, retried}
 use Rattle.compose_hub.proofs.Trying.{Tried}
@@ -10,9 +10,9 @@ use Rattle.compose_hub.proofs.server.Server.accept_all.Given as goal
 
 abbrev pub invariant-slots : goal.invariant-slots
 invariant-slots g l = record {
-  goes_on : (reading : Reading) (state : OwnedService) (told : Option (List ToldEnd))
-      → GoesOnServing l.limits reading (at_now state (g.N.Streams.stream l.fn.sockets) told)
-      (at_now state (g.N.Streams.stream l.sockets) told) l.fn.self.accepted l.self.1.1.0 l.fn.self.slots.items l.slot-items;
+  goes_on : (reading : Reading) (state : OwnedService) (reported : Option (List ReportedEnd))
+      → GoesOnServing l.limits reading (at_now state (g.N.Streams.stream l.fn.sockets) reported)
+      (at_now state (g.N.Streams.stream l.sockets) reported) l.fn.self.accepted l.self.1.1.0 l.fn.self.slots.items l.slot-items;
   rooms : KeepsRooms l.fn.self.slots.items l.slot-items;
   ahead : (key : ℕ) → l.key ≤ key → get_or l.slot-items key None ≡ get_or l.fn.self.slots.items key None;
   tried : is_waits (retried l.fn.self.queue) ≡ true → nat_lt l.fn.self.accepted l.limits.connections ≡ true

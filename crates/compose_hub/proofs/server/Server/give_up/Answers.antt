@@ -5,31 +5,31 @@ use Rattle.compose_hub.specs.Serving.{at_now, ServedSoFar}
 use Rattle.compose_hub.specs.Rounds.{AreWithinRooms, KeepsRooms}
 use Rattle.compose_hub.proofs.Rooms.{rooms_set}
 use Rattle.compose_hub.specs.declared.client.Client.{Client}
-use Rattle.compose_hub.proofs.Serving.{slot_gives_up, slot_closes, slot_goes_on, slot_fails, tells, not_told_end}
+use Rattle.compose_hub.proofs.Serving.{slot_gives_up, slot_closes, slot_goes_on, slot_fails, reports, not_reported_end}
 use Rattle.compose_hub.proofs.server.Server.give_up.Goals as goal
 
 pub returns-in_err-tell-clause-happened : goal.returns-in_err-tell-clause-happened
 returns-in_err-tell-clause-happened g c first s =
     let lt : c.slots.slot-index < length c.slots.slot-items = omega arith in
-    let old = owned (g.A.Answer.state c.slots.service) c.slots.self.1.1.1.1.0.items in
-    let new = owned (g.A.Answer.state c.close_sessions.new.service) c.close_sessions.new.owners.items in
-    slot_fails c.args.limits g.A.Answer.reading first old new (g.N.Streams.stream c.slots.sockets)
-    (g.N.Streams.stream c.give_up-ended.new.sockets) (g.E.Report.told c.slots.report) (g.E.Report.told c.tell.new.report) c.args.self.now.accepted c.slots.slot-items (c.slots.invariant.goes_on first s)
+    let old = owned (g.A.Responder.state c.slots.service) c.slots.self.1.1.1.1.0.items in
+    let new = owned (g.A.Responder.state c.close_sessions.new.service) c.close_sessions.new.owners.items in
+    slot_fails c.args.limits g.A.Responder.reading first old new (g.N.Streams.stream c.slots.sockets)
+    (g.N.Streams.stream c.give_up-ended.new.sockets) (g.E.EndReport.reported c.slots.report) (g.E.EndReport.reported c.tell.new.report) c.args.self.now.accepted c.slots.slot-items (c.slots.invariant.goes_on first s)
     c.slots.slot-index c.give_up-ended.new.slot lt c.slot-item.result c.give_up-ended.result
-    (slot_closes c.args.limits g.A.Answer.reading old old new _ _ _ _ c.args.limits.own_sessions c.give_up-ended.result c.close_sessions.ensures
-    (slot_gives_up c.args.limits _ _ g.A.Answer.reading old _ _ _ _ _ c.give_up-ended.ensures.gives_up)) (not_told_end _ _ _ _ _ _ c.in_err-tell.ensures)
+    (slot_closes c.args.limits g.A.Responder.reading old old new _ _ _ _ c.args.limits.own_sessions c.give_up-ended.result c.close_sessions.ensures
+    (slot_gives_up c.args.limits _ _ g.A.Responder.reading old _ _ _ _ _ c.give_up-ended.ensures.gives_up)) (not_reported_end _ _ _ _ _ _ c.in_err-tell.ensures)
 
 pub slots-preserved : goal.slots-preserved
 slots-preserved g c =
     let lt : c.slots.slot-index < length c.slots.slot-items = omega arith in
-    let old = owned (g.A.Answer.state c.slots.service) c.slots.self.1.1.1.1.0.items in
-    let new = owned (g.A.Answer.state c.close_sessions.new.service) c.close_sessions.new.owners.items in
+    let old = owned (g.A.Responder.state c.slots.service) c.slots.self.1.1.1.1.0.items in
+    let new = owned (g.A.Responder.state c.close_sessions.new.service) c.close_sessions.new.owners.items in
     record {
-      goes_on = λ first s. slot_goes_on c.args.limits g.A.Answer.reading first old new (g.N.Streams.stream c.slots.sockets)
-          (g.N.Streams.stream c.give_up-ended.new.sockets) (g.E.Report.told c.slots.report) (g.E.Report.told c.tell.new.report) c.args.self.now.accepted c.slots.slot-items (c.slots.invariant.goes_on first s)
+      goes_on = λ first s. slot_goes_on c.args.limits g.A.Responder.reading first old new (g.N.Streams.stream c.slots.sockets)
+          (g.N.Streams.stream c.give_up-ended.new.sockets) (g.E.EndReport.reported c.slots.report) (g.E.EndReport.reported c.tell.new.report) c.args.self.now.accepted c.slots.slot-items (c.slots.invariant.goes_on first s)
           c.slots.slot-index c.give_up-ended.new.slot lt c.slot-item.result c.give_up-ended.result
-          (slot_closes c.args.limits g.A.Answer.reading old old new _ _ _ _ c.args.limits.own_sessions c.give_up-ended.result c.close_sessions.ensures
-          (slot_gives_up c.args.limits _ _ g.A.Answer.reading old _ _ _ _ _ c.give_up-ended.ensures.gives_up)) (tells _ _ _ _ _ _ c.in_ok-tell.ensures);
+          (slot_closes c.args.limits g.A.Responder.reading old old new _ _ _ _ c.args.limits.own_sessions c.give_up-ended.result c.close_sessions.ensures
+          (slot_gives_up c.args.limits _ _ g.A.Responder.reading old _ _ _ _ _ c.give_up-ended.ensures.gives_up)) (reports _ _ _ _ _ _ c.in_ok-tell.ensures);
       rooms = λ all. rooms_set c.slots.slot-items c.slots.slot-index c.give_up-ended.new.slot lt c.slot-item.result (c.slots.invariant.rooms all) c.give_up-ended.ensures.room;
     }
 
@@ -47,7 +47,7 @@ returns-clause-happened g c first s = (c.slots.invariant.goes_on first s).so_far
 pub returns-clause-goes_on : goal.returns-clause-goes_on
 returns-clause-goes_on g c first s =
     let len : length c.slots.slot-items ≡ c.args.self.now.slots.len = omega arith in
-    subst (λ (now : List (Option Client)). ServedSoFar c.args.limits g.A.Answer.reading first (at_now (owned (g.A.Answer.state c.slots.service) c.slots.self.1.1.1.1.0.items) (g.N.Streams.stream c.slots.sockets) (g.E.Report.told c.slots.report)) c.args.self.now.accepted now)
+    subst (λ (now : List (Option Client)). ServedSoFar c.args.limits g.A.Responder.reading first (at_now (owned (g.A.Responder.state c.slots.service) c.slots.self.1.1.1.1.0.items) (g.N.Streams.stream c.slots.sockets) (g.E.EndReport.reported c.slots.report)) c.args.self.now.accepted now)
     (sym (take_at _ _ _ len)) (c.slots.invariant.goes_on first s)
 
 pub returns-clause-rooms : goal.returns-clause-rooms

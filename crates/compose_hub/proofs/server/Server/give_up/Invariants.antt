@@ -6,7 +6,7 @@ use Rattle.compose_hub.proofs.server.Server.give_up.Given as goal
 abbrev pub invariant-slots : goal.invariant-slots
 invariant-slots g l = record {
   goes_on :
-      GoesOnServing l.limits g.A.Answer.reading (at_now (owned (g.A.Answer.state l.fn.service) l.fn.self.owners.items) (g.N.Streams.stream l.fn.sockets) (g.E.Report.told l.fn.report))
-      (at_now (owned (g.A.Answer.state l.service) l.self.1.1.1.1.0.items) (g.N.Streams.stream l.sockets) (g.E.Report.told l.report)) l.fn.self.accepted l.fn.self.accepted l.fn.self.slots.items l.slot-items;
+      GoesOnServing l.limits g.A.Responder.reading (at_now (owned (g.A.Responder.state l.fn.service) l.fn.self.owners.items) (g.N.Streams.stream l.fn.sockets) (g.E.EndReport.reported l.fn.report))
+      (at_now (owned (g.A.Responder.state l.service) l.self.1.1.1.1.0.items) (g.N.Streams.stream l.sockets) (g.E.EndReport.reported l.report)) l.fn.self.accepted l.fn.self.accepted l.fn.self.slots.items l.slot-items;
   rooms : KeepsRooms l.fn.self.slots.items l.slot-items;
 }

@@ -7,39 +7,39 @@ use Rattle.compose_hub.specs.Rounds.{AreWithinRooms, KeepsRooms}
 use Rattle.compose_hub.proofs.Rooms.{rooms_set}
 use Rattle.compose_hub.proofs.Rounding.{round_step}
 use Rattle.compose_hub.specs.declared.client.Client.{Client}
-use Rattle.compose_hub.proofs.Serving.{slot_turns, slot_closes, slot_goes_on, slot_fails, tells, not_told_end}
+use Rattle.compose_hub.proofs.Serving.{slot_turns, slot_closes, slot_goes_on, slot_fails, reports, not_reported_end}
 use Rattle.compose_hub.proofs.server.Server.take_turns.Goals as goal
 
 pub returns-in_err-tell-clause-happened : goal.returns-in_err-tell-clause-happened
 returns-in_err-tell-clause-happened g c first s =
     let lt : c.slots.slot-index < length c.slots.slot-items = omega arith in
-    let old = owned (g.A.Answer.state c.slots.service) c.slots.self.1.1.1.1.0.items in
-    let mid = owned (g.A.Answer.state c.serve_slot-ended.new.service) c.serve_slot-ended.new.owners.items in
-    let new = owned (g.A.Answer.state c.close_sessions.new.service) c.close_sessions.new.owners.items in
-    slot_fails c.args.limits g.A.Answer.reading first old new (g.N.Streams.stream c.slots.sockets)
-    (g.N.Streams.stream c.serve_slot-ended.new.sockets) (g.E.Report.told c.slots.report) (g.E.Report.told c.tell.new.report) c.args.self.now.accepted c.slots.slot-items (c.slots.invariant.goes_on first s)
+    let old = owned (g.A.Responder.state c.slots.service) c.slots.self.1.1.1.1.0.items in
+    let mid = owned (g.A.Responder.state c.serve_slot-ended.new.service) c.serve_slot-ended.new.owners.items in
+    let new = owned (g.A.Responder.state c.close_sessions.new.service) c.close_sessions.new.owners.items in
+    slot_fails c.args.limits g.A.Responder.reading first old new (g.N.Streams.stream c.slots.sockets)
+    (g.N.Streams.stream c.serve_slot-ended.new.sockets) (g.E.EndReport.reported c.slots.report) (g.E.EndReport.reported c.tell.new.report) c.args.self.now.accepted c.slots.slot-items (c.slots.invariant.goes_on first s)
     c.slots.slot-index c.serve_slot-ended.new.slot lt c.slot-item.result c.serve_slot-ended.result
-    (slot_closes c.args.limits g.A.Answer.reading old mid new _ _ _ _ c.args.limits.own_sessions c.serve_slot-ended.result c.close_sessions.ensures
-    (slot_turns c.args.limits _ _ _ _ _ _ _ _ _ c.serve_slot-ended.ensures.turns)) (not_told_end _ _ _ _ _ _ c.in_err-tell.ensures)
+    (slot_closes c.args.limits g.A.Responder.reading old mid new _ _ _ _ c.args.limits.own_sessions c.serve_slot-ended.result c.close_sessions.ensures
+    (slot_turns c.args.limits _ _ _ _ _ _ _ _ _ c.serve_slot-ended.ensures.turns)) (not_reported_end _ _ _ _ _ _ c.in_err-tell.ensures)
 
 pub slots-preserved : goal.slots-preserved
 slots-preserved g c =
     let lt : c.slots.slot-index < length c.slots.slot-items = omega arith in
-    let old = owned (g.A.Answer.state c.slots.service) c.slots.self.1.1.1.1.0.items in
-    let mid = owned (g.A.Answer.state c.serve_slot-ended.new.service) c.serve_slot-ended.new.owners.items in
-    let new = owned (g.A.Answer.state c.close_sessions.new.service) c.close_sessions.new.owners.items in
+    let old = owned (g.A.Responder.state c.slots.service) c.slots.self.1.1.1.1.0.items in
+    let mid = owned (g.A.Responder.state c.serve_slot-ended.new.service) c.serve_slot-ended.new.owners.items in
+    let new = owned (g.A.Responder.state c.close_sessions.new.service) c.close_sessions.new.owners.items in
     let i = c.slots.slot-index in
     let slots = c.args.self.now.slots.items in
     let there : get_or c.slots.slot-items i None ≡ get_or slots i None = c.slots.invariant.ahead i (omega arith) in
     let before : get_or slots i None ≡ get_or c.slots.slot-items i c.slot-item.result = sym there ∙ get_or_default c.slots.slot-items i None c.slot-item.result lt in
     record {
-      goes_on = λ first s. slot_goes_on c.args.limits g.A.Answer.reading first old new (g.N.Streams.stream c.slots.sockets)
-          (g.N.Streams.stream c.serve_slot-ended.new.sockets) (g.E.Report.told c.slots.report) (g.E.Report.told c.tell.new.report) c.args.self.now.accepted c.slots.slot-items (c.slots.invariant.goes_on first s)
+      goes_on = λ first s. slot_goes_on c.args.limits g.A.Responder.reading first old new (g.N.Streams.stream c.slots.sockets)
+          (g.N.Streams.stream c.serve_slot-ended.new.sockets) (g.E.EndReport.reported c.slots.report) (g.E.EndReport.reported c.tell.new.report) c.args.self.now.accepted c.slots.slot-items (c.slots.invariant.goes_on first s)
           c.slots.slot-index c.serve_slot-ended.new.slot lt c.slot-item.result c.serve_slot-ended.result
-          (slot_closes c.args.limits g.A.Answer.reading old mid new _ _ _ _ c.args.limits.own_sessions c.serve_slot-ended.result c.close_sessions.ensures
-          (slot_turns c.args.limits _ _ _ _ _ _ _ _ _ c.serve_slot-ended.ensures.turns)) (tells _ _ _ _ _ _ c.in_ok-tell.ensures);
+          (slot_closes c.args.limits g.A.Responder.reading old mid new _ _ _ _ c.args.limits.own_sessions c.serve_slot-ended.result c.close_sessions.ensures
+          (slot_turns c.args.limits _ _ _ _ _ _ _ _ _ c.serve_slot-ended.ensures.turns)) (reports _ _ _ _ _ _ c.in_ok-tell.ensures);
       round =
-          round_step c.args.limits.own_sessions c.args.limits.unsent g.A.Answer.reading slots i (owned (g.A.Answer.state c.args.service.now) c.args.self.now.owners.items) old mid new
+          round_step c.args.limits.own_sessions c.args.limits.unsent g.A.Responder.reading slots i (owned (g.A.Responder.state c.args.service.now) c.args.self.now.owners.items) old mid new
           (g.N.Streams.stream c.args.sockets.now) (g.N.Streams.stream c.slots.sockets) (g.N.Streams.stream c.serve_slot-ended.new.sockets) c.serve_slot-ended.new.time (get_or c.slots.slot-items i c.slot-item.result)
           c.serve_slot-ended.new.slot c.serve_slot-ended.result (omega arith) before c.slots.invariant.round c.serve_slot-ended.ensures.turns c.close_sessions.ensures;
       ahead = λ key le. get_or-set_other c.slots.slot-items i key c.serve_slot-ended.new.slot None (λ same. absurd (omega (arith, same, le))) ∙ c.slots.invariant.ahead key (omega (arith, le));
@@ -61,7 +61,7 @@ pub returns-clause-goes_on : goal.returns-clause-goes_on
 returns-clause-goes_on g c first s =
     let len : length c.slots.slot-items ≡ c.args.self.now.slots.len = omega arith in
     subst
-    (λ (now : List (Option Client)). ServedSoFar c.args.limits g.A.Answer.reading first (at_now (owned (g.A.Answer.state c.slots.service) c.slots.self.1.1.1.1.0.items) (g.N.Streams.stream c.slots.sockets) (g.E.Report.told c.slots.report)) c.args.self.now.accepted now)
+    (λ (now : List (Option Client)). ServedSoFar c.args.limits g.A.Responder.reading first (at_now (owned (g.A.Responder.state c.slots.service) c.slots.self.1.1.1.1.0.items) (g.N.Streams.stream c.slots.sockets) (g.E.EndReport.reported c.slots.report)) c.args.self.now.accepted now)
     (sym (take_at _ _ _ len)) (c.slots.invariant.goes_on first s)
 
 pub returns-clause-rooms : goal.returns-clause-rooms
@@ -72,7 +72,7 @@ returns-clause-rooms g c =
 pub returns-clause-round : goal.returns-clause-round
 returns-clause-round g c =
     subst
-    (λ (slots : List (Option Client)). AreRound c.args.limits.own_sessions c.args.limits.unsent g.A.Answer.reading
-    (owned (g.A.Answer.state c.args.service.now) c.args.self.now.owners.items) (owned (g.A.Answer.state c.slots.service) c.slots.self.1.1.1.1.0.items) (g.N.Streams.stream c.args.sockets.now)
+    (λ (slots : List (Option Client)). AreRound c.args.limits.own_sessions c.args.limits.unsent g.A.Responder.reading
+    (owned (g.A.Responder.state c.args.service.now) c.args.self.now.owners.items) (owned (g.A.Responder.state c.slots.service) c.slots.self.1.1.1.1.0.items) (g.N.Streams.stream c.args.sockets.now)
     (g.N.Streams.stream c.slots.sockets) (with_turn slots))
     (take_all c.slots.slot-index c.args.self.now.slots.items (omega arith)) c.slots.invariant.round

@@ -1,6 +1,6 @@
 use Rattle.std.proofs.Common.{◌∙◌, ◌++◌, ◌∷◌, [], ap, string_bytes}
-use Rattle.compose_read.specs.Rows.{Drafted, with_row}
-use Rattle.compose_read.proofs.Pools.{with_keysym, drafted_keysym}
+use Rattle.compose_read.specs.Rows.{DraftRows, with_row}
+use Rattle.compose_read.proofs.Pools.{with_keysym, draft_keysym}
 use Rattle.compose_read.proofs.draft.Draft.push_keysym.Goals as goal
 
 pub invariant_of-self-2 : goal.invariant_of-self-2
@@ -10,6 +10,6 @@ invariant_of-self-2 c =
 
 pub returns-clause-pushed : goal.returns-clause-pushed
 returns-clause-pushed c =
-    drafted_keysym c.self.inside.keysyms.items (string_bytes c.self.inside.texts) c.self.inside.spans.items c.self.inside.first_keysym c.self.inside.first_byte c.self.invariant
+    draft_keysym c.self.inside.keysyms.items (string_bytes c.self.inside.texts) c.self.inside.spans.items c.self.inside.first_keysym c.self.inside.first_byte c.self.invariant
     c.push.new.self.items c.args.keysym c.in_ok-push.ensures.items
-    ∙ ap (λ (d : Drafted). with_row d (record { sequence = d.row.sequence ++ c.args.keysym ∷ []; text = d.row.text })) c.self.view_is
+    ∙ ap (λ (d : DraftRows). with_row d (record { sequence = d.row.sequence ++ c.args.keysym ∷ []; text = d.row.text })) c.self.view_is

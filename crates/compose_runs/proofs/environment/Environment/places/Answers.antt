@@ -2,28 +2,28 @@ use Rattle.std.proofs.Common.{◌≡◌, ◌∙◌, refl, ap, ℕ, List, Bor}
 use Rattle.std.specs.Prelude.{Option, Some, None, option_copied, Ok, MatchOption, IsSomeAnd}
 use Rattle.std.specs.Option.{option_map}
 use Rattle.compose_text.specs.Results.{◌>>=◌}
-use Rattle.compose_runs.specs.Environment.{SaidPlaces, locale_of, places_of}
-use Rattle.compose_runs.specs.Variables.{Said, text_of, without_slashes}
+use Rattle.compose_runs.specs.Environment.{EnvironmentPlaces, locale_of, places_of}
+use Rattle.compose_runs.specs.Variables.{Decoded, text_of, without_slashes}
 use Rattle.compose_runs.specs.declared.environment.Environment.{Environment}
 use Rattle.compose_runs.proofs.Lent.{copied_or, now_or}
 use Rattle.compose_runs.proofs.environment.Environment.places.Goals as goal
 
-abbrev parts : (system locale home : Option (List ℕ)) → SaidPlaces
+abbrev parts : (system locale home : Option (List ℕ)) → EnvironmentPlaces
 parts system locale home = record { system = system; locale = locale; home = home }
 
-abbrev after_locale : Environment → Option (List ℕ) → Option (List ℕ) → Said SaidPlaces
+abbrev after_locale : Environment → Option (List ℕ) → Option (List ℕ) → Decoded EnvironmentPlaces
 after_locale e system locale = text_of e.home >>= (λ home. Ok (parts system locale home))
 
-abbrev after_system : Environment → Option (List ℕ) → Said SaidPlaces
+abbrev after_system : Environment → Option (List ℕ) → Decoded EnvironmentPlaces
 after_system e system = locale_of e >>= after_locale e system
 
 -- the places in the environment, by its three parts
 says : (e : Environment) (system locale home : Option (List ℕ)) → text_of e.xlocaledir ≡ Ok system → locale_of e ≡ Ok locale → text_of e.home ≡ Ok home
     → places_of e ≡ Ok (parts system locale home)
 says e system locale home s l h =
-    let first : places_of e ≡ after_system e system = ap (λ (x : Said (Option (List ℕ))). x >>= after_system e) s in
-    let second : after_system e system ≡ after_locale e system locale = ap (λ (x : Said (Option (List ℕ))). x >>= after_locale e system) l in
-    let third : after_locale e system locale ≡ Ok (parts system locale home) = ap (λ (x : Said (Option (List ℕ))). x >>= (λ home. Ok (parts system locale home))) h in
+    let first : places_of e ≡ after_system e system = ap (λ (x : Decoded (Option (List ℕ))). x >>= after_system e) s in
+    let second : after_system e system ≡ after_locale e system locale = ap (λ (x : Decoded (Option (List ℕ))). x >>= after_locale e system) l in
+    let third : after_locale e system locale ≡ Ok (parts system locale home) = ap (λ (x : Decoded (Option (List ℕ))). x >>= (λ home. Ok (parts system locale home))) h in
     first ∙ (second ∙ third)
 
 -- a root without slashes at its end, if there is one

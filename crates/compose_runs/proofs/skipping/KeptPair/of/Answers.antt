@@ -1,7 +1,7 @@
 use Rattle.std.proofs.Common.{rules, ◌≡◌, true, sym, subst, refl}
 use Rattle.keysym_core.specs.Header.{names_of}
 use Rattle.compose_skipped.specs.Kept.{IsKept}
-use Rattle.compose_runs.proofs.LeftOut.{two_said}
+use Rattle.compose_runs.proofs.LeftOut.{two_reported}
 use Rattle.compose_runs.specs.Skipping.{IsKeptPair, SkipsPair}
 use Rattle.compose_runs.specs.declared.skipping.KeptPair.{KeptPair}
 use Rattle.compose_runs.proofs.skipping.KeptPair.of.Goals as goal
@@ -16,6 +16,6 @@ returns c =
       accepted = refl;
       old = subst (λ h. IsKept (names_of h) both.old c.in_ok-old.old) c.deref.ensures.value c.in_ok-old.ensures.kept;
       new = subst (λ h. IsKept (names_of h) both.new c.in_ok-new.new) c.deref-2.ensures.value c.in_ok-new.ensures.kept;
-      skipped = two_said header both.old both.new _ _ _ _ _ _ c.deref.ensures.value c.deref-2.ensures.value c.new-report.ensures c.in_ok-old.ensures.report c.in_ok-new.ensures.report c.in_ok-skipped.ensures;
+      skipped = two_reported header both.old both.new _ _ _ _ _ _ c.deref.ensures.value c.deref-2.ensures.value c.new-report.ensures c.in_ok-old.ensures.report c.in_ok-new.ensures.report c.in_ok-skipped.ensures;
     } in
     subst (λ b. IsKeptPair b files kept) (sym is_on) skips

@@ -1,6 +1,6 @@
 use Rattle.std.proofs.Common.{◌∙◌, sym, subst}
 use Rattle.compose_wire.specs.Messages as words
-use Rattle.compose_wire.specs.declared.reply.Answer.TheVariants.{Refused}
+use Rattle.compose_wire.specs.declared.reply.ReplyBody.TheVariants.{Refused}
 use Rattle.compose_machine.specs.Machine.{ServiceState, with_sessions}
 use Rattle.compose_service.specs.Answered.{Answered}
 use Rattle.compose_service.proofs.Answering.{answered_kept, key_no_session, key_bad}

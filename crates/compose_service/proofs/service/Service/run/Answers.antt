@@ -4,7 +4,7 @@ use Rattle.compose_wire.specs.Requests.{request_of}
 use Rattle.compose_wire.specs.declared.request.Request.{Request}
 use Rattle.compose_machine.specs.Late.{seen}
 use Rattle.compose_service.specs.Reading.{reading}
-use Rattle.compose_service.proofs.Running.{Told, run_more, none_yet}
+use Rattle.compose_service.proofs.Running.{Reported, run_more, none_yet}
 use Rattle.compose_service.proofs.service.Service.run.Goals as goal
 
 pub loop-request-init : goal.loop-request-init
@@ -29,5 +29,5 @@ loop-request-preserved g c =
 
 pub returns-clause-ok : goal.returns-clause-ok
 returns-clause-ok g c =
-    subst (λ (qs : List Request). Told reading (seen c.args.self.now) (map request_of qs) c.loop-request.replies.items (seen c.loop-request.self))
+    subst (λ (qs : List Request). Reported reading (seen c.args.self.now) (map request_of qs) c.loop-request.replies.items (seen c.loop-request.self))
     (take_all c.loop-request.request-index c.args.requests.now (omega arith)) c.loop-request.invariant.answered

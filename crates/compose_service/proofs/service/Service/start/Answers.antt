@@ -2,7 +2,7 @@ use Rattle.std.proofs.Common.{rules, ◌∙◌, ap, ap₂, ℕ, List}
 use Rattle.std.specs.Prelude.{Option}
 use Rattle.compose_machine.specs.Machine.{Row, ServiceState}
 use Rattle.compose_service.specs.Start.{started}
-use Rattle.compose_tree.specs.TableGives.{first_table}
+use Rattle.compose_tree.specs.TableReturns.{first_table}
 use Rattle.compose_cert.specs.Reading.{certificate_of}
 use Rattle.compose_service.proofs.Starting.{table_fault, not_begun}
 use Rattle.compose_service.proofs.service.Service.start.Goals as goal
@@ -22,7 +22,7 @@ returns g c =
     let definitions = g.T.ComposeTable.definitions c.in_ok-table.table in
     let begun = c.in_ok-check_own.ensures in (
       record { table = definitions; certificate = begun.0 },
-      ap (λ said. started c.args.names c.args.repertoire said (certificate_of c.args.certificate.now)) c.in_ok-table.ensures.value ∙ begun.1,
+      ap (λ expected. started c.args.names c.args.repertoire expected (certificate_of c.args.certificate.now)) c.in_ok-table.ensures.value ∙ begun.1,
       ap₂ (λ (allowed : Option (List ℕ)) (rows : List Row).
           let s : ServiceState =
           record { table = definitions; names = c.args.names; repertoire = c.args.repertoire; allowed = allowed; loads = 0; sessions = rows } in s) c.any.ensures c.new.ensures,

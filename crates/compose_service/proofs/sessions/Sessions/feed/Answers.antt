@@ -34,5 +34,5 @@ returns g c =
       session_is n es c.args.self.now c.self.view_is ∙ there,
       one_changes n es c.args.self.now c.self.view_is (λ x. session_fed table (session_loaded table s) c.args.keysym) s (set_value_at es i w) unique there
           (set_at n i found w es unique at ∙ ap (set_value (nat_eq n) es) c.refeed_and_feed-fed.ensures.state),
-      c.refeed_and_feed-fed.ensures.told,
+      c.refeed_and_feed-fed.ensures.reported,
     )

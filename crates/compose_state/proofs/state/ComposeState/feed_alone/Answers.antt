@@ -4,10 +4,10 @@ use Rattle.compose_state.proofs.Feeding.{fed_apart}
 use Rattle.compose_state.proofs.Alone.{alone_apart, alone_to}
 use Rattle.compose_state.proofs.state.ComposeState.feed_alone.Goals as goal
 
-pub returns-in-Some-clause-told : goal.returns-in-Some-clause-told
-returns-in-Some-clause-told g c =
+pub returns-in-Some-clause-reported : goal.returns-in-Some-clause-reported
+returns-in-Some-clause-reported g c =
     let table = g.T.ComposeTable.definitions c.args.table.now in
-    alone_to table c.args.self.now c.args.keysym (sym c.is_ignored-ignored.ensures ∙ c.if-ignored.false) c.in-Some.target (search rules) c.follow.result c.follow.ensures.told
+    alone_to table c.args.self.now c.args.keysym (sym c.is_ignored-ignored.ensures ∙ c.if-ignored.false) c.in-Some.target (search rules) c.follow.result c.follow.ensures.reported
 
 pub returns-in-None-clause-state : goal.returns-in-None-clause-state
 returns-in-None-clause-state g c =
@@ -15,8 +15,8 @@ returns-in-None-clause-state g c =
     let leads : target_of table c.args.self.now.pending c.args.keysym ≡ None = search rules in
     c.break_off.ensures.state ∙ fed_apart table c.args.self.now c.args.keysym (sym c.is_ignored-ignored.ensures ∙ c.if-ignored.false) leads
 
-pub returns-in-None-clause-told : goal.returns-in-None-clause-told
-returns-in-None-clause-told g c =
+pub returns-in-None-clause-reported : goal.returns-in-None-clause-reported
+returns-in-None-clause-reported g c =
     let table = g.T.ComposeTable.definitions c.args.table.now in
     let leads : target_of table c.args.self.now.pending c.args.keysym ≡ None = search rules in
     alone_apart table c.args.self.now c.args.keysym (sym c.is_ignored-ignored.ensures ∙ c.if-ignored.false) leads c.break_off.result

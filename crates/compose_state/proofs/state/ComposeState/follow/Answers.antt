@@ -14,8 +14,8 @@ returns-in-Node-clause-state g c =
     let leads : target_of table s.pending c.args.keysym ≡ t = search rules in
     session_after table s c.args.keysym t c.requires.accepted leads c.push.new.self.items _ c.push.ensures.items refl ∙ ap (λ x. fed table x c.args.keysym) c.self.view_is
 
-pub returns-in-Node-clause-told : goal.returns-in-Node-clause-told
-returns-in-Node-clause-told g c names =
+pub returns-in-Node-clause-reported : goal.returns-in-Node-clause-reported
+returns-in-Node-clause-reported g c names =
     let table = g.T.ComposeTable.definitions c.args.table.now in
     let s : Session = record { pending = c.self.inside.pending.items; status = c.self.inside.status } in
     let t : Option Target = Some (Node c.in-Node.field-0) in
@@ -30,8 +30,8 @@ returns-in-Leaf-clause-state g c =
     let leads : target_of table s.pending c.args.keysym ≡ t = search rules in
     session_after table s c.args.keysym t c.requires.accepted leads c.new-self-inside.result.items _ c.new-self-inside.ensures refl ∙ ap (λ x. fed table x c.args.keysym) c.self.view_is
 
-pub returns-in-Leaf-clause-told : goal.returns-in-Leaf-clause-told
-returns-in-Leaf-clause-told g c names =
+pub returns-in-Leaf-clause-reported : goal.returns-in-Leaf-clause-reported
+returns-in-Leaf-clause-reported g c names =
     let table = g.T.ComposeTable.definitions c.args.table.now in
     let s : Session = record { pending = c.self.inside.pending.items; status = c.self.inside.status } in
     let t : Option Target = Some (Leaf c.in-Leaf.leaf) in

@@ -4,7 +4,7 @@ use Rattle.std.proofs.lemmas.Bool.{ne_eqb}
 use Rattle.std.proofs.lemmas.List.{length-map}
 use Rattle.compose_model.specs.Nodes.{nodes, node}
 use Rattle.compose_walk.proofs.NodeNumbers.{node_is_node, root_at_zero}
-use Rattle.compose_walk.proofs.Traces.{some_stand, is_there, parent_below, parent_in_range, parent_agrees, one_back, room}
+use Rattle.compose_walk.proofs.Traces.{some_partner, is_there, parent_below, parent_in_range, parent_agrees, one_back, room}
 use Rattle.compose_walk.proofs.pass.Pass.keys_to.Goals as goal
 
 pub loop-node-init : goal.loop-node-init
@@ -26,7 +26,7 @@ unwrap-stand-requires g c =
     let old = g.T.ComposeTable.definitions c.args._old.now in
     let new = g.U.ComposeTable.definitions c.args._new.now in
     ap is_some
-    (some_stand c.args._names.now old new c.requires.table c.loop-node.node c.loop-node.invariant.in_range
+    (some_partner c.args._names.now old new c.requires.table c.loop-node.node c.loop-node.invariant.in_range
     c.loop-node.invariant.agree c.args.self.now.stands.items c.requires.stands c.index-slot.result.now c.index-slot.ensures)
     ∙ is_there c.args._names.now old new c.requires.table c.loop-node.node c.loop-node.invariant.in_range c.loop-node.invariant.agree
 
@@ -37,7 +37,7 @@ insert-requires g c =
     let new = g.U.ComposeTable.definitions c.args._new.now in
     let at =
     sym
-    (some_stand names old new c.requires.table c.loop-node.node c.loop-node.invariant.in_range
+    (some_partner names old new c.requires.table c.loop-node.node c.loop-node.invariant.in_range
     c.loop-node.invariant.agree c.args.self.now.stands.items c.requires.stands c.index-slot.result.now c.index-slot.ensures)
     ∙ c.unwrap-stand.ensures in
     let fits =
@@ -52,7 +52,7 @@ loop-node-smaller g c =
     let new = g.U.ComposeTable.definitions c.args._new.now in
     let at =
     sym
-    (some_stand names old new c.requires.table c.loop-node.node c.loop-node.invariant.in_range
+    (some_partner names old new c.requires.table c.loop-node.node c.loop-node.invariant.in_range
     c.loop-node.invariant.agree c.args.self.now.stands.items c.requires.stands c.index-slot.result.now c.index-slot.ensures)
     ∙ c.unwrap-stand.ensures in
     parent_below names old new c.requires.table c.loop-node.node c.loop-node.invariant.in_range c.loop-node.invariant.agree c.unwrap-stand.result at (ne_eqb c.loop-node.node 0 c.loop-node-test.true)
@@ -64,7 +64,7 @@ loop-node-preserved g c =
     let new = g.U.ComposeTable.definitions c.args._new.now in
     let at =
     sym
-    (some_stand names old new c.requires.table c.loop-node.node c.loop-node.invariant.in_range
+    (some_partner names old new c.requires.table c.loop-node.node c.loop-node.invariant.in_range
     c.loop-node.invariant.agree c.args.self.now.stands.items c.requires.stands c.index-slot.result.now c.index-slot.ensures)
     ∙ c.unwrap-stand.ensures in
     let other = ne_eqb c.loop-node.node 0 c.loop-node-test.true in

@@ -1,7 +1,7 @@
 use Rattle.std.proofs.Common.{◌<◌, [], length, ◌∙◌, ap, arith}
 use Rattle.compose_model.specs.Nodes.{nodes, node}
-use Rattle.compose_walk.specs.Stands.{stands_at}
-use Rattle.compose_walk.proofs.Nodes.{node_skipped, nodes_done, standing, dark, found_next, found_dark, read_stand}
+use Rattle.compose_walk.specs.Stands.{partners_at}
+use Rattle.compose_walk.proofs.Nodes.{node_skipped, nodes_done, standing, dark, found_next, found_dark, partner_read}
 use Rattle.compose_walk.proofs.pass.Pass.run.Goals as goal
 
 pub loop-number-preserved-in_default : goal.loop-number-preserved-in_default
@@ -12,7 +12,7 @@ loop-number-preserved-in_default g c =
     let below : c.loop-number.number < length (nodes old) = omega (arith, c.node_count-number-end.ensures.count) in
     let none =
     dark names old new c.requires.table (node old c.loop-number.number)
-    (read_stand names old new c.requires.table c.loop-number.number below c.loop-number.pass.stands.items c.loop-number.invariant.stands c.index.result.now c.index.ensures
+    (partner_read names old new c.requires.table c.loop-number.number below c.loop-number.pass.stands.items c.loop-number.invariant.stands c.index.result.now c.index.ensures
     ∙ c.in_default.is) in
     record {
       stands = c.loop-number.invariant.stands ∙ node_skipped names old new c.requires.table c.loop-number.number below none;
@@ -40,7 +40,7 @@ take_node-requires-clause-new_in_range g c =
     let new = g.U.ComposeTable.definitions c.args.new.now in
     let below : c.loop-number.number < length (nodes old) = omega (arith, c.node_count-number-end.ensures.count) in
     (standing names old new c.requires.table (node old c.loop-number.number) c.in-Some.stand
-    (read_stand names old new c.requires.table c.loop-number.number below c.loop-number.pass.stands.items c.loop-number.invariant.stands c.index.result.now c.index.ensures
+    (partner_read names old new c.requires.table c.loop-number.number below c.loop-number.pass.stands.items c.loop-number.invariant.stands c.index.result.now c.index.ensures
     ∙ c.in-Some.is)).in_range
 
 pub take_node-requires-clause-agree : goal.take_node-requires-clause-agree
@@ -50,7 +50,7 @@ take_node-requires-clause-agree g c =
     let new = g.U.ComposeTable.definitions c.args.new.now in
     let below : c.loop-number.number < length (nodes old) = omega (arith, c.node_count-number-end.ensures.count) in
     (standing names old new c.requires.table (node old c.loop-number.number) c.in-Some.stand
-    (read_stand names old new c.requires.table c.loop-number.number below c.loop-number.pass.stands.items c.loop-number.invariant.stands c.index.result.now c.index.ensures ∙ c.in-Some.is)).agree
+    (partner_read names old new c.requires.table c.loop-number.number below c.loop-number.pass.stands.items c.loop-number.invariant.stands c.index.result.now c.index.ensures ∙ c.in-Some.is)).agree
 
 pub take_node-requires-clause-together : goal.take_node-requires-clause-together
 take_node-requires-clause-together g c =
@@ -59,7 +59,7 @@ take_node-requires-clause-together g c =
     let new = g.U.ComposeTable.definitions c.args.new.now in
     let below : c.loop-number.number < length (nodes old) = omega (arith, c.node_count-number-end.ensures.count) in
     (standing names old new c.requires.table (node old c.loop-number.number) c.in-Some.stand
-    (read_stand names old new c.requires.table c.loop-number.number below c.loop-number.pass.stands.items c.loop-number.invariant.stands c.index.result.now c.index.ensures
+    (partner_read names old new c.requires.table c.loop-number.number below c.loop-number.pass.stands.items c.loop-number.invariant.stands c.index.result.now c.index.ensures
     ∙ c.in-Some.is)).together
 
 pub returns-clause-stands : goal.returns-clause-stands
@@ -67,4 +67,4 @@ returns-clause-stands g c =
     let names = c.args.names.now in
     let old = g.T.ComposeTable.definitions c.args.old.now in
     let new = g.U.ComposeTable.definitions c.args.new.now in
-    c.loop-number.invariant.stands ∙ ap (λ n. stands_at names old new n []) (omega (arith, c.node_count-number-end.ensures.count)) ∙ nodes_done names old new c.requires.table
+    c.loop-number.invariant.stands ∙ ap (λ n. partners_at names old new n []) (omega (arith, c.node_count-number-end.ensures.count)) ∙ nodes_done names old new c.requires.table

@@ -2,7 +2,7 @@ use Rattle.std.proofs.Common.{◌<◌, length, get_or, ◌∙◌, ap, arith}
 use Rattle.std.proofs.lemmas.List.{take_all}
 use Rattle.compose_model.specs.Nodes.{node, edges}
 use Rattle.compose_walk.specs.Pass.{differs_at}
-use Rattle.compose_walk.specs.Stands.{stands_at, found_at}
+use Rattle.compose_walk.specs.Stands.{partners_at, found_at}
 use Rattle.compose_walk.proofs.Nodes.{found_more, slice_get_at, node_done}
 use Rattle.compose_walk.proofs.pass.Pass.take_node.Goals as goal
 
@@ -26,5 +26,5 @@ returns-clause-stands g c =
     let old = g.T.ComposeTable.definitions c.args.old.now in
     let es = edges old (node old c.args.node.0) in
     c.loop-index.invariant.stands
-    ∙ ap (stands_at c.args.names.now old (g.U.ComposeTable.definitions c.args.new.now) c.args.node.0) (take_all c.loop-index.index es (omega (arith, c.edge_count-index-end.ensures)))
+    ∙ ap (partners_at c.args.names.now old (g.U.ComposeTable.definitions c.args.new.now) c.args.node.0) (take_all c.loop-index.index es (omega (arith, c.edge_count-index-end.ensures)))
     ∙ node_done c.args.names.now old (g.U.ComposeTable.definitions c.args.new.now) c.requires.table c.args.node.0 c.requires.in_range
