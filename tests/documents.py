@@ -2,14 +2,14 @@
 """documents.py [FOLDER]: what the documents of the repository, or of a copy of it in FOLDER, name is there:
 
   - links lead to a file, and to a heading of it,
-  - each function, clause and definition that docs/PROVED.md and docs/DEFINITIONS.md name in backquotes stands in the sources of its crate,
-    and each crate has its row in docs/ARCHITECTURE.md, and its section in docs/PROVED.md,
+  - each function, clause and definition that docs/PROVED.md and docs/DEFINITIONS.md name in backquotes is in the sources of its crate, and each
+    crate has its row in docs/ARCHITECTURE.md, its section in docs/PROVED.md, and, if it has specs, one in docs/DEFINITIONS.md,
   - each crate, file, target of make and option that a document names exists, and so does each fault of FORMATS, PROTOCOL and the manual,
     under its number, and each limit among the numbers of the crates' sources,
   - README has at most 9,216 bytes, and the version of the program is that of README, CHANGELOG and the manual,
   - lines of code in CONTRIBUTING stand in the sources, and no document cites a paper or a numbered issue,
-  - in some documents no line has more than 100 columns but in tables and code (tools/wrap.py breaks them), and words that are no plain English for
-    a stranger aren't used.
+  - no line has more than 100 columns but in tables and code (tools/wrap.py breaks them), and words that are no plain English for a stranger
+    aren't used.
 
 The last line is `N passed, M failed`."""
 import glob
@@ -20,10 +20,9 @@ import sys
 TOP = os.path.abspath(sys.argv[1]) if len(sys.argv) > 1 else os.path.dirname(os.path.dirname(os.path.abspath(__file__)))
 MOST_README = 9216
 MANUALS = ["docs/composecheck.1", "docs/composecheck.5"]
-# Documents that are wrapped, and what they don't say.
-WRAPPED = ["README.md", "CONTRIBUTING.md", "tests/README.md", "docs/GUIDE.md", "docs/GATE.md", "docs/PROVED.md"]
 MOST_COLUMNS = 100
-RETIRED = re.compile(r"\b(?:told|tells?|so many|behind|as it stands)\b", re.I)
+# Words that the documents used in senses of their own: plain English has print, report, after, is, idle, checked, costly and again for them.
+RETIRED = re.compile(r"\b(?:told|tell(?:s|ing)?|said|so many|behind|stands(?! for\b)|stood|rests|rested|look(?:s|ed)? at|dear(?:er)?|anew)\b", re.I)
 # Documents whose numbers with a thousands' comma are limits of the program.
 WITH_LIMITS = ["README.md", "docs/FORMATS.md", "docs/GUIDE.md", "docs/PROTOCOL.md", "docs/SERVICE.md", *MANUALS]
 # Options of other programs stand in commands that begin so.
@@ -71,6 +70,7 @@ class Crates:
         self.texts = {it: self.text_of(it, "src/**/*.rt", "specs/**/*.antt") for it in self.names}
         self.proofs = {it: self.text_of(it, "proofs/**/*.antt", "must-fail/*.edit") for it in self.names}
         self.words = {it: set(re.findall(r"[A-Za-z_][\w'-]*", text)) for it, text in self.texts.items()}
+        self.with_specs = [it for it in self.names if os.path.isdir(os.path.join(TOP, "crates", it, "specs"))]
         self.every = "\n".join(self.texts.values())
         self.numbers = {int(it.replace("_", ""), 0) for it in re.findall(r"\b(?:0x[\da-f][\da-f_]*|[1-9][\d_]*)\b", self.every, re.I)}
         self.numbers |= {2 ** int(it) for it in re.findall(r"\b2 \^ (\d+)\b", self.every)}
@@ -120,28 +120,30 @@ def quoted(text):
     return re.findall(r"`([^`\n]+)`", re.sub(r"^```.*?^```$", "", text, flags=re.M | re.S))
 
 
-def crate_parts(text):
-    """Yields what a document has of crates: of each row of a table, and of each section whose heading is names in backquotes, the crate of the
-    heading above, these names, and the text."""
-    heading = ""
-    for head, first, rest in re.findall(rf"^## .*\((?:`(\w+))[/`].*$|^\| ({NAMES}) \| (.*) \|$", text, re.M):
-        heading = head or heading
-        yield heading, first, rest
+def crate_rows(text):
+    """Returns the crates of each row of a table that begins with names in backquotes."""
+    return [quoted(first) for first in re.findall(rf"^\| ({NAMES}) \|", text, re.M)]
+
+
+def crate_sections(text):
+    """Returns of each section whose heading is names in backquotes these names, and the items of its list, or its whole text if it has none."""
+    found = []
     for first, rest in re.findall(rf"^### ({NAMES})\n(.*?)(?=^#|\Z)", text, re.M | re.S):
-        yield "", first, re.sub(r"\s+", " ", rest)
+        found.append((quoted(first), re.split(r"^- ", rest, flags=re.M)))
+    return found
 
 
-def check_rows(results, document, text, crates):
-    """Each word in backquotes of what a document has of crates stands in one of them, or in another crate that is named there. A row of something
-    else is of the crate that the heading above names."""
-    for heading, first, rest in crate_parts(text):
-        own = [it.split("/")[0] for it in quoted(first)]
-        own = own if set(own) <= set(crates.names) else [heading]
-        for word in quoted(rest):
-            if word in crates.names or not WORD.fullmatch(word) or is_outside(word):
-                continue
-            near = own + [it for it in quoted(rest) if it in crates.names]
-            results.expect(document, f"`{word}` stands in no source of {', '.join(near)}", crates.have(near, word))
+def check_sections(results, document, text, crates):
+    """Each word in backquotes of a crate's section is in the sources of that crate, or of another one that the same item names."""
+    for own, items in crate_sections(text):
+        for crate in own:
+            results.expect(document, f"there is a section of {crate}, which is no crate", crate in crates.names)
+        for item in items:
+            words = quoted(re.sub(r"\s+", " ", item))
+            near = own + [it for it in words if it in crates.names]
+            for word in words:
+                if word not in crates.names and WORD.fullmatch(word) and not is_outside(word):
+                    results.expect(document, f"`{word}` is in no source of {', '.join(near)}", crates.have(near, word))
 
 
 def is_outside(word):
@@ -150,7 +152,7 @@ def is_outside(word):
 
 
 def check_laws(results, document, text, crates):
-    """Outside of the rows, each law and each word that is followed by its crate, as `law_gone` or `serve` of `compose_serve`, stands there."""
+    """In any document, each law and each word that is followed by its crate, as `law_gone` or `serve` of `compose_serve`, is there."""
     for word in quoted(text):
         if re.fullmatch(r"law_\w+", word):
             results.expect(document, f"`{word}` stands in no crate", crates.have(crates.names, word))
@@ -159,16 +161,25 @@ def check_laws(results, document, text, crates):
             results.expect(document, f"`{word}` stands in no source of {crate}", crate not in crates.names or crates.have([crate], word))
 
 
+def named_in(text):
+    """Returns the crates that the sections of a document are about."""
+    return [it for own, _ in crate_sections(text) for it in own]
+
+
 def check_crates(results, texts, crates):
     folders = {os.path.basename(it) for it in glob.glob(os.path.join(TOP, "crates", "*"))}
     for document, text in texts.items():
         for word in re.findall(r"\bcompose_[a-z_]+\b(?!\.[a-z])|\bkeysym_core\b|\bbuiltin_names\b", text):
             known = word in folders or word in crates.every
             results.expect(document, f"there is no crate {word}", known)
-    for document in ("docs/PROVED.md", "docs/ARCHITECTURE.md"):
-        named = {it for _, first, _ in crate_parts(texts[document]) for it in quoted(first)}
-        for crate in crates.names:
-            results.expect(document, f"{crate} has no row and no section", crate in named)
+    rows = [it for own in crate_rows(texts["docs/ARCHITECTURE.md"]) for it in own]
+    for document, named, of_crates in (
+        ("docs/ARCHITECTURE.md", rows, crates.names),
+        ("docs/PROVED.md", named_in(texts["docs/PROVED.md"]), crates.names),
+        ("docs/DEFINITIONS.md", named_in(texts["docs/DEFINITIONS.md"]), crates.with_specs),
+    ):
+        for crate in of_crates:
+            results.expect(document, f"{crate} has no row and no section, or more than one", named.count(crate) == 1)
 
 
 def names_below(folder):
@@ -273,14 +284,14 @@ def check_citations(results, texts):
 
 
 def without_code(text):
-    """Returns a text without its blocks of code and its tables."""
-    return re.sub(r"^ *```.*?^ *```$|^(?:    |\|)[^\n]*$", "", text, flags=re.M | re.S)
+    """Returns a text without its blocks of code: those between fences, and indented lines after an empty one."""
+    return re.sub(r"^ *```.*?^ *```$|(?<=\n\n)(?:    [^\n]*\n|\n(?=    ))+", "", text, flags=re.M | re.S)
 
 
 def check_words(results, texts):
-    for document in WRAPPED:
+    for document in sorted(set(texts) - set(MANUALS)):
         text = without_code(texts[document])
-        longest = max(text.split("\n"), key=len)
+        longest = max(re.sub(r"^\|[^\n]*$", "", text, flags=re.M).split("\n"), key=len)
         results.expect(document, f"a line has {len(longest)} columns: {longest[:60]} ..", len(longest) <= MOST_COLUMNS)
         found = RETIRED.search(re.sub(r"`[^`\n]*`", "", text))
         results.expect(document, f"it says: {found and found[0]}", found is None)
@@ -290,7 +301,7 @@ def main():
     results, texts, crates = Results(), documents(), Crates()
     check_links(results, texts)
     for document in ("docs/PROVED.md", "docs/DEFINITIONS.md"):
-        check_rows(results, document, texts[document], crates)
+        check_sections(results, document, texts[document], crates)
     for document, text in texts.items():
         check_laws(results, document, text, crates)
     check_crates(results, texts, crates)
