@@ -168,7 +168,7 @@ def check_unit(program, _, results):
             for it in clients:
                 it.disconnect()
             with Client(service.socket, timeout=30) as client:
-                results.expect("as soon as they end, another one is served", client.ask(0).status, "nothing")
+                results.expect("as soon as they end, another one is served", client.open(at_once), None)
             serving.kill()
         service.write(".local/state/composecheck/table", "compose")
         refused = subprocess.run(words, cwd=service.folder, capture_output=True, text=True, timeout=60)

@@ -374,9 +374,10 @@ def compiled(folder, source, *words):
 def c_programs(results, folder):
     checked = ["-g", "-O1", "-fsanitize=address,undefined", "-fno-sanitize-recover=all"]
     build_library.build(f"{folder}/checked", checked)
+    os.mkdir(f"{folder}/files")
     for name in ("hostile", "threads"):
         program = compiled(folder, f"{TOP}/tests/library/{name}.c", *checked, f"{folder}/checked/libcomposecheck.a", "-lpthread")
-        ran = subprocess.run([program, folder], stdout=subprocess.PIPE, stderr=subprocess.STDOUT, text=True, timeout=300)
+        ran = subprocess.run([program, f"{folder}/files"], stdout=subprocess.PIPE, stderr=subprocess.STDOUT, text=True, timeout=300)
         results.expect(ran.returncode == 0, f"{name}: {ran.stdout}")
 
 

@@ -233,7 +233,7 @@ def check_known_differences(program, folder, results):
     with Multi_key and parenleft are counted where they are taken away."""
     ran = run(program, folder, "diff", "--no-fold", ENGLISH, os.path.join(LOCALES, "fi_FI.UTF-8", "Compose"))
     lines = [line for line in ran.stdout.splitlines() if line.startswith(("changed: ", "removed: "))]
-    results.expect("en_US to fi_FI", len(lines) == 4 and all(re.search(r"en_US\.UTF-8/Compose:\d+ \S*fi_FI\.UTF-8/Compose:\d+$", line) for line in lines), lines)
+    results.expect("en_US to fi_FI", len(lines) == 4 and all(re.search(r"en_US\.UTF-8/Compose:\d+ \S*fi_FI\.UTF-8/Compose:\d+ now: ", line) for line in lines), lines)
     with open(ENGLISH, encoding="utf-8") as table:
         kept = [line for line in table if not re.match(r"\s*<Multi_key>\s*<parenleft>", line)]
     with open(os.path.join(folder, "without"), "w", encoding="utf-8") as table:

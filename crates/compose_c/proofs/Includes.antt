@@ -1,7 +1,7 @@
 -- A line that is anything else is not an include.
 use Rattle.std.proofs.Common.{◌≡◌, ℕ, List, Option, Err}
 use Rattle.compose_lex.specs.Line.{IsLine, blank, include, production}
-use Rattle.compose_lex.specs.FaultRecord.{reading_of}
+use Rattle.compose_lex.specs.Fault.{reading_of}
 use Rattle.compose_lex.specs.declared.LexFault.{LexFault}
 use Rattle.compose_lex.proofs.LineRead.{one_reading, no_fault}
 

@@ -7,7 +7,7 @@ use Rattle.std.specs.declared.io.ErrorKind.TheVariants.{NotFound}
 use Rattle.compose_read.specs.Lines.{Source}
 use Rattle.compose_read.specs.Sources.{add_fault}
 use Rattle.compose_read.specs.declared.sources.SourceFault.{SourceFault}
-use Rattle.compose_folder.specs.Content.{Content, ManifestEntry as FolderEntry, File, Unreadable, IsHeld, held}
+use Rattle.compose_folder.specs.Content.{Content, Entry as FolderEntry, File, Unreadable, IsHeld, held}
 use Rattle.compose_find.specs.Expand.{Words, beside, below_root}
 use Rattle.compose_find.specs.Found.{FoundSource, TriedFile, Stop, missing_root, missing_file, refused, found}
 use Rattle.compose_find.specs.declared.found_source.FindFault.{FindFault}
