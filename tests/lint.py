@@ -4,10 +4,12 @@ reading of their lines, and what is left of it where some of it is accepted.
 
 A table is a file of some lines with few keysyms, texts and comments, and includes of two other such files; sequences come again, some go on
 after others, some lines are faulty, and some include a file again. What is to be found is worked out here from the lines as lists. COUNT
-tables are tried, 300 if none is given. The last line is `N passed, M failed`."""
+tables are tried, 300 if none is given. On as many files with lines that other readers skip, the number of lines that `diff` notes is that of
+the lines of which `lint` says so. The last line is `N passed, M failed`."""
 import json
 import os
 import random
+import re
 import subprocess
 import sys
 import tempfile
@@ -33,6 +35,19 @@ STALE = "no finding in these tables is named by the line"
 BAD = 'expected the word of a kind, ": " and a line of a Compose file'
 KINDS = ["fault", "overridden", "repeated", "prefix", "keysym", "mark", "form", "comment", "redundant", "libX11", "libxkbcommon", "gtk3", "gtk4"]
 SAME = "is included, and gives the sequence the same text"
+
+
+# Lines that libX11 or libxkbcommon skips, each for another reason, and lines that look like these and are read.
+SKIPPED = [
+    '< a> <b> : "x"', '<a > <b> : "x"', '<a>\r<b> : "x"', '<a> <b> : "x"\r', '<a> : "x" \r # y', " ".join(["<b>"] * 10) + ' : "x"', " ".join(["<b>"] * 11) + ' : "x"',
+    '<NoSymbol> <a> : "x"', '<a> <0x0> : "x"', '<b> <0x00000000> : "x"', f'<a> <a> : "{"x" * 255}"', '<b> <b> : "x" 0x61', "<b> <b> : 0x61", 'include\r"none"', '# y \\\n<a> <b> : "x"',
+]
+READ = [
+    '<a> <b> : "x"', '<a><b>:"x"', '  <a>  <b>  :  "x"  # y', " ".join(["<b>"] * 9) + ' : "x"', f'<a> <a> : "{"x" * 254}"', '<a> <a> : "' + "\\x61" * 100 + '"', '<a> <b> : "x\r"',
+    '<a> <b> : "0" zero # 0', '<a> <b> : "< a >" # <a > \r', '<a> <0x61> : "x"', "<N> <0> : N", '<N> <0> : "\\n" N', "# y \\", "", "# 0 < a> \r",
+]
+# What `lint` says of lines that are read, though their texts are not.
+OTHER_TEXTS = ("the letter is typed", "the text is cut")
 
 
 class Line:
@@ -218,11 +233,37 @@ def answers(chance, program, folder, wanted):
     yield "order of members", [list(json.loads(line)) for line in lines], list(map(list, objects))
 
 
+def noted_and_found(program, folder, text):
+    """How many lines of a file with this text `diff` notes as lost, and of how many `lint` says so."""
+    for name, content in (("own", text), ("none", ""), ("plain", '<a> : "x"\n')):
+        with open(os.path.join(folder, name), "w", encoding="utf-8", newline="") as file:
+            file.write(content)
+    noted = subprocess.run([program, "diff", "plain", "own"], cwd=folder, capture_output=True, encoding="utf-8", check=False).stderr
+    counted = re.search(r"loses lines of own .*, (\d+) in all", noted)
+    found = subprocess.run([program, "lint", "own"], cwd=folder, capture_output=True, encoding="utf-8", check=False).stdout
+    said = re.findall(r"^(.*?:\d+):\d+: (?:libX11|libxkbcommon): (.*)$", found, re.M)
+    return int(counted[1]) if counted else 0, len({place for place, what in said if not any(it in what for it in OTHER_TEXTS)})
+
+
+def check_lost(chance, program, count, results):
+    """`diff` and `lint` agree on which lines other readers skip: on each line alone, and on random files of them."""
+    with tempfile.TemporaryDirectory() as folder:
+        for lines, lost in ((SKIPPED, 1), (READ, 0)):
+            for line in lines:
+                results.expect(f"whether {line!r} is lost", noted_and_found(program, folder, line + "\n"), (lost, lost))
+        for _ in range(count):
+            lines = [chance.choice(SKIPPED if chance.random() < 0.2 else READ) for _ in range(chance.randint(1, 12))]
+            text = chance.choice(["", "", "", "\ufeff"]) + "\n".join(lines) + chance.choice(["\n", "\n", "\n", ""])
+            noted, said = noted_and_found(program, folder, text)
+            results.expect(f"lines that are lost of {text!r}", noted, said)
+
+
 def main():
     program = os.path.abspath(sys.argv[1])
     chance = random.Random(SEED)
     results = Results()
-    for number in range(int(sys.argv[2]) if len(sys.argv) > 2 else 300):
+    count = int(sys.argv[2]) if len(sys.argv) > 2 else 300
+    for number in range(count):
         files = random_files(chance)
         wanted = list(found(files))
         with tempfile.TemporaryDirectory() as folder:
@@ -233,6 +274,7 @@ def main():
                 if answer != right:
                     print(f"table {number}: {[(name, [line.written for line in lines]) for name, lines in files.items()]}")
                 results.expect(f"{what} of table {number}", answer, right)
+    check_lost(chance, program, count, results)
     return results.end()
 
 
