@@ -9,8 +9,8 @@
  * words. Those of the second part are C over them, and tested.
  *
  * Premises of every function, which nothing checks:
- *   - a pointer is not null, also where a count is 0, and points to as many entries as the count behind it says, aligned as their type;
- *     only where a comment says so it may be null;
+ *   - a pointer is not null, even if a count is 0, and points to as many entries as the count after it says, aligned as their type;
+ *     it may be null only if a comment says so;
  *   - memory that a call writes overlaps no other memory that the call is given, and no other thread reads or writes it meanwhile;
  *   - memory that a call only reads is not written meanwhile;
  *   - malloc, realloc and free belong together, and align as C says;
@@ -44,7 +44,7 @@ struct composecheck_edge { uint32_t keysym, target; };
 /* How many entries the arrays of a table have. */
 struct composecheck_sizes { size_t nodes, edges, offsets, texts, hints, reserved[3]; };
 
-/* A state. Zeros are at rest, and any numbers are a state: where count is above 31, or one of so many pending numbers above 0x1fffffff,
+/* A state. Zeros are at rest, and any numbers are a state: if count is above 31, or one of that many pending numbers above 0x1fffffff,
  * nothing is pending; a status above 3 is nothing; any hints serve. It may be copied and kept. */
 struct composecheck_state { uint32_t pending[31], hints[31], count, status; uint32_t reserved[4]; };
 
@@ -74,7 +74,7 @@ struct composecheck_fault { uint32_t part, code, lexical, value; uint64_t source
  * and the certificate. Numbers are big-endian, the names UTF-8 and distinct, and the first source is the root. longest: of two sequences of which
  * one is a prefix of the other the longer one counts, as in libxkbcommon; else such a table is refused.
  * edges: memory of zeros (calloc), or what an earlier call filled: each entry holds a keysym, at most 0x1fffffff, before the call too.
- * DONE: sizes says how many entries count, and the arrays are a table. REFUSED: fault says why. TOO_SMALL: sizes says what is needed. Where it
+ * DONE: sizes says how many entries count, and the arrays are a table. REFUSED: fault says why. TOO_SMALL: an array is smaller than sizes says. If it
  * isn't REFUSED, fault stays as it was. MALLOC */
 uint32_t composecheck_compile(const uint8_t *header, size_t header_length, const uint8_t *bundle, size_t bundle_length, bool longest,
                               struct composecheck_node *nodes, size_t node_room, struct composecheck_edge *edges, size_t edge_room,
@@ -82,21 +82,21 @@ uint32_t composecheck_compile(const uint8_t *header, size_t header_length, const
                               struct composecheck_sizes *sizes, struct composecheck_fault *fault);
 
 /* As composecheck_compile, and fills results besides with the result keysym of each sequence, one for each text and in their order;
- * *result_count says how many they are, one less than offsets. It is the keysym that the line names which counts for the sequence; where it
- * names none, the least keysym of the text's character; and 0 (XKB_KEY_NoSymbol) where the text isn't one character, or no keysym has it.
- * TOO_SMALL also where results has less room than *result_count says. MALLOC */
+ * *result_count says how many they are, one less than offsets. It is the keysym that the line names which counts for the sequence; if it
+ * names none, the least keysym of the text's character; and 0 (XKB_KEY_NoSymbol) if the text isn't one character, or no keysym has it.
+ * TOO_SMALL also if results has less room than *result_count says. MALLOC */
 uint32_t composecheck_compile_with_results(const uint8_t *header, size_t header_length, const uint8_t *bundle, size_t bundle_length, bool longest,
                                            struct composecheck_node *nodes, size_t node_room, struct composecheck_edge *edges, size_t edge_room,
                                            uint32_t *offsets, size_t offset_room, uint8_t *texts, size_t text_room, uint8_t *hints,
                                            size_t hint_room, uint32_t *results, size_t result_room, struct composecheck_sizes *sizes,
                                            size_t *result_count, struct composecheck_fault *fault);
 
-/* The sentence that says why composecheck_compile refuses these sources, or no bytes where it doesn't: UTF-8, of *length bytes, without an
+/* The sentence that says why composecheck_compile refuses these sources, or no bytes if it doesn't: UTF-8, of *length bytes, without an
  * end mark. 0 done, 1 no room (*length says what is needed), 2 no memory. MALLOC */
 uint32_t composecheck_explain(const uint8_t *header, size_t header_length, const uint8_t *bundle, size_t bundle_length, bool longest,
                               uint8_t *text, size_t text_room, size_t *length);
 
-/* Feeds a keysym: ACCEPTED, IGNORED, or NO_KEYSYM above 0x1fffffff, where the state stays as it was. text gets the *text_length bytes that a
+/* Feeds a keysym: ACCEPTED, IGNORED, or NO_KEYSYM above 0x1fffffff, and then the state stays as it was. text gets the *text_length bytes that a
  * sequence commits which the key completes, without an end mark; a key that is part of no sequence commits none here.
  * Premise: the arrays are a table. */
 uint32_t composecheck_feed(const struct composecheck_node *nodes, size_t node_count, const struct composecheck_edge *edges, size_t edge_count,
@@ -115,11 +115,11 @@ void composecheck_reset(struct composecheck_state *state);
 /* A number of enum composecheck_status. */
 uint32_t composecheck_status(const struct composecheck_state *state);
 
-/* Puts the pending keysyms at the front, and gives their count. What stands behind them is not said. */
+/* Puts the pending keysyms at the front, and gives their count. The entries after them hold any numbers. */
 uint32_t composecheck_pending(const struct composecheck_state *state, uint32_t keysyms[COMPOSECHECK_MOST_PENDING]);
 
 /* The keysym at this index among those that may follow what is pending, in rising order, and what feeding it would do: the status, and the
- * text that it would commit. False where index is not below their number; what it would have written is not said then.
+ * text that it would commit. False if index is not below their number; what it points to may then hold anything.
  * Premise: the arrays are a table. */
 bool composecheck_following(const struct composecheck_node *nodes, size_t node_count, const struct composecheck_edge *edges, size_t edge_count,
                             const uint32_t *offsets, size_t offset_count, const uint8_t *texts, size_t text_count,
@@ -127,7 +127,7 @@ bool composecheck_following(const struct composecheck_node *nodes, size_t node_c
                             uint32_t *keysym, uint32_t *status, uint8_t text[COMPOSECHECK_MOST_TEXT], uint32_t *text_length);
 
 /* The result keysym of the sequence that feeding the keysym would complete: of results, which composecheck_compile_with_results filled with
- * the table. 0 where it completes none, where the sequence has none, and where results ends before it. The state stays as it is.
+ * the table. 0 if it completes none, if the sequence has none, or if results ends before it. The state stays as it is.
  * Premise: the arrays are a table. */
 uint32_t composecheck_result(const struct composecheck_node *nodes, size_t node_count, const struct composecheck_edge *edges, size_t edge_count,
                              const uint32_t *offsets, size_t offset_count, const uint8_t *texts, size_t text_count,
@@ -146,7 +146,7 @@ bool composecheck_check(const uint8_t *header, size_t header_length,
                         const uint8_t *repertoire, size_t repertoire_length, const uint8_t *certificate, size_t certificate_length,
                         struct composecheck_fault *fault);
 
-/* As composecheck_compile, but REFUSED too where the bundle's certificate is not valid for a move from the table in use.
+/* As composecheck_compile, but REFUSED too if the bundle's certificate is not valid for a move from the table in use.
  * Premise: the old arrays are a table. MALLOC */
 uint32_t composecheck_load(const uint8_t *header, size_t header_length,
                            const struct composecheck_node *old_nodes, size_t old_node_count, const struct composecheck_edge *old_edges,
@@ -161,7 +161,7 @@ uint32_t composecheck_load(const uint8_t *header, size_t header_length,
 uint32_t composecheck_is_table(const struct composecheck_node *nodes, size_t node_count, const struct composecheck_edge *edges, size_t edge_count,
                                const uint32_t *offsets, size_t offset_count, const uint8_t *texts, size_t text_count);
 
-/* The characters of keysyms by the names of a header, each at its keysym's index; 0 where a keysym has none, or the number is above
+/* The characters of keysyms by the names of a header, each at its keysym's index; 0 if a keysym has none, or the number is above
  * 0x1fffffff. A key that is part of no sequence commits its character. It takes as long as reading the names: ask for all keys at once.
  * 0 done; 1 the header is refused, and fault says why, else fault stays as it was; 2 characters has less room than there are keysyms. MALLOC */
 uint32_t composecheck_characters(const uint8_t *header, size_t header_length, const uint32_t *keysyms, size_t keysym_count,
@@ -174,7 +174,7 @@ uint32_t composecheck_include(const uint8_t *line, size_t line_length, uint8_t *
 /* Finds the files of a table, one path after another. It opens no file and calls nobody back: the caller looks for a file at each path that is
  * wanted, and adds the answer to those before it.
  *   answers: what was found so far: the number of answers (2 bytes); each as the length of its path (2 bytes), the path, and either 1, the length
- *     of the file (4 bytes) and its bytes, or 0 where no file is there. All numbers are big-endian.
+ *     of the file (4 bytes) and its bytes, or 0 if no file is there. All numbers are big-endian.
  *   root: the path of the table. system, locale, home: what %S, %L and %H stand for; locale is the path of the locale's table
  *     (composecheck_locale_file). sysroot: the folder below which an absolute path of an include is looked for first. locale, home and sysroot
  *     may have no bytes: then they aren't known. certificate: what the bundle gets as its certificate, which only composecheck_load reads.
@@ -195,7 +195,7 @@ uint32_t composecheck_locale_file(const uint8_t *folder, size_t folder_length, c
 
 /* ---- C over these: a table as one struct */
 
-/* A table: where its arrays are. Whoever has the arrays elsewhere, as in shared memory, fills it in; where there are no result keysyms,
+/* A table: where its arrays are. Whoever has the arrays elsewhere, as in shared memory, fills it in; if there are no result keysyms,
  * results is null and result_count 0. */
 struct composecheck_table {
     struct composecheck_sizes sizes;
@@ -210,7 +210,7 @@ struct composecheck_table {
 /* A source: its name as the including line writes it between its quotes (the root's can be any), and its bytes. */
 struct composecheck_source { const char *name; const void *bytes; size_t length; };
 
-/* What a table is read from. The header may be null: the names that are built in; so may a certificate and a repertoire, where there are none. */
+/* What a table is read from. The header may be null: the names that are built in; so may a certificate and a repertoire, if there are none. */
 struct composecheck_input {
     const void *header;
     size_t header_length;
@@ -226,10 +226,10 @@ struct composecheck_input {
     void *reserved[2];
 };
 
-/* The table with its result keysyms, in one block of malloc; null where it is refused, and fault says why (COMPOSECHECK_MEMORY: no memory). MALLOC */
+/* The table with its result keysyms, in one block of malloc; null if it is refused, and fault says why (COMPOSECHECK_MEMORY: no memory). MALLOC */
 struct composecheck_table *composecheck_table_new(const struct composecheck_input *input, struct composecheck_fault *fault);
 
-/* The same, and refused too where the certificate is not valid for a move from the table in use. MALLOC */
+/* The same, and refused too if the certificate is not valid for a move from the table in use. MALLOC */
 struct composecheck_table *composecheck_table_load(const struct composecheck_table *in_use, const struct composecheck_input *input,
                                                    struct composecheck_fault *fault);
 
@@ -252,10 +252,10 @@ void composecheck_table_refeed(const struct composecheck_table *table, struct co
 bool composecheck_table_following(const struct composecheck_table *table, const struct composecheck_state *state, uint32_t index,
                                   uint32_t *keysym, uint32_t *status, uint8_t text[COMPOSECHECK_MOST_TEXT], uint32_t *text_length);
 
-/* composecheck_result; 0 where the table has no result keysyms. */
+/* composecheck_result; 0 if the table has no result keysyms. */
 uint32_t composecheck_table_result(const struct composecheck_table *table, const struct composecheck_state *state, uint32_t keysym);
 
-/* The next include of a source from *offset on, which goes on behind its line: its name with an end mark in name, false where there is none
+/* The next include of a source from *offset on, which goes on after its line: its name with an end mark in name, false if there is none
  * with a name that has room. *offset is 0 at first. */
 bool composecheck_next_include(const void *bytes, size_t length, size_t *offset, char *name, size_t room);
 
@@ -263,7 +263,7 @@ bool composecheck_next_include(const void *bytes, size_t length, size_t *offset,
  * for %L; the home folder, for %H; and the folder below which an absolute path is looked for first. */
 struct composecheck_places { const char *system, *locale, *home, *sysroot; };
 
-/* Reads the table of the file at this path, with every file that it includes, by stdio; places may be null. Null where it is refused: fault says
+/* Reads the table of the file at this path, with every file that it includes, by stdio; places may be null. Null if it is refused: fault says
  * why, and text gets it as a line `FILE:LINE:COLUMN: SENTENCE`, cut to the room (with no room text may be null). MALLOC */
 struct composecheck_table *composecheck_table_from_file(const char *path, const struct composecheck_places *places, bool longest,
                                                         struct composecheck_fault *fault, char *text, size_t room);
@@ -271,8 +271,8 @@ struct composecheck_table *composecheck_table_from_file(const char *path, const 
 /* The files of a table: the answers that composecheck_find took, and the bundle that it gave. */
 struct composecheck_files { uint8_t *answers, *bundle; size_t answers_length, bundle_length; };
 
-/* Finds the files of the table at this path, and reads them by stdio; where bytes is not null, they are the root, and its path is only its name.
- * False where the search is refused. composecheck_files_free frees what files has, in both cases. MALLOC */
+/* Finds the files of the table at this path, and reads them by stdio; if bytes is not null, they are the root, and its path is only its name.
+ * False if the search is refused. composecheck_files_free frees what files has, in both cases. MALLOC */
 bool composecheck_files_find(struct composecheck_files *files, const char *root, const void *bytes, size_t length,
                              const struct composecheck_places *places, struct composecheck_fault *fault);
 void composecheck_files_free(struct composecheck_files *files);
@@ -283,7 +283,7 @@ uint8_t *composecheck_files_source(const struct composecheck_files *files, size_
 /* The line of composecheck_table_from_file for a fault of these files; gives the whole length, as snprintf does. MALLOC */
 size_t composecheck_files_explain(const struct composecheck_files *files, bool longest, const struct composecheck_fault *fault, char *text, size_t room);
 
-/* The text of a key that is part of no sequence, by the names that are built in, in UTF-8 with an end mark; gives its length, 0 where the
+/* The text of a key that is part of no sequence, by the names that are built in, in UTF-8 with an end mark; returns its length, 0 if the
  * key has none or memory is wanting. For several keys composecheck_characters is faster. MALLOC */
 size_t composecheck_key_text(uint32_t keysym, char text[5]);
 
