@@ -4,3 +4,4 @@ pub mod Keysyms
 pub mod FirstReply
 pub mod HeadFault
 pub mod Exactly
+pub mod Widened

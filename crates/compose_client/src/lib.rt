@@ -17,8 +17,10 @@ mod feeder;
 mod laws;
 mod reply;
 mod request;
+mod window;
 
 pub use fault::{ReplyFault, RequestFault};
 pub use feeder::ReplyFeeder;
 pub use laws::{law_one_reply, law_replies_fit, law_reply_fault};
 pub use request::put_request;
+pub use window::ReplyWindow;

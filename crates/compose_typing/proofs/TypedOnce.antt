@@ -16,7 +16,7 @@ use Rattle.compose_typing.specs.declared.action.Action.TheVariants.{Wait, Send, 
 use Rattle.compose_typing.specs.declared.stage.Waiting.{Waiting}
 use Rattle.compose_typing.specs.declared.stage.KeyAnswer.{KeyAnswer}
 use Rattle.compose_typing.specs.declared.stage.Stage.{Stage}
-use Rattle.compose_typing.specs.declared.stage.Stage.TheVariants.{Apart, Ready, Connecting, Opening, Feeding, Asking}
+use Rattle.compose_typing.specs.declared.stage.Stage.TheVariants.{Apart, Ready, Connecting, Opening, Feeding, Asking, Refreshing, Closing}
 use Rattle.compose_typing.specs.TypingSession.{Client, Outcome, does, sent, asks, bodies_for, before_key, typed_anew, verdict_on, connected, answered, answered_at, fed_at, lost, lost_at, lost_with}
 use Rattle.compose_typing.specs.Laws.{Event, connect, reply, lose, happens, after}
 use Rattle.compose_typing.specs.Service.{answer_of, session_after, replies, typed, verdicts_in, verdicts_at, heard, moved, Types, session_for, key_at, AskedOnce, LostOnce, PendingAgain}
@@ -96,6 +96,8 @@ lost_is c (Connecting v) w e = cc
 lost_is c (Opening v) w e = cc
 lost_is c (Feeding v n) w e = cc
 lost_is c (Asking v h) w e = cc
+lost_is c (Refreshing n) w e = cc
+lost_is c Closing w e = cc
 
 pub lost_once : LostOnce
 lost_once names table c w n s is first opened =

@@ -3,7 +3,7 @@ use Rattle.std.specs.Prelude.{◌≡◌, ℕ, ◌+◌, if◌then◌else◌, List
 use Rattle.compose_wire.specs.Messages.{Reply}
 use Rattle.compose_typing.specs.declared.action.Action.{Action}
 use Rattle.compose_typing.specs.declared.action.Action.TheVariants.{Wait, Send, Connect, Tell, Abandon, Close}
-use Rattle.compose_typing.specs.TypingSession.{Client, Outcome, waits, press_outcome, connected, answered, lost, timeout_outcome}
+use Rattle.compose_typing.specs.TypingSession.{Client, Outcome, does, waits, press_outcome, connected, answered, lost, timeout_outcome, erase_outcome, dropped, close_outcome}
 
 -- what happens to a client
 pub data Event : Type 0 where
@@ -12,6 +12,9 @@ pub data Event : Type 0 where
   reply : Reply → Event
   lose : Event
   time_out : Event
+  erase : Event
+  drop_pending : Event
+  close : Event
 
 abbrev pub happens : Client → Event → Outcome
 happens c (press k) = press_outcome c k
@@ -19,6 +22,9 @@ happens c (connect n) = connected c n
 happens c (reply r) = answered c r
 happens c lose = lost c
 happens c time_out = timeout_outcome c
+happens c erase = erase_outcome c
+happens c drop_pending = does (dropped c) Wait
+happens c close = close_outcome c
 
 -- the client after these events, and its action at each
 abbrev pub after : Client → List Event → Client

@@ -1,5 +1,5 @@
 //! What an input method does after an event.
-ghost use Rattle.std.specs.Prelude.{◌≡◌};
+ghost use Rattle.std.specs.Prelude.{◌≡◌, ◌≤◌, length};
 
 use arrayvec::{ArrayString, ArrayVec};
 use std::marker::Model;
@@ -11,16 +11,18 @@ pub struct Text {
 }
 
 impl Model for Text {
-    ghost use Rattle.std.specs.Prelude.{ℕ, List};
+    ghost use Rattle.std.specs.Prelude.{ℕ, ◌≤◌, List, length};
 
     ghost Value = { List ℕ };
 
     ghost view = { λ t. t.bytes.bytes };
+
+    ghost invariant = { λ t. length t.bytes.bytes ≤ 255 };
 }
 
 impl Text {
     /// Wraps these bytes. O(1).
-    pub(crate) fn new(bytes: ArrayString<255>) -> Text
+    pub fn new(bytes: ArrayString<255>) -> Text
         ensures { result ≡ bytes.bytes }
     {
         Text { bytes }
@@ -28,7 +30,8 @@ impl Text {
 
     /// Returns the text. O(1).
     pub fn as_str(&self) -> &str
-        ensures { result.now ≡ self.now }
+        ensures value { result.now ≡ self.now }
+        ensures few { length result.now ≤ 255 }
     {
         self.bytes.as_str()
     }
@@ -41,17 +44,20 @@ pub struct Frames {
 }
 
 impl Model for Frames {
-    ghost use Rattle.std.specs.Prelude.{ℕ, List};
+    ghost use Rattle.std.specs.Prelude.{ℕ, ◌≤◌, List, length};
 
     ghost Value = { List ℕ };
 
     ghost view = { λ f. f.bytes.items };
+
+    ghost invariant = { λ f. length f.bytes.items ≤ 448 };
 }
 
 impl Frames {
     /// Returns the bytes. O(1).
     pub fn as_slice(&self) -> &[u8]
-        ensures { result.now ≡ self.now }
+        ensures value { result.now ≡ self.now }
+        ensures few { length result.now ≤ 448 }
     {
         self.bytes.as_slice()
     }

@@ -1,11 +1,12 @@
 //! A client: what it does at each event.
-ghost use Rattle.std.specs.Prelude.{◌≡◌, ◌≤◌, ◌<◌, length};
+ghost use Rattle.std.specs.Prelude.{◌≡◌, ◌≤◌, ◌<◌, [], true, length};
+ghost use Rattle.compose_typing.specs.declared.stage.Stage.TheVariants as Stage;
 ghost use Rattle.compose_wire.specs.Messages as wire;
 ghost use Rattle.compose_wire.specs.Replies.{HasReplyValue, HasAnswerValue};
 ghost use Rattle.compose_typing.specs.TypingSession as words;
 
 use crate::action::{Action, KeyVerdict, Text};
-use crate::frames::{key_frames, open_frames};
+use crate::frames::{close_frames, key_frames, open_frames, refresh_frames};
 use crate::stage::{KeyAnswer, Stage, Waiting};
 use arrayvec::ArrayVec;
 use compose_model::Status;
@@ -16,6 +17,9 @@ use std::mem;
 
 /// The code with which the service refuses an Open if a session with this number is open.
 const SESSION_TAKEN: u16 = 1;
+
+/// The code with which the service refuses a request of a session that is not open.
+const NO_SESSION: u16 = 2;
 
 /// A client of the typing service, with one session.
 #[derive(Drop)]
@@ -87,6 +91,59 @@ impl Client {
         self.pending.as_slice()
     }
 
+    /// Returns the client with this session, these pending keys and what it waits for. O(1).
+    pub fn restored(
+        session: u32,
+        is_opened: bool,
+        pending: ArrayVec<Keysym, 31>,
+        is_stale: bool,
+        stage: Stage,
+    ) -> Client
+        ensures { result ≡ record {
+          session = session;
+          is_opened = is_opened;
+          pending = pending.items;
+          is_stale = is_stale;
+          stage = stage;
+        } }
+    {
+        Client {
+            session,
+            is_opened,
+            pending,
+            is_stale,
+            stage,
+        }
+    }
+
+    /// Returns the number of the session. O(1).
+    pub fn session(&self) -> u32
+        ensures { result ≡ self.now.session }
+    {
+        self.session
+    }
+
+    /// Whether the service has confirmed the session. O(1).
+    pub fn is_opened(&self) -> bool
+        ensures { result ≡ self.now.is_opened }
+    {
+        self.is_opened
+    }
+
+    /// Whether a Reset and the pending keys have to be sent before the next key. O(1).
+    pub fn is_stale(&self) -> bool
+        ensures { result ≡ self.now.is_stale }
+    {
+        self.is_stale
+    }
+
+    /// Returns what the client waits for. O(1).
+    pub fn stage(&self) -> &Stage
+        ensures { result.now ≡ self.now.stage }
+    {
+        &self.stage
+    }
+
     /// Whether a key waits for its verdict. O(1).
     pub fn waits(&self) -> bool
         ensures { result ≡ words.waits self.now.stage }
@@ -106,12 +163,19 @@ impl Client {
         Action::Send(frames)
     }
 
+    /// Forgets the pending keys. O(1).
+    fn forget(&mut self)
+        ensures { self.new ≡ record self.old { pending = []; is_stale = true } }
+    {
+        self.pending.clear();
+        self.is_stale = true;
+    }
+
     /// Gives up the connection, and drops the pending keys. O(1).
     fn abandon(&mut self) -> Action
         ensures { record { client = self.new; action = result } ≡ words.abandon_outcome self.old }
     {
-        self.pending.clear();
-        self.is_stale = true;
+        self.forget();
         self.stage = Stage::Apart;
         Action::Abandon
     }
@@ -186,12 +250,15 @@ impl Client {
             → record { client = self.new; action = result }
             ≡ words.fed_at self.old waiting left value }
     {
-        if !matches!(answer, ReplyBody::Fed(_, _, _) | ReplyBody::WasReset) {
-            return self.abandon();
+        match answer {
+            ReplyBody::Fed(_, _, _) | ReplyBody::WasReset => {
+                self.is_stale = true;
+                self.stage = Stage::Feeding(waiting, left - 1);
+                Action::Wait
+            }
+            ReplyBody::Refused(code) => self.lose_session(waiting, *code),
+            _ => self.abandon(),
         }
-        self.is_stale = true;
-        self.stage = Stage::Feeding(waiting, left - 1);
-        Action::Wait
     }
 
     /// Handles a reply to Reset or to a key, when this number of replies comes before the reply to
@@ -204,18 +271,49 @@ impl Client {
         if left > 0 {
             return self.pass_over(waiting, left, &answer);
         }
-        let ReplyBody::Fed(status, accepted, text) = answer else {
-            return self.abandon();
-        };
-        let text = Text::new(text);
-        let heard = KeyAnswer {
-            status,
-            accepted,
-            text,
-        };
-        self.is_stale = true;
-        self.stage = Stage::Asking(waiting, heard);
-        Action::Wait
+        match answer {
+            ReplyBody::Fed(status, accepted, text) => {
+                let text = Text::new(text);
+                let heard = KeyAnswer {
+                    status,
+                    accepted,
+                    text,
+                };
+                self.is_stale = true;
+                self.stage = Stage::Asking(waiting, heard);
+                Action::Wait
+            }
+            ReplyBody::Refused(code) => self.lose_session(waiting, code),
+            _ => self.abandon(),
+        }
+    }
+
+    /// Handles a refusal with this code while the key waits. A session that another client closed
+    /// is opened again, like one whose connection was lost. O(1).
+    fn lose_session(&mut self, waiting: Waiting, code: u16) -> Action
+        ensures { (why : wire.Refusal) → wire.code why ≡ code
+            → record { client = self.new; action = result } ≡ words.refused_at self.old waiting why }
+    {
+        if code == NO_SESSION {
+            return self.lose_with(waiting);
+        }
+        self.abandon()
+    }
+
+    /// Takes the reported state of the session. O(1).
+    fn take_state(&mut self, status: Status, pending: ArrayVec<Keysym, 31>)
+        ensures { self.new
+            ≡ record self.old {
+              pending = pending.items;
+              is_stale = words.is_cancelled status;
+              stage = Stage.Ready;
+            } }
+    {
+        // The contract of this call says that there are at most 31.
+        let _ = pending.len();
+        self.pending = pending;
+        self.is_stale = status == Status::Cancelled;
+        self.stage = Stage::Ready;
     }
 
     /// Handles the reply to Ask. O(1).
@@ -224,15 +322,48 @@ impl Client {
             → record { client = self.new; action = result }
             ≡ words.asked_at self.old waiting heard value }
     {
-        let ReplyBody::State(status, pending) = answer else {
-            return self.abandon();
-        };
-        // The contract of this call says that there are at most 31.
-        let _ = pending.len();
-        self.pending = pending;
-        self.is_stale = status == Status::Cancelled;
-        self.stage = Stage::Ready;
-        Action::Tell(verdict_of(waiting.key, heard))
+        match answer {
+            ReplyBody::State(status, pending) => {
+                self.take_state(status, pending);
+                Action::Tell(verdict_of(waiting.key, heard))
+            }
+            ReplyBody::Refused(code) => self.lose_session(waiting, code),
+            _ => self.abandon(),
+        }
+    }
+
+    /// Handles a reply while no key waits, when this number of replies comes before the reply to
+    /// Ask. O(1).
+    fn answer_refresh(&mut self, left: usize, answer: ReplyBody) -> Action
+        ensures { (value : wire.ReplyBody) → HasAnswerValue answer value
+            → record { client = self.new; action = result }
+            ≡ words.refreshed_at self.old left value }
+    {
+        match answer {
+            ReplyBody::Fed(_, _, _) | ReplyBody::WasReset if left > 0 => {
+                self.stage = Stage::Refreshing(left - 1);
+                Action::Wait
+            }
+            ReplyBody::State(status, pending) if left == 0 => {
+                self.take_state(status, pending);
+                Action::Wait
+            }
+            _ => self.give_up(),
+        }
+    }
+
+    /// Handles the reply to Close. O(1).
+    fn answer_close(&mut self, answer: &ReplyBody) -> Action
+        ensures { (value : wire.ReplyBody) → HasAnswerValue answer.now value
+            → record { client = self.new; action = result } ≡ words.closed_at self.old value }
+    {
+        match answer {
+            ReplyBody::Closed | ReplyBody::Refused(_) => {
+                self.stage = Stage::Apart;
+                Action::Wait
+            }
+            _ => self.give_up(),
+        }
     }
 
     /// Handles a reply. A reply that belongs to no request gives up the connection. O(pending
@@ -248,6 +379,8 @@ impl Client {
             Stage::Opening(waiting) => self.answer_open(waiting, &reply.answer),
             Stage::Feeding(waiting, left) => self.answer_key(waiting, left, reply.answer),
             Stage::Asking(waiting, heard) => self.answer_ask(waiting, heard, reply.answer),
+            Stage::Refreshing(left) => self.answer_refresh(left, reply.answer),
+            Stage::Closing => self.answer_close(&reply.answer),
             Stage::Connecting(_) => self.abandon(),
             Stage::Apart | Stage::Ready => self.give_up(),
         }
@@ -260,7 +393,7 @@ impl Client {
     {
         match mem::replace(&mut self.stage, Stage::Apart) {
             Stage::Apart => Action::Wait,
-            Stage::Ready => {
+            Stage::Ready | Stage::Refreshing(_) | Stage::Closing => {
                 self.is_stale = true;
                 Action::Wait
             }
@@ -289,9 +422,57 @@ impl Client {
     pub fn time_out(&mut self) -> Action
         ensures { record { client = self.new; action = result } ≡ words.timeout_outcome self.old }
     {
-        if !self.stage.waits() {
+        if self.stage.is_idle() {
             return Action::Wait;
         }
-        self.abandon()
+        self.give_up()
+    }
+
+    /// Takes the last pending key back, and asks the service what is pending then. Without a
+    /// connection nothing is asked, and while a reply is waited for nothing changes. O(pending
+    /// keys).
+    pub fn erase(&mut self) -> Action
+        ensures { record { client = self.new; action = result } ≡ words.erase_outcome self.old }
+    {
+        if !self.stage.is_idle() {
+            return Action::Wait;
+        }
+        self.pending.truncate(self.pending.len().saturating_sub(1));
+        self.is_stale = true;
+        if !matches!(self.stage, Stage::Ready) {
+            return Action::Wait;
+        }
+        let pending = self.pending.as_slice();
+        let frames = refresh_frames(self.session, pending);
+        self.stage = Stage::Refreshing(pending.len() + 1);
+        Action::Send(frames)
+    }
+
+    /// Drops the pending keys: the session is reset before the next key. While a reply is waited
+    /// for nothing changes. O(1).
+    pub fn drop_pending(&mut self)
+        ensures { self.new ≡ words.dropped self.old }
+    {
+        if !self.stage.is_idle() {
+            return;
+        }
+        self.forget();
+    }
+
+    /// Closes the session, if there is a connection; the next key opens another one. While a reply
+    /// is waited for nothing changes. O(1).
+    pub fn close(&mut self) -> Action
+        ensures { record { client = self.new; action = result } ≡ words.close_outcome self.old }
+    {
+        if !self.stage.is_idle() {
+            return Action::Wait;
+        }
+        self.forget();
+        self.is_opened = false;
+        if !matches!(self.stage, Stage::Ready) {
+            return Action::Wait;
+        }
+        self.stage = Stage::Closing;
+        Action::Send(close_frames(self.session))
     }
 }

@@ -58,6 +58,15 @@ pub(crate) fn open_frames(session: u32) -> Frames
     frames
 }
 
+/// Returns the request that closes the session. O(1).
+pub(crate) fn close_frames(session: u32) -> Frames
+    ensures { result ≡ sent session (words.close ∷ []) }
+{
+    let mut frames = Frames::new();
+    frames.push(4, session, &[]);
+    frames
+}
+
 /// Returns the requests after which exactly these keys are pending in the session. O(keys).
 fn frames_anew(session: u32, pending: &[Keysym]) -> Frames
     requires { length pending.now ≤ 31 }
@@ -69,6 +78,17 @@ fn frames_anew(session: u32, pending: &[Keysym]) -> Frames
     for index in 0..pending.len() {
         frames.push_key(session, pending[index]);
     }
+    frames
+}
+
+/// Returns the requests that make exactly these keys pending in the session, and ask for its state.
+/// O(keys).
+pub(crate) fn refresh_frames(session: u32, pending: &[Keysym]) -> Frames
+    requires { length pending.now ≤ 31 }
+    ensures { result ≡ sent session (typed_anew pending.now ++ words.ask ∷ []) }
+{
+    let mut frames = frames_anew(session, pending);
+    frames.push(6, session, &[]);
     frames
 }
 

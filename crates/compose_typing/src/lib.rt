@@ -30,6 +30,7 @@ mod typing;
 
 pub use action::{Action, Frames, KeyVerdict, Text};
 pub use client::Client;
+pub use stage::{KeyAnswer, Stage, Waiting};
 pub use typing::TypingSession;
 
 /// Over every list of events, each key has one verdict: it was reported, or the key waits for it.

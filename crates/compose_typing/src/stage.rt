@@ -42,6 +42,11 @@ pub enum Stage {
     Feeding(Waiting, usize),
     /// A key was answered, and waits for the reply to Ask.
     Asking(Waiting, KeyAnswer),
+    /// No key waits. This number of replies, to a Reset and to keys that are typed again, comes
+    /// before the reply to Ask.
+    Refreshing(usize),
+    /// No key waits, and the reply to Close is still to come.
+    Closing,
 }
 
 impl Stage {
@@ -49,6 +54,16 @@ impl Stage {
     pub fn waits(&self) -> bool
         ensures { result ≡ words.waits self.now }
     {
-        !matches!(self, Stage::Apart | Stage::Ready)
+        matches!(
+            self,
+            Stage::Connecting(_) | Stage::Opening(_) | Stage::Feeding(_, _) | Stage::Asking(_, _)
+        )
+    }
+
+    /// Whether nothing is waited for: neither a connection nor a reply. O(1).
+    pub fn is_idle(&self) -> bool
+        ensures { result ≡ words.is_idle self.now }
+    {
+        matches!(self, Stage::Apart | Stage::Ready)
     }
 }

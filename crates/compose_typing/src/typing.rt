@@ -1,23 +1,22 @@
 //! A client that reads the bytes of its connection.
-ghost use Rattle.std.specs.Prelude.{◌≡◌, ◌++◌, List, ℕ, [], Some, None, OnOk, OnErr};
+ghost use Rattle.std.specs.Prelude.{◌≡◌, ◌≤◌, ◌++◌, List, ℕ, [], length, Some, None};
 ghost use Rattle.compose_wire.specs.Messages as wire;
 ghost use Rattle.compose_wire.specs.Frames.{Fault, reply_bytes};
 ghost use Rattle.compose_client.specs.Replies.{ReplyFits, head_fault, HasBadPayload, IsReplyBegun};
 ghost use Rattle.compose_typing.specs.TypingSession as words;
-ghost use Rattle.compose_typing.specs.Bytes.{Becomes, Returns};
+ghost use Rattle.compose_typing.specs.Bytes.{Becomes, Receives};
 
 use crate::action::Action;
 use crate::client::Client;
-use compose_client::{ReplyFault, ReplyFeeder};
+use compose_client::ReplyWindow;
 use keysym_core::Keysym;
-use std::alloc::Global;
 use std::marker::Model;
 
 /// A client, and the received bytes of replies that it has not read yet.
 #[derive(Drop)]
 pub struct TypingSession {
     client: Client,
-    replies: ReplyFeeder,
+    replies: ReplyWindow,
 }
 
 impl Model for TypingSession {
@@ -29,14 +28,36 @@ impl Model for TypingSession {
 }
 
 impl TypingSession {
-    /// Makes a client that has typed nothing. O(1), takes no memory.
-    pub fn new(alloc: Global) -> TypingSession
+    /// Makes a client that has typed nothing. O(1).
+    pub fn new() -> TypingSession
         ensures { result ≡ record { client = words.start; held = [] } }
     {
         TypingSession {
             client: Client::new(),
-            replies: ReplyFeeder::new(alloc),
+            replies: ReplyWindow::new(),
         }
+    }
+
+    /// Returns the client that holds these bytes of its connection. O(1).
+    pub fn restored(client: Client, replies: ReplyWindow) -> TypingSession
+        ensures { result ≡ record { client = client; held = replies } }
+    {
+        TypingSession { client, replies }
+    }
+
+    /// Returns the client. O(1).
+    pub fn client(&self) -> &Client
+        ensures { result.now ≡ self.now.client }
+    {
+        &self.client
+    }
+
+    /// Returns the received bytes that were not read yet, at most 266. O(1).
+    pub fn held(&self) -> &[u8]
+        ensures value { result.now ≡ self.now.held }
+        ensures few { length result.now ≤ 266 }
+    {
+        self.replies.as_slice()
     }
 
     /// Returns the pending keys, at most 31: what an input method shows as preedit. O(1).
@@ -63,43 +84,39 @@ impl TypingSession {
     }
 
     /// Handles a new connection, and drops the bytes of an earlier one. The session gets this
-    /// number, ideally a random one each time, unless it was opened before. O(1), takes no memory.
-    pub fn connected(&mut self, alloc: Global, number: u32) -> Action
+    /// number, ideally a random one each time, unless it was opened before. O(1).
+    pub fn connected(&mut self, number: u32) -> Action
         ensures { Becomes (words.connected self.old.client number) [] self.new result }
     {
-        self.replies = ReplyFeeder::new(alloc);
+        self.replies = ReplyWindow::new();
         self.client.connected(number)
     }
 
-    /// Takes bytes that were received. After this, `next_action` returns what to do. O(bytes).
+    /// Takes bytes that were received. Returns the number of bytes at the front that it took, and
+    /// what to do at the next reply. With the remaining bytes, it has to be called again until it
+    /// returns `None`: then it has taken all bytes, and no whole reply is left.
     ///
-    /// # Errors
-    /// `NoMemory` if memory runs out; nothing changes then.
-    pub fn receive(&mut self, piece: &[u8]) -> Result<(), ReplyFault>
-        ensures ok { OnOk result
-            (self.new
-            ≡ record { client = self.old.client; held = self.old.held ++ piece.now }) }
-        ensures err { OnErr result (self.new ≡ self.old) }
-    {
-        self.replies.feed(piece)
-    }
-
-    /// Returns what to do at the next reply that was received, or `None` if no whole reply is left.
-    /// Bytes that are not a reply give up the connection. O(pending keys).
-    pub fn next_action(&mut self) -> Option<Action>
+    /// Bytes that are not a reply give up the connection. Allocates nothing; O(pending keys).
+    pub fn receive(&mut self, piece: &[u8]) -> (usize, Option<Action>)
         ensures reply { (r : wire.Reply) (more : List ℕ) → ReplyFits r
-            → self.old.held ≡ reply_bytes r ++ more
-            → Returns (words.answered self.old.client r) more self.new result }
-        ensures fault { (fault : Fault) → head_fault self.old.held ≡ Some fault
-            → Returns (words.give_up_outcome self.old.client) self.old.held self.new result }
-        ensures bad_payload { HasBadPayload self.old.held
-            → Returns (words.give_up_outcome self.old.client) self.old.held self.new result }
-        ensures none { IsReplyBegun self.old.held → (result ≡ None) × (self.new ≡ self.old) }
+            → self.old.held ++ piece.now ≡ reply_bytes r ++ more
+            → Receives (words.answered self.old.client r) more piece.now self.new result }
+        ensures fault { (fault : Fault) → head_fault (self.old.held ++ piece.now) ≡ Some fault
+            → Receives (words.give_up_outcome self.old.client) (self.old.held ++ piece.now)
+            piece.now self.new result }
+        ensures bad_payload { HasBadPayload (self.old.held ++ piece.now)
+            → Receives (words.give_up_outcome self.old.client) (self.old.held ++ piece.now)
+            piece.now self.new result }
+        ensures none { IsReplyBegun (self.old.held ++ piece.now) → (result ≡ (length piece.now, None))
+            × (self.new
+            ≡ record { client = self.old.client; held = self.old.held ++ piece.now }) }
+        ensures used { result.0 ≤ length piece.now }
     {
-        match self.replies.next_reply() {
-            Ok(Some(reply)) => Some(self.client.answer(reply)),
-            Ok(None) => None,
-            Err(_) => Some(self.client.give_up()),
+        let (used, next) = self.replies.next_reply(piece);
+        match next {
+            Ok(Some(reply)) => (used, Some(self.client.answer(reply))),
+            Ok(None) => (used, None),
+            Err(_) => (used, Some(self.client.give_up())),
         }
     }
 
@@ -116,5 +133,31 @@ impl TypingSession {
         ensures { Becomes (words.timeout_outcome self.old.client) self.old.held self.new result }
     {
         self.client.time_out()
+    }
+
+    /// Takes the last pending key back, and asks the service what is pending then. Without a
+    /// connection nothing is asked, and while a reply is waited for nothing changes. O(pending
+    /// keys).
+    pub fn erase(&mut self) -> Action
+        ensures { Becomes (words.erase_outcome self.old.client) self.old.held self.new result }
+    {
+        self.client.erase()
+    }
+
+    /// Drops the pending keys: the session is reset before the next key. While a reply is waited
+    /// for nothing changes. O(1).
+    pub fn drop_pending(&mut self)
+        ensures { self.new
+            ≡ record { client = words.dropped self.old.client; held = self.old.held } }
+    {
+        self.client.drop_pending();
+    }
+
+    /// Closes the session, if there is a connection; the next key opens another one. While a reply
+    /// is waited for nothing changes. O(1).
+    pub fn close(&mut self) -> Action
+        ensures { Becomes (words.close_outcome self.old.client) self.old.held self.new result }
+    {
+        self.client.close()
     }
 }
