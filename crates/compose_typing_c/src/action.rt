@@ -29,36 +29,36 @@ pub struct ActionRecord {
 }
 
 /// Puts the verdict into the numbers. O(its text).
-fn put_verdict(record: &mut ActionRecord, verdict: &KeyVerdict)
-    ensures verdict { words.SaysVerdict record.new verdict.now }
-    ensures kind { record.new.kind ≡ record.old.kind }
+fn put_verdict(fields: &mut ActionRecord, verdict: &KeyVerdict)
+    ensures verdict { words.SaysVerdict fields.new verdict.now }
+    ensures kind { fields.new.kind ≡ fields.old.kind }
 {
     match verdict {
-        KeyVerdict::Pass => record.verdict = 0,
-        KeyVerdict::Take => record.verdict = 1,
+        KeyVerdict::Pass => fields.verdict = 0,
+        KeyVerdict::Take => fields.verdict = 1,
         KeyVerdict::Commit(text) => {
-            record.verdict = 2;
-            record.text_length = put(text.as_str().as_bytes(), &mut record.text);
+            fields.verdict = 2;
+            fields.text_length = put(text.as_str().as_bytes(), &mut fields.text);
         }
     }
 }
 
 /// Puts the action into the numbers. O(its bytes).
-pub fn put_action(record: &mut ActionRecord, action: &Action)
-    ensures { words.Says record.new action.now }
+pub fn put_action(fields: &mut ActionRecord, action: &Action)
+    ensures { words.Says fields.new action.now }
 {
     match action {
-        Action::Wait => record.kind = 0,
+        Action::Wait => fields.kind = 0,
         Action::Send(frames) => {
-            record.kind = 1;
-            record.byte_count = put(frames.as_slice(), &mut record.bytes);
+            fields.kind = 1;
+            fields.byte_count = put(frames.as_slice(), &mut fields.bytes);
         }
-        Action::Connect => record.kind = 2,
+        Action::Connect => fields.kind = 2,
         Action::Tell(verdict) => {
-            record.kind = 3;
-            put_verdict(record, verdict);
+            fields.kind = 3;
+            put_verdict(fields, verdict);
         }
-        Action::Abandon => record.kind = 4,
-        Action::Close => record.kind = 5,
+        Action::Abandon => fields.kind = 4,
+        Action::Close => fields.kind = 5,
     }
 }

@@ -36,51 +36,51 @@ pub struct ClientRecord {
 }
 
 /// Returns the pending keys.
-fn pending_of(record: &ClientRecord) -> ArrayVec<Keysym, 31>
-    ensures { result.items ≡ (words.client_of record.now).pending }
+fn pending_of(fields: &ClientRecord) -> ArrayVec<Keysym, 31>
+    ensures { result.items ≡ (words.client_of fields.now).pending }
 {
-    if record.count > 31 {
+    if fields.count > 31 {
         return ArrayVec::new();
     }
-    let (numbers, _) = record.pending.split_at(record.count as usize);
+    let (numbers, _) = fields.pending.split_at(fields.count as usize);
     keysyms_of(numbers)
 }
 
 /// Returns the bytes that were received and not read yet.
-fn window_of(record: &ClientRecord) -> ReplyWindow
-    ensures { result ≡ words.held_of record.now }
+fn window_of(fields: &ClientRecord) -> ReplyWindow
+    ensures { result ≡ words.held_of fields.now }
 {
     let mut bytes = ArrayVec::new();
-    if record.held_count <= 266 {
-        let (held, _) = record.held.split_at(record.held_count as usize);
+    if fields.held_count <= 266 {
+        let (held, _) = fields.held.split_at(fields.held_count as usize);
         bytes.try_extend_from_slice(held).unwrap();
     }
     ReplyWindow::restored(bytes)
 }
 
 /// Returns the client that the numbers mean. O(1): at most 31 keys, 266 bytes and a text.
-pub fn restored(record: &ClientRecord) -> TypingSession
-    ensures { result ≡ words.typing_of record.now }
+pub fn restored(fields: &ClientRecord) -> TypingSession
+    ensures { result ≡ words.typing_of fields.now }
 {
     let client = Client::restored(
-        record.session,
-        record.is_opened == 1,
-        pending_of(record),
-        record.is_current != 1,
-        stage_of(&record.stage),
+        fields.session,
+        fields.is_opened == 1,
+        pending_of(fields),
+        fields.is_current != 1,
+        stage_of(&fields.stage),
     );
-    TypingSession::restored(client, window_of(record))
+    TypingSession::restored(client, window_of(fields))
 }
 
 /// Stores the client as numbers. O(1): at most 31 keys, 266 bytes and a text.
-pub fn keep(record: &mut ClientRecord, typing: &TypingSession)
-    ensures { words.typing_of record.new ≡ typing.now }
+pub fn keep(fields: &mut ClientRecord, typing: &TypingSession)
+    ensures { words.typing_of fields.new ≡ typing.now }
 {
     let client = typing.client();
-    put_stage(&mut record.stage, client.stage());
-    record.session = client.session();
-    record.is_opened = u32::from(client.is_opened());
-    record.is_current = u32::from(!client.is_stale());
-    record.count = put_keysyms(client.pending(), &mut record.pending);
-    record.held_count = put(typing.held(), &mut record.held);
+    put_stage(&mut fields.stage, client.stage());
+    fields.session = client.session();
+    fields.is_opened = u32::from(client.is_opened());
+    fields.is_current = u32::from(!client.is_stale());
+    fields.count = put_keysyms(client.pending(), &mut fields.pending);
+    fields.held_count = put(typing.held(), &mut fields.held);
 }

@@ -140,10 +140,7 @@ pub extern "C" fn composecheck_client_lose(client: &mut ClientRecord, action: &m
 
 /// Handles the end of the time allowed for a key, or for a request without a key. O(1).
 #[unsafe(no_mangle)]
-pub extern "C" fn composecheck_client_time_out(
-    client: &mut ClientRecord,
-    action: &mut ActionRecord,
-)
+pub extern "C" fn composecheck_client_time_out(client: &mut ClientRecord, action: &mut ActionRecord)
     ensures { Becomes (machine.timeout_outcome (client_of client.old)) (held_of client.old)
         client.new action.new }
 {
@@ -194,10 +191,7 @@ pub extern "C" fn composecheck_client_close(client: &mut ClientRecord, action: &
 /// Puts the pending keys at the front of `keysyms`, and returns their number, at most 31: what an
 /// input method shows as preedit. O(pending keys).
 #[unsafe(no_mangle)]
-pub extern "C" fn composecheck_client_pending(
-    client: &ClientRecord,
-    keysyms: &mut [u32; 31],
-) -> u32
+pub extern "C" fn composecheck_client_pending(client: &ClientRecord, keysyms: &mut [u32; 31]) -> u32
     ensures value { take result keysyms.new ≡ (client_of client.now).pending }
     ensures count { result ≡ length (client_of client.now).pending }
     ensures few { result ≤ 31 }

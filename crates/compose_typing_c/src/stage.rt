@@ -1,5 +1,6 @@
 //! What a client waits for, as numbers in C's memory.
-ghost use Rattle.std.specs.Prelude.{◌≡◌, ◌≤◌, length};
+ghost use Rattle.std.specs.Prelude.{◌≡◌, ◌≤◌, true, length};
+ghost use Rattle.keysym_core.specs.Keysym.{is_keysym};
 ghost use Rattle.compose_typing_c.specs.Clients as words;
 ghost use Rattle.compose_typing_c.specs.Numbers as numbers;
 
@@ -75,98 +76,103 @@ fn text_of(bytes: &[u8]) -> Text
     requires { length bytes.now ≤ 255 }
     ensures { result ≡ numbers.text_of bytes.now }
 {
-    let Ok(text) = str::from_utf8(bytes) else {
-        return Text::new(ArrayString::new());
-    };
-    Text::new(ArrayString::from(text).unwrap())
+    match str::from_utf8(bytes) {
+        Ok(text) => Text::new(ArrayString::from(text).unwrap()),
+        Err(_) => Text::new(ArrayString::new()),
+    }
 }
 
 /// Returns the answer that the numbers mean. O(its text).
-fn answer_of(record: &AnswerRecord) -> KeyAnswer
-    ensures { result ≡ words.answer_of record.now }
+fn answer_of(fields: &AnswerRecord) -> KeyAnswer
+    ensures { result ≡ words.answer_of fields.now }
 {
-    let length = if record.text_length > 255 { 0 } else { record.text_length };
-    let (bytes, _) = record.text.split_at(length as usize);
+    let length = if fields.text_length > 255 {
+        0
+    } else {
+        fields.text_length
+    };
+    let (bytes, _) = fields.text.split_at(length as usize);
     KeyAnswer {
-        status: status_of(record.status),
-        accepted: record.accepted == 1,
+        status: status_of(fields.status),
+        accepted: fields.accepted == 1,
         text: text_of(bytes),
     }
 }
 
 /// Returns what a key waits for. O(the text of its answer).
-fn key_stage(record: &StageRecord, key: Keysym) -> Stage
-    requires { key ≡ record.now.key }
-    ensures { result ≡ words.key_stage record.now }
+fn key_stage(fields: &StageRecord, key: Keysym) -> Stage
+    requires { key ≡ fields.now.key }
+    ensures { result ≡ words.key_stage fields.now }
 {
-    let is_again = record.is_again == 1;
+    let is_again = fields.is_again == 1;
     let waiting = Waiting { key, is_again };
-    match record.number {
+    match fields.number {
         2 => Stage::Connecting(waiting),
         3 => Stage::Opening(waiting),
-        4 => Stage::Feeding(waiting, record.left),
-        5 => Stage::Asking(waiting, answer_of(&record.answer)),
+        4 => Stage::Feeding(waiting, fields.left),
+        5 => Stage::Asking(waiting, answer_of(&fields.answer)),
         _ => Stage::Apart,
     }
 }
 
 /// Returns what the client waits for. O(the text of an answer).
-pub fn stage_of(record: &StageRecord) -> Stage
-    ensures { result ≡ words.stage_of record.now }
+pub fn stage_of(fields: &StageRecord) -> Stage
+    ensures { result ≡ words.stage_of fields.now }
 {
-    match record.number {
+    match fields.number {
         1 => Stage::Ready,
-        6 => Stage::Refreshing(record.left),
+        6 => Stage::Refreshing(fields.left),
         7 => Stage::Closing,
-        _ => match Keysym::new(record.key) {
-            Some(key) => key_stage(record, key),
+        _ => match Keysym::new(fields.key) {
+            Some(key) => key_stage(fields, key),
             None => Stage::Apart,
         },
     }
 }
 
 /// Puts the answer into the numbers. O(its text).
-fn put_answer(record: &mut AnswerRecord, answer: &KeyAnswer)
-    ensures { words.answer_of record.new ≡ answer.now }
+fn put_answer(fields: &mut AnswerRecord, answer: &KeyAnswer)
+    ensures { words.answer_of fields.new ≡ answer.now }
 {
-    record.status = number_of(answer.status);
-    record.accepted = u32::from(answer.accepted);
-    record.text_length = put(answer.text.as_str().as_bytes(), &mut record.text);
+    fields.status = number_of(answer.status);
+    fields.accepted = u32::from(answer.accepted);
+    fields.text_length = put(answer.text.as_str().as_bytes(), &mut fields.text);
 }
 
 /// Puts a key that waits into the numbers, with the number of what it waits for. O(1).
-fn put_waiting(record: &mut StageRecord, number: u32, waiting: Waiting)
-    ensures waiting { words.waiting_of record.new ≡ waiting }
-    ensures number { record.new.number ≡ number }
-    ensures left { record.new.left ≡ record.old.left }
-    ensures answer { record.new.answer ≡ record.old.answer }
+fn put_waiting(fields: &mut StageRecord, number: u32, waiting: Waiting)
+    ensures waiting { words.waiting_of fields.new ≡ waiting }
+    ensures keysym { is_keysym fields.new.key ≡ true }
+    ensures number { fields.new.number ≡ number }
+    ensures left { fields.new.left ≡ fields.old.left }
+    ensures answer { fields.new.answer ≡ fields.old.answer }
 {
-    record.number = number;
-    record.key = waiting.key.value();
-    record.is_again = u32::from(waiting.is_again);
+    fields.number = number;
+    fields.key = waiting.key.value();
+    fields.is_again = u32::from(waiting.is_again);
 }
 
 /// Puts what the client waits for into the numbers. O(the text of an answer).
-pub fn put_stage(record: &mut StageRecord, stage: &Stage)
-    ensures { words.stage_of record.new ≡ stage.now }
+pub fn put_stage(fields: &mut StageRecord, stage: &Stage)
+    ensures { words.stage_of fields.new ≡ stage.now }
 {
     match stage {
-        Stage::Apart => record.number = 0,
-        Stage::Ready => record.number = 1,
-        Stage::Connecting(waiting) => put_waiting(record, 2, *waiting),
-        Stage::Opening(waiting) => put_waiting(record, 3, *waiting),
+        Stage::Apart => fields.number = 0,
+        Stage::Ready => fields.number = 1,
+        Stage::Connecting(waiting) => put_waiting(fields, 2, *waiting),
+        Stage::Opening(waiting) => put_waiting(fields, 3, *waiting),
         Stage::Feeding(waiting, left) => {
-            record.left = *left;
-            put_waiting(record, 4, *waiting);
+            fields.left = *left;
+            put_waiting(fields, 4, *waiting);
         }
         Stage::Asking(waiting, answer) => {
-            put_answer(&mut record.answer, answer);
-            put_waiting(record, 5, *waiting);
+            put_answer(&mut fields.answer, answer);
+            put_waiting(fields, 5, *waiting);
         }
         Stage::Refreshing(left) => {
-            record.left = *left;
-            record.number = 6;
+            fields.left = *left;
+            fields.number = 6;
         }
-        Stage::Closing => record.number = 7,
+        Stage::Closing => fields.number = 7,
     }
 }
