@@ -5,19 +5,21 @@
 # make test-anew      the gate from nothing
 # make test-whole     the gate with each must-fail edit in a check of its own, as the kit's `rt ci` tries them: for a release
 # make install        installs below PREFIX (/usr/local), in DESTDIR if that is set: the program, and the engine of IBus
-# make install-ibus   the engine of IBus alone
-# make install-fcitx5 builds the addon of fcitx5 and installs it, likewise
+# make install-ibus   the engine of IBus, and the library of clients that it stands on
+# make install-fcitx5 builds the addon of fcitx5 and installs it, with the same library
 # make uninstall      takes away what `make install` put there
 # make dist           packs the proved program for others into packages/, as an archive
-# make deb            the same, as a Debian package, and one each for the engine of IBus and the addon of fcitx5, and two for the C library
+# make deb            the same, as a Debian package, and one each for the engine of IBus and the addon of fcitx5, and three for the C libraries
 # make test-packages  looks at what the packages hold
 # make desk           types into windows through IBus and fcitx5, on displays that nobody sees (docs/TYPING.md)
 # make names          writes the built-in names anew from HEADERS (/usr/include/X11/keysymdef.h and XF86keysym.h), and prints what changed
 # make compose_trials proves and builds ./compose_trials, which `make real` and `make bench` need too
 # make real           runs the program on the tables that Debian ships, and types in other readers of Compose files beside it
 # make bench          measures the program
-# make lib            proves and builds the C library (docs/LIBRARY.md) in build/lib
-# make install-lib    installs the C library alone, below PREFIX
+# make lib            proves and builds the C libraries (docs/LIBRARY.md) in build/lib
+# make lib-client     the library of clients alone, which the engines of IBus and fcitx5 stand on
+# make install-lib    installs the C libraries alone, below PREFIX
+# make install-client installs the library of clients alone, likewise
 # make peers          runs libxkbcommon's own test of Compose, from Debian's source package, on the C library
 # make clean          removes what was built, proved and packed here
 PREFIX = /usr/local
@@ -42,16 +44,27 @@ compose_trials: $(SOURCES)
 	cp crates/compose_trials/out/compose_trials compose_trials
 
 LIBRARY = crates/compose_c/out/libcompose_c.a
+CLIENT_LIBRARY = crates/compose_typing_c/out/libcompose_typing_c.a
 
 $(LIBRARY): $(SOURCES)
 	$(NEEDS_KIT)
 	python3 tools/build.py compose_c
 
-lib: $(LIBRARY)
+$(CLIENT_LIBRARY): $(SOURCES)
+	$(NEEDS_KIT)
+	python3 tools/build.py compose_typing_c
+
+lib: $(LIBRARY) $(CLIENT_LIBRARY)
 	python3 lib/build_library.py build/lib
 
-install-lib: $(LIBRARY)
+lib-client: $(CLIENT_LIBRARY)
+	python3 lib/build_library.py --client build/lib
+
+install-lib: $(LIBRARY) $(CLIENT_LIBRARY)
 	python3 lib/install_library.py $(DESTDIR)$(PREFIX) $(PREFIX)
+
+install-client: $(CLIENT_LIBRARY)
+	python3 lib/install_library.py --client $(DESTDIR)$(PREFIX) $(PREFIX)
 
 peers: $(LIBRARY)
 	python3 tests/peers.py
@@ -92,7 +105,7 @@ install: composecheck install-lib install-ibus
 	install -D -m 644 share/completions/composecheck.fish $(DESTDIR)$(PREFIX)/share/fish/vendor_completions.d/composecheck.fish
 	$(if $(MODULES),install -D -m 644 -t $(DESTDIR)$(MODULES) share/composecheck/composecheck_client.py share/composecheck/composecheck_typing.py)
 
-install-ibus: composecheck
+install-ibus: composecheck install-client
 	install -D -t $(DESTDIR)$(PREFIX)/share/ibus-composecheck share/ibus/ibus-engine-composecheck share/ibus/ibus-setup-composecheck
 	install -D -m 644 -t $(DESTDIR)$(PREFIX)/share/ibus-composecheck share/ibus/composecheck_journal.py share/ibus/composecheck_keys.py
 	install -D -m 644 share/ibus/composecheck.xml.in $(DESTDIR)$(PREFIX)/share/ibus/component/composecheck.xml
@@ -102,8 +115,8 @@ install-ibus: composecheck
 	install -D -m 644 share/ibus/$(IBUS_ID).metainfo.xml $(DESTDIR)$(PREFIX)/share/metainfo/$(IBUS_ID).metainfo.xml
 	$(if $(DESTDIR),,-glib-compile-schemas $(PREFIX)/share/glib-2.0/schemas)
 
-install-fcitx5: composecheck
-	cmake -S fcitx5 -B packages/fcitx5 -DCMAKE_BUILD_TYPE=Release -DCMAKE_INSTALL_PREFIX=$(PREFIX) -DCOMPOSECHECK_VERSION=$$(./composecheck --version | cut -d ' ' -f 2)
+install-fcitx5: composecheck install-client lib-client
+	cmake -S fcitx5 -B packages/fcitx5 -DCMAKE_BUILD_TYPE=Release -DCOMPOSECHECK_CLIENT_FOLDER=$(CURDIR)/build/lib -DCMAKE_INSTALL_PREFIX=$(PREFIX) -DCOMPOSECHECK_VERSION=$$(./composecheck --version | cut -d ' ' -f 2)
 	cmake --build packages/fcitx5
 	cmake --install packages/fcitx5 --strip
 
@@ -116,13 +129,15 @@ uninstall:
 	rm -f $(addprefix $(DESTDIR)$(PREFIX)/lib/systemd/user/,$(UNITS))
 	rm -f $(DESTDIR)$(PREFIX)/lib/libcomposecheck.a $(DESTDIR)$(PREFIX)/lib/libcomposecheck.so $(DESTDIR)$(PREFIX)/lib/libcomposecheck.so.1
 	rm -f $(DESTDIR)$(PREFIX)/lib/libcomposecheck-xkb.so $(DESTDIR)$(PREFIX)/lib/pkgconfig/composecheck.pc $(DESTDIR)$(PREFIX)/include/composecheck.h
+	rm -f $(addprefix $(DESTDIR)$(PREFIX)/lib/libcomposecheck-client.,a so so.0) $(DESTDIR)$(PREFIX)/lib/pkgconfig/composecheck-client.pc
+	rm -f $(DESTDIR)$(PREFIX)/include/composecheck_client.h
 	rm -f $(DESTDIR)$(PREFIX)/share/bash-completion/completions/composecheck
 	rm -f $(DESTDIR)$(PREFIX)/share/zsh/site-functions/_composecheck $(DESTDIR)$(PREFIX)/share/fish/vendor_completions.d/composecheck.fish
 
 dist: composecheck
 	python3 packaging/package.py dist ./composecheck packages
 
-deb: composecheck $(LIBRARY)
+deb: composecheck $(LIBRARY) $(CLIENT_LIBRARY)
 	python3 packaging/package.py deb ./composecheck packages
 	python3 packaging/package.py library ./composecheck packages
 	python3 packaging/package.py ibus ./composecheck packages
@@ -160,4 +175,4 @@ bench: composecheck compose_trials $(LIBRARY)
 clean:
 	rm -rf composecheck compose_trials packages build crates/*/out
 
-.PHONY: all help lib install-lib install-ibus install-fcitx5 peers quick test test-anew test-whole install uninstall dist deb test-packages desk names real bench clean
+.PHONY: all help lib lib-client install-lib install-client install-ibus install-fcitx5 peers quick test test-anew test-whole install uninstall dist deb test-packages desk names real bench clean

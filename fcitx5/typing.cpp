@@ -4,23 +4,23 @@
 
 namespace composecheck {
 
-Client *Service::client() {
-    if (!client_ && Clock::now() >= silentUntil_) {
-        client_ = Client::connect(path_);
-        connections_ += client_ != nullptr;
-        if (!client_) {
+bool Service::connect() {
+    if (!connection_ && Clock::now() >= silentUntil_) {
+        connection_ = Connection::open(path_);
+        connections_ += connection_ != nullptr;
+        if (!connection_) {
             tell("nobody listens on " + path_ + "; keys pass");
         }
     }
-    return client_.get();
+    return connection_ != nullptr;
 }
 
-void Service::lost() {
-    if (client_ && client_->isUnfit()) {
+void Service::lose(bool isUnfit) {
+    if (connection_ && isUnfit) {
         silentUntil_ = Clock::now() + Pause;
         tell("no reply from " + path_ + "; keys pass for " + std::to_string(Pause.count()) + " s");
     }
-    client_.reset();
+    connection_.reset();
 }
 
 void Service::tell(const std::string &what) {
@@ -30,122 +30,101 @@ void Service::tell(const std::string &what) {
     told_ = what;
 }
 
+std::vector<uint32_t> Typing::pending() const {
+    std::vector<uint32_t> keysyms(31);
+    keysyms.resize(composecheck_client_pending(&client_, keysyms.data()));
+    return keysyms;
+}
+
 std::optional<Typed> Typing::key(uint32_t keysym, Clock::time_point end) {
-    std::vector<Request> requests{{Kind::Key, keysym}, {Kind::Ask}};
-    if (hasCancelled_) {
-        // (after a cancelled sequence what a load keeps is promised from the next Reset on)
-        requests.insert(requests.begin(), Request{Kind::Reset});
-    }
-    auto replies = ask(requests, end);
-    if (!replies || !takeState(replies->back()) || (*replies)[replies->size() - 2].refused) {
-        pending_.clear();
+    meetConnection();
+    answer_ = {};
+    composecheck_client_press(&client_, keysym, &action_);
+    run(end);
+    if (action_.kind != COMPOSECHECK_VERDICT) {
         return std::nullopt;
     }
-    const auto &fed = (*replies)[replies->size() - 2].payload;
-    return Typed{static_cast<Status>(fed[0]), fed[1] == 1, fed.substr(2)};
+    service_.tell("");
+    return Typed{static_cast<Status>(answer_.status), answer_.accepted == 1, {answer_.text, answer_.text + answer_.text_length}};
 }
 
 void Typing::erase() {
-    auto requests = typedAnew(pending_.empty() ? 0 : pending_.size() - 1);
-    requests.push_back({Kind::Ask});
-    auto replies = ask(requests, deadline());
-    if (!replies || !takeState(replies->back())) {
-        pending_.clear();
-    }
-}
-
-void Typing::reset() {
-    if (!pending_.empty()) {
-        pending_.clear();
-        ask({{Kind::Reset}}, deadline());
-    }
+    meetConnection();
+    composecheck_client_erase(&client_, &action_);
+    run(deadline());
 }
 
 void Typing::close() {
-    pending_.clear();
-    if (number_) {
-        ask({{Kind::Close}}, deadline());
-    }
-    number_.reset();
-    connection_ = 0;
+    meetConnection();
+    composecheck_client_close(&client_, &action_);
+    run(deadline());
+    number_ = 0;
 }
 
-// The replies to requests on this session, or nothing where no service was reached. A reply may be lost with its connection, so that nobody
-// knows whether a key counted: on a new connection the session is put to where it was before the requests.
-std::optional<std::vector<Reply>> Typing::ask(const std::vector<Request> &requests, Clock::time_point end) {
-    for (int attempt = 0; attempt < 2; attempt++) {
-        auto *client = service_.client();
-        if (!client) {
-            return std::nullopt;
-        }
-        if (connection_ != service_.connections() && !resume(*client, end)) {
-            if (!service_.isConnected()) {
-                continue;
-            }
-            return std::nullopt;
-        }
-        auto replies = client->exchange(*number_, requests, end);
-        if (!replies) {
-            service_.lost();
-        } else if (replies->front().refused == NoSession) {
-            // (another client closed it)
-            connection_ = 0;
+// Another place may have found that the connection is lost.
+void Typing::meetConnection() {
+    if (number_ != service_.connections() || !service_.connection()) {
+        composecheck_client_lose(&client_, &action_);
+    }
+}
+
+// Does what the library says, until nothing is waited for.
+void Typing::run(Clock::time_point end) {
+    while (action_.kind == COMPOSECHECK_SEND || action_.kind == COMPOSECHECK_CONNECT || !composecheck_client_is_idle(&client_)) {
+        if (action_.kind == COMPOSECHECK_CONNECT && connects()) {
+            composecheck_client_connected(&client_, std::random_device()(), &action_);
+        } else if (action_.kind == COMPOSECHECK_CONNECT) {
+            composecheck_client_lose(&client_, &action_);
+        } else if (action_.kind == COMPOSECHECK_SEND && !service_.connection()->send(action_.bytes, action_.byte_count)) {
+            service_.lose(false);
+            composecheck_client_lose(&client_, &action_);
         } else {
-            service_.tell("");
-            return replies;
+            next(end);
         }
     }
-    return std::nullopt;
+    if (action_.kind == COMPOSECHECK_ABANDON || action_.kind == COMPOSECHECK_CLOSE) {
+        giveUp();
+    }
 }
 
-// Opens the session, or finds it open, and types what was pending. False: the connection is lost, or the service opens none.
-bool Typing::resume(Client &client, Clock::time_point end) {
-    std::random_device random;
-    uint32_t number;
-    uint16_t refused;
-    do {
-        number = number_ ? *number_ : random();
-        auto opened = client.exchange(number, {{Kind::Open}}, end);
-        if (!opened) {
-            service_.lost();
-            return false;
-        }
-        refused = opened->front().refused;
-        // (where the session was open before, the service wasn't started again)
-    } while (refused == SessionTaken && !number_);
-    if (refused != 0 && refused != SessionTaken) {
-        service_.tell("the service opens no session: refused with code " + std::to_string(refused) + "; keys pass");
+// Takes the connection that there is, or a new one if this place had it already. False: there is none.
+bool Typing::connects() {
+    if (number_ == service_.connections()) {
+        service_.lose(false);
+    }
+    if (!service_.connect()) {
         return false;
     }
-    number_ = number;
-    hasCancelled_ = false;
-    if (!client.exchange(number, typedAnew(pending_.size()), end)) {
-        service_.lost();
-        return false;
-    }
-    connection_ = service_.connections();
+    number_ = service_.connections();
+    at_ = end_ = 0;
     return true;
 }
 
-// What brings the session to where the first so many keys are pending.
-std::vector<Request> Typing::typedAnew(size_t count) const {
-    std::vector<Request> requests{{Kind::Reset}};
-    for (size_t i = 0; i < count; i++) {
-        requests.push_back({Kind::Key, pending_[i]});
+// What to do at the next reply.
+void Typing::next(Clock::time_point end) {
+    size_t used;
+    while (!composecheck_client_receive(&client_, piece_.data() + at_, end_ - at_, &used, &action_, &answer_)) {
+        at_ = end_ = 0;
+        auto came = service_.connection()->read(piece_.data(), piece_.size(), end_, end);
+        if (came == Came::Bytes) {
+            continue;
+        }
+        service_.lose(came == Came::TimeUp);
+        (came == Came::TimeUp ? composecheck_client_time_out : composecheck_client_lose)(&client_, &action_);
+        return;
     }
-    return requests;
+    at_ += used;
 }
 
-bool Typing::takeState(const Reply &state) {
-    pending_.clear();
-    if (state.refused) {
-        return false;
+// Closes the connection. Bytes that are no reply of the protocol are still held.
+void Typing::giveUp() {
+    if (!service_.connection()) {
+        return;
     }
-    hasCancelled_ = static_cast<Status>(state.payload[0]) == Status::Cancelled;
-    for (size_t at = 2; at < state.payload.size(); at += 4) {
-        pending_.push_back(numberAt(state.payload, at));
+    service_.lose(client_.held_count != 0);
+    if (client_.held_count == 0) {
+        service_.tell("the service refuses the session; keys pass");
     }
-    return true;
 }
 
 } // namespace composecheck

@@ -1,10 +1,14 @@
-// Typing by a composecheck service: one Service in a process, and one Typing in each place where somebody types. It is what
-// composecheck_typing.py is in Python.
+// Typing by a composecheck service: one Service in a process, and one Typing in each place where somebody types. What is sent, and what a reply or
+// a lost connection means, is decided by a proved library (composecheck_client.h); it is what composecheck_typing.py is in Python.
 #pragma once
 
 #include "client.h"
 
+#include <array>
+#include <composecheck_client.h>
 #include <functional>
+#include <optional>
+#include <vector>
 
 namespace composecheck {
 
@@ -21,7 +25,7 @@ struct Typed {
     std::string text;
 };
 
-// The way to a service. It is connected to when it is needed, and once more when a connection has ended.
+// The way to a service. It is connected to when a key needs it.
 class Service {
 public:
     // Told what keeps keys from the service, once while it lasts; and, where it is none, that the service answers again.
@@ -31,11 +35,12 @@ public:
 
     // When a key that is asked about now is given up.
     Clock::time_point deadline() const { return Clock::now() + patience_; }
-    // The connection that stands, or a new one, or null.
-    Client *client();
-    bool isConnected() const { return client_ != nullptr; }
-    // Gives the connection up. A reply that still comes on it answers nothing that is asked later.
-    void lost();
+    // The connection that stands, or null.
+    Connection *connection() const { return connection_.get(); }
+    // Connects, unless there is a connection. False: nobody listens, or somebody has just not answered in time.
+    bool connect();
+    // Gives the connection up. A reply that still comes on it answers nothing that is asked later. Unfit: there was none in time, or no reply at all.
+    void lose(bool isUnfit);
     // Logs what keeps keys from the service; nothing where it answers.
     void tell(const std::string &what);
     // How many connections there were. What is known of a session holds on the connection where it was seen.
@@ -45,7 +50,7 @@ private:
     std::string path_;
     Log log_;
     std::chrono::milliseconds patience_;
-    std::unique_ptr<Client> client_;
+    std::unique_ptr<Connection> connection_;
     std::string told_;
     Clock::time_point silentUntil_{};
     uint64_t connections_ = 0;
@@ -59,28 +64,33 @@ public:
     Typing(const Typing &) = delete;
     Typing &operator=(const Typing &) = delete;
 
-    const std::vector<uint32_t> &pending() const { return pending_; }
+    std::vector<uint32_t> pending() const;
     Clock::time_point deadline() const { return service_.deadline(); }
     // Types a key. Nothing: no service was reached, and nothing is pending any more.
     std::optional<Typed> key(uint32_t keysym, Clock::time_point end);
     // Takes the last pending key back.
     void erase();
     // Drops what is pending.
-    void reset();
+    void reset() { composecheck_client_drop(&client_); }
     // Ends the session, if it was opened. A key opens another one.
     void close();
 
 private:
-    std::optional<std::vector<Reply>> ask(const std::vector<Request> &requests, Clock::time_point end);
-    bool resume(Client &client, Clock::time_point end);
-    std::vector<Request> typedAnew(size_t count) const;
-    bool takeState(const Reply &state);
+    void meetConnection();
+    void run(Clock::time_point end);
+    bool connects();
+    void next(Clock::time_point end);
+    void giveUp();
 
     Service &service_;
-    std::optional<uint32_t> number_;
-    uint64_t connection_ = 0;
-    bool hasCancelled_ = false;
-    std::vector<uint32_t> pending_;
+    composecheck_client client_{};
+    composecheck_action action_{};
+    composecheck_answer answer_{};
+    // The connection on which the session was used last, by its number.
+    uint64_t number_ = 0;
+    // Bytes that came, and which of them are left.
+    std::array<uint8_t, 4096> piece_;
+    size_t at_ = 0, end_ = 0;
 };
 
 } // namespace composecheck

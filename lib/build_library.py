@@ -1,10 +1,12 @@
 #!/usr/bin/env python3
-"""Builds the C library from the proved static library and the C over it.
+"""Builds the C libraries from the proved static libraries and the C over them.
 
-  build_library.py FOLDER             builds into the folder: libcomposecheck.a, libcomposecheck.so.1 with its links, libcomposecheck-xkb.so
-  build_library.py FOLDER FLAG..      with these flags of the compiler besides, as -fsanitize=address,undefined
+  build_library.py FOLDER             builds into the folder: libcomposecheck.a, libcomposecheck.so.1 with its link, libcomposecheck-xkb.so, and
+                                      libcomposecheck-client.a and libcomposecheck-client.so.0 with its link
+  build_library.py --client FOLDER    the last three alone
+  build_library.py FOLDER FLAG..      the first static library with these flags of the compiler besides, as -fsanitize=address,undefined
 
-The proved static library has to be there (`make lib` proves and builds it first). The compiler is $CC, or cc, or clang: the kit's clang has no C headers."""
+The proved static libraries have to be there (`make lib` proves and builds them first). The compiler is $CC, or cc, or clang: the kit's clang has no C headers."""
 import os
 import shutil
 import subprocess
@@ -13,6 +15,7 @@ import sys
 LIB = os.path.dirname(os.path.abspath(__file__))
 TOP = os.path.dirname(LIB)
 PROVED = f"{TOP}/crates/compose_c/out/libcompose_c.a"
+PROVED_CLIENT = f"{TOP}/crates/compose_typing_c/out/libcompose_typing_c.a"
 WARNINGS = ["-std=c99", "-Wall", "-Wextra", "-Wpedantic", "-Werror"]
 
 
@@ -53,20 +56,45 @@ def shared(folder, name, script, words, flags):
     run(compiler(), "-shared", *flags, f"-Wl,-soname,{name}", f"-Wl,--version-script,{LIB}/{script}", *words, "-Wl,-z,defs", "-o", f"{folder}/{name}")
 
 
+def needs(proved):
+    """Ends the program if the proved static library isn't there."""
+    if not os.path.exists(proved):
+        sys.exit(f"lib/build_library.py: {proved} isn't there: `make lib` builds it")
+
+
+def link(folder, name):
+    """Makes the link that programs are built with, from the name without a number to the shared library."""
+    path = f"{folder}/{name.rpartition('.')[0]}"
+    if not os.path.lexists(path):
+        os.symlink(name, path)
+
+
+def build_client(folder):
+    """Builds the library of clients, which calls nothing but memcpy, memmove and memset."""
+    os.makedirs(folder, exist_ok=True)
+    needs(PROVED_CLIENT)
+    library = f"{folder}/libcomposecheck-client.a"
+    shutil.copy(PROVED_CLIENT, library)
+    name = "libcomposecheck-client.so.0"
+    shared(folder, name, "composecheck_client.map", ["-Wl,--whole-archive", library, "-Wl,--no-whole-archive"], ())
+    link(folder, name)
+
+
 def build(folder, flags=()):
     os.makedirs(folder, exist_ok=True)
-    if not os.path.exists(PROVED):
-        sys.exit(f"lib/build_library.py: {PROVED} isn't there: `make lib` builds it")
+    needs(PROVED)
     objects, shim = compiled(folder, flags)
     library = archive(folder, objects)
     if flags:
         return
     shared(folder, "libcomposecheck.so.1", "composecheck.map", ["-Wl,--whole-archive", library, "-Wl,--no-whole-archive"], flags)
     shared(folder, "libcomposecheck-xkb.so", "xkb_shim.map", [shim, library], flags)
-    link = f"{folder}/libcomposecheck.so"
-    if not os.path.lexists(link):
-        os.symlink("libcomposecheck.so.1", link)
+    link(folder, "libcomposecheck.so.1")
+    build_client(folder)
 
 
 if __name__ == "__main__":
-    build(sys.argv[1], sys.argv[2:])
+    if sys.argv[1] == "--client":
+        build_client(sys.argv[2])
+    else:
+        build(sys.argv[1], sys.argv[2:])

@@ -5,14 +5,14 @@
  * and has no lock; so a call may be made in a signal handler, and a client may be copied, kept and sent.
  *
  *   what happens                        the call                          what the action may say
- *   a key is pressed                    composecheck_client_press         SEND, CONNECT, or TELL at once
+ *   a key is pressed                    composecheck_client_press         SEND, CONNECT, or VERDICT at once
  *   a connection was made               composecheck_client_connected     SEND, or CLOSE if no key waits for it
  *   bytes came on it                    composecheck_client_receive       any action
  *   it was lost, or none could be made  composecheck_client_lose          CONNECT, ABANDON, or nothing
  *   the time for a key is over          composecheck_client_time_out      ABANDON, CLOSE, or nothing
  *
- * Each key has one verdict, TELL or ABANDON, and only one key waits at a time: one that is pressed while another waits passes at once. After
- * a lost connection a key counts once, whether its request or its reply was lost. What is promised stands in crates/compose_typing_c/src/lib.rt
+ * Each key has one verdict, by VERDICT or ABANDON, and only one key waits at a time: one that is pressed while another waits passes at
+ * once. After a lost connection a key counts once, whether its request or its reply was lost. What is promised stands in crates/compose_typing_c/src/lib.rt
  * and crates/compose_typing, in the definition of the machine, and in words in docs/LIBRARY.md.
  *
  * Premises of every function, which nothing checks:
@@ -54,17 +54,17 @@ struct composecheck_client {
  *   WAIT     nothing
  *   SEND     send the bytes
  *   CONNECT  connect to the service, and close the connection that was; then composecheck_client_connected or composecheck_client_lose
- *   TELL     the verdict on the key that waited
- *   ABANDON  close the connection, and let the key that waited pass
- *   CLOSE    close the connection; no key waited */
+ *   VERDICT  do with the key that waited what the verdict says
+ *   ABANDON  close the connection, drop the bytes that came, and let the key that waited pass
+ *   CLOSE    close the connection, and drop the bytes that came; no key waited */
 enum composecheck_action_kind {
-    COMPOSECHECK_WAIT, COMPOSECHECK_SEND, COMPOSECHECK_CONNECT, COMPOSECHECK_TELL, COMPOSECHECK_ABANDON, COMPOSECHECK_CLOSE
+    COMPOSECHECK_WAIT, COMPOSECHECK_SEND, COMPOSECHECK_CONNECT, COMPOSECHECK_VERDICT, COMPOSECHECK_ABANDON, COMPOSECHECK_CLOSE
 };
 
 /* The verdict on a key: the application gets it, or nothing, or the text in its place. */
 enum composecheck_verdict { COMPOSECHECK_PASS, COMPOSECHECK_TAKE, COMPOSECHECK_COMMIT };
 
-/* An action. SEND: bytes has byte_count bytes. TELL: verdict, and for COMMIT text_length bytes of UTF-8 in text, without an end mark. What
+/* An action. SEND: bytes has byte_count bytes. VERDICT: verdict, and for COMMIT text_length bytes of UTF-8 in text, without an end mark. What
  * the others hold means nothing. */
 struct composecheck_action { uint32_t kind, verdict, text_length, byte_count; uint8_t text[255], bytes[448], reserved[33]; };
 
@@ -78,7 +78,7 @@ void composecheck_client_connected(struct composecheck_client *client, uint32_t 
 /* Bytes came on the connection, in pieces of any size: give it what read() gave. *used says how many of them it took. True: there is an action,
  * and the call has to be made again with the bytes after those, even if there are none. False: it took all bytes, and waits for more.
  * Bytes that are no reply of this protocol give the connection up, and stay: then each further call says the same, until there is a new connection.
- * answer gets the service's answer to the key, if the action is TELL. */
+ * answer gets the service's answer to the key, if the action is VERDICT. */
 bool composecheck_client_receive(struct composecheck_client *client, const uint8_t *bytes, size_t length, size_t *used,
                                  struct composecheck_action *action, struct composecheck_answer *answer);
 

@@ -6,8 +6,10 @@
   package.py ibus PROGRAM FOLDER    composecheck-ibus_VERSION_all.deb: the engine of IBus
   package.py fcitx5 PROGRAM FOLDER  fcitx5-composecheck_VERSION_ARCH.deb: the addon of fcitx5, built by cmake where its headers are installed; else
                                     it says that it isn't made
-  package.py library PROGRAM FOLDER  libcomposecheck1_VERSION_ARCH.deb and libcomposecheck-dev_VERSION_ARCH.deb: the C library, and what programs
-                                    are built with (the proved static library has to be there: `make lib`)
+  package.py library PROGRAM FOLDER  libcomposecheck1_VERSION_ARCH.deb, libcomposecheck-client0_VERSION_ARCH.deb and
+                                    libcomposecheck-dev_VERSION_ARCH.deb: the C libraries, and what programs are built with
+
+The engines of IBus and fcitx5 need libcomposecheck-client0. The proved static libraries have to be there for all but the first two: `make lib`.
 
 The first two hold the same files in the same places, the first below a prefix of one's own (the files name /usr/local), the second below
 /usr. All are the same to the byte when they are made from the same program and sources. Their files are as old as the last commit, or as
@@ -47,7 +49,7 @@ IBUS_FILES = {
     f"share/metainfo/{IBUS_ID}.metainfo.xml": f"{IBUS_ID}.metainfo.xml",
 }
 # Which files of the C library programs are built with; the others are needed where they run.
-DEVELOPMENT = (".a", ".h", ".pc", "/libcomposecheck.so")
+DEVELOPMENT = (".a", ".h", ".pc", "/libcomposecheck.so", "/libcomposecheck-client.so")
 PROGRAMS = ("bin/composecheck", "/ci.sh", "/update.sh", "/ibus-engine-composecheck", "/ibus-setup-composecheck")
 
 
@@ -71,16 +73,21 @@ LIBRARY = Package("libcomposecheck1", "libs", "any", "libc6", """Compose tables 
  in the middle of a sequence. libcomposecheck-xkb.so has the functions of
  libxkbcommon's Compose over it, for LD_PRELOAD. Its promises are proved.
 """)
-LIBRARY_DEV = Package("libcomposecheck-dev", "libdevel", "any", "libcomposecheck1 (= VERSION)", """Compose tables and compose states for programs, development files
- The header, the static library and the pkg-config file of libcomposecheck, its
- guide and three examples.
+CLIENT = Package("libcomposecheck-client0", "libs", "any", "libc6", """client of a composecheck service, for input methods
+ libcomposecheck-client decides what an input method sends to a typing service,
+ and what each reply and each lost connection means. It does no input and no
+ output. Its promises are proved.
 """)
-IBUS = Package("composecheck-ibus", "utils", "all", "composecheck (= VERSION), gir1.2-gtk-3.0, gir1.2-ibus-1.0, ibus, python3 (>= 3.9), python3-gi", """Compose sequences of a composecheck service, for IBus
+LIBRARY_DEV = Package("libcomposecheck-dev", "libdevel", "any", "libcomposecheck-client0 (= VERSION), libcomposecheck1 (= VERSION)", """Compose tables and compose states for programs, development files
+ The headers, the static libraries and the pkg-config files of libcomposecheck
+ and libcomposecheck-client, their guide and four examples.
+""")
+IBUS = Package("composecheck-ibus", "utils", "all", "composecheck (= VERSION), gir1.2-gtk-3.0, gir1.2-ibus-1.0, ibus, libcomposecheck-client0 (= VERSION), python3 (>= 3.9), python3-gi", """Compose sequences of a composecheck service, for IBus
  An engine of IBus that types by the Compose table of a running service. The
  table can be replaced while people type, also in the middle of a sequence.
  What is pending is shown where it will stand.
 """)
-FCITX5 = Package("fcitx5-composecheck", "utils", "any", "composecheck (= VERSION), fcitx5, libc6, libfcitx5config6, libfcitx5core7, libfcitx5utils2, libstdc++6", """Compose sequences of a composecheck service, for fcitx5
+FCITX5 = Package("fcitx5-composecheck", "utils", "any", "composecheck (= VERSION), fcitx5, libc6, libcomposecheck-client0 (= VERSION), libfcitx5config6, libfcitx5core7, libfcitx5utils2, libstdc++6", """Compose sequences of a composecheck service, for fcitx5
  An addon of fcitx5 that types by the Compose table of a running service, under
  every keyboard layout and before every input method. The table can be replaced
  while people type, also in the middle of a sequence. It is on as soon as it is
@@ -137,10 +144,15 @@ def has_fcitx5():
 
 def fcitx5_files(version):
     """The same for the addon of fcitx5, which is built."""
+    sys.path.insert(0, f"{TOP}/lib")
+    import build_library
+
     with tempfile.TemporaryDirectory() as room:
+        build_library.build_client(f"{room}/lib")
         settings = ("BUILD_TYPE=Release", "INSTALL_PREFIX=/usr", "INSTALL_LIBDIR=lib/" + text_of("gcc", "-print-multiarch"))
         steps = (
-            ["cmake", "-S", f"{TOP}/fcitx5", "-B", f"{room}/build", f"-DCOMPOSECHECK_VERSION={version}", *(f"-DCMAKE_{it}" for it in settings)],
+            ["cmake", "-S", f"{TOP}/fcitx5", "-B", f"{room}/build", f"-DCOMPOSECHECK_VERSION={version}",
+             f"-DCOMPOSECHECK_CLIENT_FOLDER={room}/lib", *(f"-DCMAKE_{it}" for it in settings)],
             ["cmake", "--build", f"{room}/build"],
             ["cmake", "--install", f"{room}/build", "--strip"],
         )
@@ -154,7 +166,8 @@ def fcitx5_files(version):
 
 
 def library_files():
-    """The same for the C library, which is built: those that programs are built with, and the others. A link is what it leads to, as text."""
+    """The same for the C libraries, which are built: those of each library, and those that programs are built with. A link is what it leads to, as
+    text."""
     sys.path.insert(0, f"{TOP}/lib")
     import install_library
 
@@ -164,14 +177,17 @@ def library_files():
         places = [os.path.relpath(os.path.join(at, name), room) for at, _, names in os.walk(room) for name in names]
         built = {it: os.readlink(f"{room}/{it}") if os.path.islink(f"{room}/{it}") else read(f"{room}/{it}") for it in places}
     files = {re.sub("^lib", folder, place): content for place, content in built.items()}
-    settings = f"{folder}/pkgconfig/composecheck.pc"
-    files[settings] = files[settings].replace(b"${prefix}/lib", f"${{prefix}}/{folder}".encode())
-    parts = [{place: it for place, it in files.items() if place.endswith(DEVELOPMENT) == is_dev} for is_dev in (False, True)]
-    for package, part in zip((LIBRARY, LIBRARY_DEV), parts):
+    for name in install_library.VERSIONS:
+        settings = f"{folder}/pkgconfig/{name}.pc"
+        files[settings] = files[settings].replace(b"${prefix}/lib", f"${{prefix}}/{folder}".encode())
+    parts = {LIBRARY: {}, CLIENT: {}, LIBRARY_DEV: {}}
+    for place, content in files.items():
+        parts[LIBRARY_DEV if place.endswith(DEVELOPMENT) else CLIENT if "libcomposecheck-client" in place else LIBRARY][place] = content
+    for package, part in parts.items():
         part[f"share/doc/{package.name}/LICENSE"] = read(f"{TOP}/LICENSE")
-    parts[1][f"share/doc/{LIBRARY_DEV.name}/LIBRARY.md"] = read(f"{TOP}/docs/LIBRARY.md")
-    for name in ("type.c", "live.c", "file.c"):
-        parts[1][f"share/doc/{LIBRARY_DEV.name}/examples/{name}"] = read(f"{TOP}/lib/examples/{name}")
+    parts[LIBRARY_DEV][f"share/doc/{LIBRARY_DEV.name}/LIBRARY.md"] = read(f"{TOP}/docs/LIBRARY.md")
+    for name in ("type.c", "live.c", "file.c", "client.c"):
+        parts[LIBRARY_DEV][f"share/doc/{LIBRARY_DEV.name}/examples/{name}"] = read(f"{TOP}/lib/examples/{name}")
     return parts
 
 
@@ -255,7 +271,7 @@ def main():
     elif kind == "ibus":
         print(make_deb(IBUS, ibus_files(version), version, time, folder))
     elif kind == "library":
-        for package, files in zip((LIBRARY, LIBRARY_DEV), library_files()):
+        for package, files in library_files().items():
             print(make_deb(package, files, version, time, folder))
     elif not has_fcitx5():
         print(f"{FCITX5.name} is not made: it needs cmake, c++, pkg-config and the headers of fcitx5 (in Debian libfcitx5core-dev)")

@@ -16,7 +16,7 @@ import tempfile
 import threading
 import time
 
-from harness import Results
+from harness import CLIENT_LIBRARY, Results
 from typing_service import TypingService
 
 TOP = os.path.dirname(os.path.dirname(os.path.abspath(__file__)))
@@ -321,6 +321,7 @@ def check_patience(service, results):
 
 PROBE = os.path.join(TOP, "fcitx5", "probe.cpp")
 SOURCES = [os.path.join(TOP, "fcitx5", it) for it in ("client.cpp", "typing.cpp", "keys.cpp")]
+LIBRARY = [f"-I{TOP}/lib", CLIENT_LIBRARY, f"-Wl,-rpath,{os.path.dirname(CLIENT_LIBRARY)}"]
 PROBED = [GRAVE, ACUTE, CARON, MULTI, APOSTROPHE, MINUS, A, B, E, X, SHIFT, BACKSPACE, ESCAPE, RETURN, 0xE9, 0x1000101, 0xFE60]
 
 
@@ -340,7 +341,7 @@ def check_fcitx5(service, results):
     presses = [(chance.choice(PROBED), *(chance.randrange(2) for _ in range(3))) for _ in range(4000)]
     with session(service) as (_, typing), tempfile.TemporaryDirectory(prefix="engine-") as folder:
         probe = os.path.join(folder, "probe")
-        made = subprocess.run([compiler, "-std=c++17", "-Wall", "-Wextra", "-Werror", "-o", probe, PROBE, *SOURCES], capture_output=True, text=True)
+        made = subprocess.run([compiler, "-std=c++17", "-Wall", "-Wextra", "-Werror", "-o", probe, PROBE, *SOURCES, *LIBRARY], capture_output=True, text=True)
         results.expect("the addon's keys are compiled", (made.returncode, made.stderr), (0, ""))
         if made.returncode:
             return

@@ -33,7 +33,7 @@ def python(code, *folders):
 # ---- make install
 
 class Tree:
-    """A copy of the source tree with the program in it, in which `make` builds neither it nor the C library."""
+    """A copy of the source tree with the program in it, in which `make` builds neither it nor the C libraries."""
 
     def __init__(self, program, folder):
         self.top = os.path.join(folder, "top")
@@ -44,7 +44,7 @@ class Tree:
         os.mkdir(os.path.join(self.top, "crates"))
 
     def make(self, *words):
-        return run("make", "-s", "-o", "composecheck", "-o", "install-lib", *words, cwd=self.top, timeout=600)
+        return run("make", "-s", "-o", "composecheck", "-o", "install-lib", "-o", "install-client", *words, cwd=self.top, timeout=600)
 
 
 def check_install(program, folder, results):
@@ -108,8 +108,9 @@ def check_package(path, version, folder, results):
     results.expect(f"{name} is unpacked", [run("dpkg-deb", option, path, it).returncode for option, it in (("-x", place), ("-e", control))], [0, 0])
     check_sums(name, read(os.path.join(control, "md5sums")).decode(), hashlib.md5, place, files_below(place), results)
     results.expect(f"{name}: version", run("dpkg-deb", "-f", path, "Version").stdout, f"{version}\n")
-    depends = run("dpkg-deb", "-f", path, "Depends").stdout
-    results.expect(f"{name} needs the program of its version", f"composecheck (= {version})" in depends, True)
+    depends = run("dpkg-deb", "-f", path, "Depends").stdout.rstrip("\n")
+    needed = [f"{it} (= {version})" in depends.split(", ") for it in ("composecheck", "libcomposecheck-client0")]
+    results.expect(f"{name} needs the program and the library of clients of its version", needed, [True, True])
     return os.path.join(place, "usr")
 
 

@@ -383,7 +383,9 @@ def c_programs(results, folder):
 
 def symbols(results, folder):
     """The shared libraries show their own names alone."""
-    for name, prefix, count in (("libcomposecheck.so.1", "composecheck_", None), ("libcomposecheck-xkb.so", "xkb_compose_", 14)):
+    for name, prefix, count in (
+        ("libcomposecheck.so.1", "composecheck_", None), ("libcomposecheck-xkb.so", "xkb_compose_", 14), ("libcomposecheck-client.so.0", "composecheck_client_", 11),
+    ):
         said = subprocess.run(["nm", "-D", "--defined-only", f"{folder}/{name}"], stdout=subprocess.PIPE, text=True, check=True).stdout
         found = [it.split()[-1].split("@")[0] for it in said.splitlines() if " A " not in it]
         results.expect(all(it.startswith(prefix) for it in found) and count in (None, len(found)), f"{name} shows {found}")
@@ -400,7 +402,8 @@ def packages(results, folder):
     os.chmod(program, 0o755)
     command = [sys.executable, f"{TOP}/packaging/package.py", "library", program, folder]
     made = subprocess.run(command, stdout=subprocess.PIPE, text=True, check=True).stdout.split()
-    results.expect([os.path.basename(it).split("_")[0] for it in made] == ["libcomposecheck1", "libcomposecheck-dev"], f"the packages {made}")
+    names = [os.path.basename(it).split("_")[0] for it in made]
+    results.expect(names == ["libcomposecheck1", "libcomposecheck-client0", "libcomposecheck-dev"], f"the packages {made}")
     for path in made:
         subprocess.run(["dpkg-deb", "-x", path, root], check=True)
     place = f"{root}/usr/lib/{platform.machine()}-linux-gnu"
@@ -433,8 +436,9 @@ def main():
     count, locales = 20_000, ["en_US.UTF-8"]
     if len(sys.argv) > 1:
         count, locales = int(sys.argv[1]), sorted(it for it in os.listdir(LOCALES) if it.endswith(".UTF-8"))
-    if not os.path.exists(build_library.PROVED):
-        subprocess.run(["make", "-s", os.path.relpath(build_library.PROVED, TOP)], cwd=TOP, check=True, stdout=sys.stderr)
+    for proved in (build_library.PROVED, build_library.PROVED_CLIENT):
+        if not os.path.exists(proved):
+            subprocess.run(["make", "-s", os.path.relpath(proved, TOP)], cwd=TOP, check=True, stdout=sys.stderr)
     with tempfile.TemporaryDirectory(prefix="library-") as folder:
         subprocess.run([sys.executable, f"{TOP}/lib/install_library.py", folder, folder], check=True)
         os.environ["COMPOSECHECK_LIBRARY"] = f"{folder}/lib/libcomposecheck.so.1"

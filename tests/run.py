@@ -12,13 +12,15 @@ import os
 import re
 import sys
 
-from harness import TOP, follow
+from harness import TOP, build_client_library, follow
 
 # The head of a script: its name, what it takes, and what it does.
 HEAD = re.compile(r"(\w+)\.py((?: (?:PROGRAM|TRIALS|\[[^\]]*\]))*): (.*?)(?:[.:;](?:\s|$)|$)", re.S)
 # What an unproved program won't do for: it has an allocator of its own, so that a library which refuses memory can't be preloaded, and is slow on
-# inputs at their limits; the C library is built of a proved one; the runner of edits needs the prover. The others are no part of the gate.
-NOT_QUICK = {"calls", "edits_test", "library", "limits", "other_tables", "peers", "readers", "real", "real_service", "refusals"}
+# inputs at their limits; the C libraries are built of proved ones; the runner of edits needs the prover. The others are no part of the gate.
+NOT_QUICK = {"calls", "client", "edits_test", "engine", "installed", "library", "limits", "other_tables", "peers", "readers", "real", "real_service", "refusals"}
+# Those that need the library of clients.
+WITH_CLIENT = {"client", "engine", "installed"}
 # How many random ones a script tries with --quick, where that takes the longest.
 FEWER = {"diff": ["100"], "network": ["30"]}
 # The programs by what the heads of scripts call them.
@@ -91,6 +93,8 @@ def main():
     for path in paths.values():
         if not given.quick and not os.path.isfile(path):
             sys.exit(f"run.py: there is no {path}: `make` builds the programs, tools/unproved.py unproved ones, and --program and --trials name others")
+    if any(it.name in WITH_CLIENT for it in chosen):
+        build_client_library()
     counts = run_all(chosen, paths, given.quick)
     passed, failed = map(sum, zip(*counts))
     print(f"{passed} passed, {failed} failed")

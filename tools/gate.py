@@ -34,7 +34,7 @@ import measured
 
 TOP = measured.TOP
 sys.path.append(os.path.join(TOP, "tests"))
-from harness import follow
+from harness import build_client_library, follow
 
 PROGRAM = os.path.join(TOP, "composecheck")
 # What a check and the rest of the machine need, in bytes.
@@ -96,11 +96,12 @@ def use_all_processors(rt):
 def commands():
     """Returns the commands that run the built programs, the slowest first, once `composecheck` itself is at PROGRAM."""
     shutil.copy(built("composecheck"), PROGRAM)
+    build_client_library()
     plain, trials = built("composecheck_list"), built("compose_trials")
     runs = [(it, PROGRAM) for it in ("refusals.py", "diff.py", "how.py", "lint.py")]
     runs += [(it, program) for it in ("cases.py", "service.py", "limits.py") for program in (PROGRAM, plain)]
     runs += [("devices.py", trials), ("calls.py", trials), ("network.py", trials)]
-    runs += [(it, PROGRAM) for it in ("once.py", "packages.py", "lex_reference.py", "at_once.py", "streams.py", "update.py", "outputs.py", "ci.py", "readme.py", "engine.py", "installed.py")]
+    runs += [(it, PROGRAM) for it in ("once.py", "packages.py", "lex_reference.py", "at_once.py", "streams.py", "update.py", "outputs.py", "ci.py", "readme.py", "engine.py", "client.py", "installed.py")]
     runs += [("snippets.py", PROGRAM), ("valid_pages.py", PROGRAM), ("makefile.py",), ("documents.py",), ("library.py",)]
     return [script(*it) for it in runs]
 

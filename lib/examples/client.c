@@ -33,7 +33,7 @@ int main(int count, char **words) {
                 composecheck_client_receive(&client, &byte, 1, &used, &action, &answer);
             else
                 composecheck_client_lose(&client, &action);
-        uint32_t verdict = action.kind == COMPOSECHECK_TELL ? action.verdict : COMPOSECHECK_PASS;
+        uint32_t verdict = action.kind == COMPOSECHECK_VERDICT ? action.verdict : COMPOSECHECK_PASS;
         int length = verdict == COMPOSECHECK_COMMIT ? (int) action.text_length : 0;
         printf("%s \"%.*s\"\n", ((const char *[]) { "pass", "take", "commit" })[verdict], length, (const char *) action.text);
     }

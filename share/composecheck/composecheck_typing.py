@@ -7,19 +7,78 @@
 A key that returns None reached no service: the application gets the key itself. No call takes longer than `PATIENCE` seconds, and after one
 that took so long none is made for `PAUSE` seconds, so that a service which hangs doesn't hold up each key.
 
-A service that is started again knows no sessions. A `Typing` then opens its session anew and types what was pending once more, so that a
-sequence goes on over a restart. What happens is logged by `logging`, in the logger `composecheck`, and what goes on happening only once.
+What is sent, and what a reply or a lost connection means, is decided by a proved library, libcomposecheck-client.so.0 (composecheck_client.h); this
+module connects, sends, reads and waits for it. $COMPOSECHECK_CLIENT_LIBRARY names another file. A sequence goes on over a restart of the service.
+What happens is logged by `logging`, in the logger `composecheck`, and what goes on happening only once.
 """
+import ctypes
 import logging
+import os
 import random
+import socket
 import time
-from typing import Callable, Iterable, Iterator, List, NamedTuple, Optional, Tuple
+from typing import NamedTuple, Optional, Tuple
 
-from composecheck_client import Client, ClientError, NoSession, Refused, Reply, Request, SessionTaken, State, TimedOut, UnexpectedReply
+from composecheck_client import STATUSES, ConnectionEnded, TimedOut, UnexpectedReply
 
 PATIENCE = 0.5
 PAUSE = 2.0
 LOG = logging.getLogger("composecheck")
+LIBRARY = "libcomposecheck-client.so.0"
+WAIT, SEND, CONNECT, VERDICT, ABANDON, CLOSE = range(6)
+ENOUGH, GREATEST_KEYSYM = 4096, 0x1FFFFFFF
+
+
+class _Answer(ctypes.Structure):
+    _fields_ = [(name, ctypes.c_uint32) for name in ("status", "accepted", "text_length")] + [("text", ctypes.c_ubyte * 255), ("reserved", ctypes.c_ubyte)]
+
+
+class _Stage(ctypes.Structure):
+    _fields_ = [("left", ctypes.c_size_t), ("number", ctypes.c_uint32), ("key", ctypes.c_uint32), ("is_again", ctypes.c_uint32), ("answer", _Answer)]
+
+
+class _Client(ctypes.Structure):
+    _fields_ = [
+        ("stage", _Stage), *((name, ctypes.c_uint32) for name in ("session", "is_opened", "is_current", "count")), ("pending", ctypes.c_uint32 * 31),
+        ("held_count", ctypes.c_uint32), ("held", ctypes.c_ubyte * 266), ("reserved", ctypes.c_ubyte * 62),
+    ]
+
+
+class _Action(ctypes.Structure):
+    _fields_ = [
+        *((name, ctypes.c_uint32) for name in ("kind", "verdict", "text_length", "byte_count")), ("text", ctypes.c_ubyte * 255),
+        ("bytes", ctypes.c_ubyte * 448), ("reserved", ctypes.c_ubyte * 33),
+    ]
+
+
+def _path():
+    """Where the library is: below the prefix of this file, in its source tree, or where the system looks."""
+    above = os.path.dirname(os.path.dirname(os.path.dirname(os.path.realpath(__file__))))
+    places = [os.path.join(above, *it, LIBRARY) for it in (("lib",), ("build", "lib"))]
+    return os.environ.get("COMPOSECHECK_CLIENT_LIBRARY") or next(filter(os.path.exists, places), LIBRARY)
+
+
+def _load(path):
+    library = ctypes.CDLL(path)
+    client, action, number = ctypes.POINTER(_Client), ctypes.POINTER(_Action), ctypes.c_uint32
+    for name, result, arguments in (
+        ("press", None, (client, number, action)),
+        ("connected", None, (client, number, action)),
+        ("receive", ctypes.c_bool, (client, ctypes.c_char_p, ctypes.c_size_t, ctypes.POINTER(ctypes.c_size_t), action, ctypes.POINTER(_Answer))),
+        ("lose", None, (client, action)),
+        ("time_out", None, (client, action)),
+        ("erase", None, (client, action)),
+        ("drop", None, (client,)),
+        ("close", None, (client, action)),
+        ("pending", number, (client, number * 31)),
+        ("is_idle", ctypes.c_bool, (client,)),
+    ):
+        function = getattr(library, f"composecheck_client_{name}")
+        function.restype, function.argtypes = result, arguments
+    return library
+
+
+_library = _load(_path())
 
 
 class Typed(NamedTuple):
@@ -32,35 +91,64 @@ class Typed(NamedTuple):
 
 
 class Service:
-    """The way to a service. It is connected to when it is needed, and once more when a connection has ended."""
+    """The way to a service. It is connected to when a key needs it."""
 
     def __init__(self, path: str, patience: float = PATIENCE, pause: float = PAUSE):
         self._path, self.patience, self._pause = path, patience, pause
-        self._client: Optional[Client] = None
+        self._socket: Optional[socket.socket] = None
         self._silent_until = 0.0
         self._told = ""
         # How many connections there were. What is known of a session holds on the connection where it was seen.
         self.connections = 0
 
-    def clients(self) -> Iterator[Client]:
-        """The connection that stands, and then, if the caller found that it is lost, a new one."""
-        if self._client:
-            yield self._client
-        if self._client or time.monotonic() < self._silent_until:
-            return
+    def is_connected(self) -> bool:
+        return self._socket is not None
+
+    def connect(self) -> bool:
+        """Connects, unless there is a connection. False: nobody listens, or somebody has just not answered in time."""
+        if self._socket is None and time.monotonic() >= self._silent_until:
+            made = socket.socket(socket.AF_UNIX, socket.SOCK_STREAM)
+            made.settimeout(self.patience)
+            try:
+                made.connect(self._path)
+            except OSError as error:
+                made.close()
+                self.lost(error)
+                return False
+            self._socket = made
+            self.connections += 1
+        return self.is_connected()
+
+    def send(self, sent: bytes, end: float) -> bool:
+        """Sends bytes. False: the connection is lost."""
         try:
-            self._client = Client(self._path, self.patience)
+            self._socket.settimeout(max(end - time.monotonic(), 0.001))
+            self._socket.sendall(sent)
+        except (BrokenPipeError, ConnectionResetError):
+            pass  # (what the service said before it closed may still be read)
         except OSError as error:
             self.lost(error)
-            return
-        self.connections += 1
-        yield self._client
+            return False
+        return True
+
+    def read(self, end: float) -> Optional[bytes]:
+        """Reads some bytes: none if the connection is lost, and None at the end of the time."""
+        left = end - time.monotonic()
+        if left <= 0:
+            return None
+        try:
+            self._socket.settimeout(left)
+            return self._socket.recv(ENOUGH)
+        except socket.timeout:
+            return None
+        except OSError:
+            return b""
 
     def lost(self, error: Exception) -> None:
         """Gives the connection up. A reply that still comes on it answers nothing that is asked later."""
         self.disconnect()
         # (where nobody listens, that is found out at once, at each key; where somebody doesn't answer, that took a while)
-        if isinstance(error, (TimedOut, TimeoutError, BlockingIOError, UnexpectedReply)):
+        if isinstance(error, (TimedOut, TimeoutError, socket.timeout, BlockingIOError, UnexpectedReply)):
             self._silent_until = time.monotonic() + self._pause
             self.tell(f"no reply from {self._path}: {error!r}; keys pass for {self._pause:g} s")
         elif isinstance(error, OSError):
@@ -80,9 +168,9 @@ class Service:
 
     def disconnect(self) -> None:
         """Closes the connection, if there is one."""
-        if self._client:
-            self._client.disconnect()
-            self._client = None
+        if self._socket is not None:
+            self._socket.close()
+            self._socket = None
 
 
 class Typing:
@@ -90,10 +178,19 @@ class Typing:
 
     def __init__(self, service: Service):
         self._service = service
-        self._number: Optional[int] = None
+        self._client, self._action, self._answer = _Client(), _Action(), _Answer()
+        # The connection on which the session was used last, by its number.
         self._connection = 0
-        self._has_cancelled = False
-        self.pending: Tuple[int, ...] = ()
+        self._rest = b""
+
+    @property
+    def pending(self) -> Tuple[int, ...]:
+        keysyms = (ctypes.c_uint32 * 31)()
+        return tuple(keysyms[: _library.composecheck_client_pending(self._client, keysyms)])
+
+    @property
+    def _number(self) -> Optional[int]:
+        return self._client.session if self._client.is_opened == 1 else None
 
     def deadline(self) -> float:
         """When a call that begins now is given up. Several calls may share it: then they take no longer together."""
@@ -101,76 +198,77 @@ class Typing:
 
     def key(self, keysym: int, end: Optional[float] = None) -> Optional[Typed]:
         """Types a key. None: no service was reached, and nothing is pending any more. `end` is a deadline that was taken before."""
-        # (after a cancelled sequence what a load keeps is promised from the next Reset on)
-        reset = [Request.reset] if self._has_cancelled else []
-        replies = self._ask(lambda number: [*(it(number) for it in reset), Request.key(number, keysym), Request.ask(number)], end)
-        if replies is None or any(isinstance(it, Refused) for it in replies):
-            self.pending = ()
+        if keysym > GREATEST_KEYSYM or self._run(end, "press", keysym) != VERDICT:
             return None
-        fed, state = replies[-2:]
-        self._has_cancelled = state.status == "cancelled"
-        self.pending = state.pending
-        return Typed(fed.status, fed.accepted, fed.text, self.pending)
+        self._service.answered()
+        answer = self._answer
+        return Typed(STATUSES[answer.status], answer.accepted == 1, bytes(answer.text[: answer.text_length]).decode(), self.pending)
 
     def erase(self) -> bool:
-        """Takes the last pending key back. False: no service was reached, and nothing is pending any more."""
-        kept = self.pending[:-1]
-        replies = self._ask(lambda number: [*_typed_anew(number, kept), Request.ask(number)])
-        state = replies[-1] if replies else None
-        self.pending = state.pending if isinstance(state, State) else ()
-        return isinstance(state, State)
+        """Takes the last pending key back. False: the service doesn't answer."""
+        return self._run(None, "erase") == WAIT
 
     def reset(self) -> None:
         """Drops what is pending."""
-        if self.pending:
-            self.pending = ()
-            self._ask(lambda number: [Request.reset(number)])
+        _library.composecheck_client_drop(self._client)
 
     def close(self) -> None:
         """Ends the session, if it was opened. A key opens another one."""
-        if self._number is not None:
-            self._ask(lambda number: [Request.close(number)])
-        self._number, self._connection, self.pending = None, 0, ()
+        self._run(None, "close")
+        self._connection = 0
 
-    def _ask(self, requests: Callable[[int], List[Request]], end: Optional[float] = None) -> Optional[List[Reply]]:
-        """The replies to requests on this session, or None where no service was reached.
-
-        A reply may be lost with its connection, so that nobody knows whether the key counted: on a new connection the session is put to where
-        it was before the requests."""
+    def _run(self, end: Optional[float], name: str, *words: int) -> int:
+        """Has the library handle an event, and does what it says, until nothing is waited for. Returns the kind of the last action."""
         end = self.deadline() if end is None else end
-        for client in self._service.clients():
-            try:
-                if self._connection != self._service.connections:
-                    self._resume(client, end)
-                replies = client.exchange(requests(self._number), end - time.monotonic())
-                if isinstance(replies[0], NoSession):
-                    # (another client closed it)
-                    self._resume(client, end)
-                    replies = client.exchange(requests(self._number), end - time.monotonic())
-                self._service.answered()
-                return replies
-            except Refused as refused:
-                self._service.tell(f"the service opens no session: {type(refused).__name__}; keys pass")
-                return None
-            except (OSError, ClientError) as error:
-                self._service.lost(error)
-        return None
+        if self._connection != self._service.connections or not self._service.is_connected():
+            # (another place found that the connection is lost)
+            self._event("lose")
+        kind = self._event(name, *words)
+        while kind in (SEND, CONNECT) or not _library.composecheck_client_is_idle(self._client):
+            if kind == CONNECT:
+                kind = self._event("connected", random.SystemRandom().getrandbits(32)) if self._connects() else self._event("lose")
+            elif kind == SEND and not self._service.send(bytes(self._action.bytes[: self._action.byte_count]), end):
+                kind = self._event("lose")
+            else:
+                kind = self._next(end)
+        if kind in (ABANDON, CLOSE):
+            self._give_up()
+        return kind
 
-    def _resume(self, client: Client, end: float) -> None:
-        """Opens the session, or finds it open, and types what was pending."""
-        opened: Reply = SessionTaken()
-        while isinstance(opened, SessionTaken):
-            number = random.SystemRandom().getrandbits(32) if self._number is None else self._number
-            (opened,) = client.exchange([Request.open(number)], end - time.monotonic())
-            if number == self._number and isinstance(opened, SessionTaken):
-                opened = None  # (the service wasn't started again)
-        if isinstance(opened, Refused):
-            raise opened
-        self._number, self._has_cancelled = number, False
-        client.exchange(_typed_anew(number, self.pending), end - time.monotonic())
-        self._connection = self._service.connections
+    def _event(self, name: str, *words: int) -> int:
+        getattr(_library, f"composecheck_client_{name}")(self._client, *words, self._action)
+        return self._action.kind
 
+    def _connects(self) -> bool:
+        """Takes the connection that there is, or a new one if this place had it already. False: there is none."""
+        if self._connection == self._service.connections:
+            self._service.disconnect()
+        if not self._service.connect():
+            return False
+        self._connection, self._rest = self._service.connections, b""
+        return True
 
-def _typed_anew(number: int, keysyms: Iterable[int]) -> List[Request]:
-    """What brings a session to where these keys are pending."""
-    return [Request.reset(number), *(Request.key(number, it) for it in keysyms)]
+    def _next(self, end: float) -> int:
+        """What to do at the next reply."""
+        used = ctypes.c_size_t()
+        while not _library.composecheck_client_receive(self._client, self._rest, len(self._rest), used, self._action, self._answer):
+            came = self._service.read(end)
+            if came is None:
+                self._service.lost(TimedOut("the service did not go on in time"))
+                return self._event("time_out")
+            if not came:
+                self._service.lost(ConnectionEnded("the service closed the connection"))
+                return self._event("lose")
+            self._rest = came
+        self._rest = self._rest[used.value:]
+        return self._action.kind
+
+    def _give_up(self) -> None:
+        """Closes the connection. Bytes that are no reply of the protocol are still held."""
+        if not self._service.is_connected():
+            return
+        if self._client.held_count:
+            self._service.lost(UnexpectedReply("the bytes are no reply"))
+            return
+        self._service.disconnect()
+        self._service.tell("the service refuses the session; keys pass")
