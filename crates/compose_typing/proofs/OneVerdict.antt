@@ -1,8 +1,8 @@
 -- Each key has one verdict.
-use Rattle.std.proofs.Common.{◌≡◌, ℕ, ◌+◌, ◌==◌, ◌&&◌, Bool, true, false, cond, refl, List, [], ◌∷◌, arith}
+use Rattle.std.proofs.Common.{◌≡◌, ℕ, ◌+◌, ◌==◌, ◌&&◌, Bool, true, false, cond, refl, [], ◌∷◌, arith}
 use Rattle.std.specs.Prelude.{sum_by}
 use Rattle.std.proofs.lemmas.List.Sums.{sum_by-cons}
-use Rattle.compose_wire.specs.Messages.{ReplyBody, opened, fed, was_reset, closed, loaded, state, refused, Refusal, code, session_taken, no_session, Reply}
+use Rattle.compose_wire.specs.Messages.{ReplyBody, opened, fed, was_reset, closed, loaded, state, refused, Refusal, code, session_taken, no_session}
 use Rattle.compose_typing.specs.declared.stage.Waiting.{Waiting}
 use Rattle.compose_typing.specs.declared.stage.KeyAnswer.{KeyAnswer}
 use Rattle.compose_typing.specs.declared.stage.Stage.{Stage}

@@ -1,23 +1,23 @@
 -- The verdicts of a client are those of the table's run, whichever connections are lost.
-use Rattle.std.proofs.Common.{◌≡◌, ◌≢◌, ℕ, zero, suc, ◌+◌, ◌<◌, Bool, true, false, not, cond, refl, ap, sym, ◌∙◌, List, [], ◌∷◌, ◌++◌, length, map, take, append_assoc, length-append, arith}
+use Rattle.std.proofs.Common.{◌≡◌, ℕ, zero, suc, ◌+◌, ◌<◌, Bool, true, false, cond, refl, ap, sym, ◌∙◌, List, [], ◌∷◌, ◌++◌, length, map, take, append_assoc, length-append, arith}
 use Rattle.std.specs.Prelude.{Option, Some, None}
 use Rattle.keysym_core.specs.Keysym.{is_ignored}
 use Rattle.keysym_core.specs.Names.{KeysymNames}
 use Rattle.compose_model.specs.Table.{Definition, is_extended, is_sequence}
-use Rattle.compose_model.specs.Step.{effect, step, is_empty, pending, pending_from, pending_after}
+use Rattle.compose_model.specs.Step.{effect, step, is_empty, pending, pending_after}
 use Rattle.compose_model.specs.Session.{Session, rest, fed as session_fed}
 use Rattle.compose_model.proofs.Steps.{pending_from-append}
-use Rattle.compose_wire.specs.Messages.{Body, key, ask, ReplyBody, was_reset}
+use Rattle.compose_wire.specs.Messages.{key, ask, ReplyBody, was_reset}
 use Rattle.compose_typing.specs.declared.action.KeyVerdict.{KeyVerdict}
 use Rattle.compose_typing.specs.declared.action.Action.TheVariants.{Wait}
 use Rattle.compose_typing.specs.declared.stage.Waiting.{Waiting}
 use Rattle.compose_typing.specs.declared.stage.KeyAnswer.{KeyAnswer}
 use Rattle.compose_typing.specs.declared.stage.Stage.{Stage}
 use Rattle.compose_typing.specs.declared.stage.Stage.TheVariants.{Ready, Feeding, Asking}
-use Rattle.compose_typing.specs.TypingSession.{Client, Outcome, does, asks, bodies_for, before_key, typed_anew, verdict_on, answered, answered_at, is_cancelled}
+use Rattle.compose_typing.specs.TypingSession.{Client, Outcome, does, asks, bodies_for, typed_anew, verdict_on, answered, answered_at}
 use Rattle.compose_typing.specs.Laws.{Event, press, reply, happens, after}
 use Rattle.compose_typing.specs.Service.{answer_of, replies, typed, verdicts_in, verdicts_at, heard, moved, Types, session_for, key_at, reconnected}
-use Rattle.compose_typing.specs.Runs.{effect_verdict, run_verdicts, Loss, Press, key_events, key_session, IsInTime, all_events, AllInTime, IsReady, TypesRun}
+use Rattle.compose_typing.specs.Runs.{effect_verdict, run_verdicts, Loss, Press, key_events, key_session, IsInTime, all_events, IsReady, TypesRun}
 use Rattle.compose_typing.proofs.TypedOnce.{feeding, heard_here, fed_next, reset_next, asked_once, lost_once, pending_again}
 
 -- ---- one key

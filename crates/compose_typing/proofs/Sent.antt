@@ -1,8 +1,8 @@
 -- The bytes of requests in a row.
-use Rattle.std.proofs.Common.{◌≡◌, ℕ, List, [], ◌∷◌, ◌++◌, ap, sym, refl, ◌∙◌, append_assoc, map}
-use Rattle.compose_wire.specs.Messages.{Body, key}
+use Rattle.std.proofs.Common.{◌≡◌, ℕ, List, [], ◌∷◌, ◌++◌, ap, sym, refl, ◌∙◌, append_assoc}
+use Rattle.compose_wire.specs.Messages.{Body}
 use Rattle.compose_wire.specs.Frames.{frame}
-use Rattle.compose_typing.specs.TypingSession.{sent, typed_anew}
+use Rattle.compose_typing.specs.TypingSession.{sent}
 
 pub sent_append : (n : ℕ) (xs ys : List Body) → sent n (xs ++ ys) ≡ sent n xs ++ sent n ys
 sent_append n [] ys = refl

@@ -1,12 +1,12 @@
 -- A key that is asked about is typed once.
-use Rattle.std.proofs.Common.{◌≡◌, ℕ, suc, ◌-◌, ◌==◌, ◌&&◌, Bool, true, false, cond, refl, ap, sym, ◌∙◌, List, [], ◌∷◌, ◌++◌, length, map}
+use Rattle.std.proofs.Common.{◌≡◌, ℕ, suc, Bool, true, false, cond, refl, ap, ◌∙◌, List, [], ◌∷◌, ◌++◌, length, map}
 use Rattle.std.specs.Prelude.{Some}
 use Rattle.std.proofs.lemmas.Bool.{eq-eqb}
 use Rattle.std.proofs.Math.Dec.{eqb-suc-zero}
 use Rattle.std.proofs.Math.Numerals.{sub-one}
 use Rattle.keysym_core.specs.Names.{KeysymNames}
 use Rattle.compose_model.specs.Table.{Definition}
-use Rattle.compose_model.specs.Step.{pending, pending_from, pending_after}
+use Rattle.compose_model.specs.Step.{pending, pending_from}
 use Rattle.compose_model.specs.Session.{Session, rest, fed as session_fed}
 use Rattle.compose_model.specs.declared.Status.{Status}
 use Rattle.compose_model.proofs.Reached.{pending_reached}
@@ -19,7 +19,7 @@ use Rattle.compose_typing.specs.declared.stage.Stage.{Stage}
 use Rattle.compose_typing.specs.declared.stage.Stage.TheVariants.{Apart, Ready, Connecting, Opening, Feeding, Asking, Refreshing, Closing}
 use Rattle.compose_typing.specs.TypingSession.{Client, Outcome, does, sent, asks, bodies_for, before_key, typed_anew, verdict_on, connected, answered, answered_at, fed_at, lost, lost_at, lost_with}
 use Rattle.compose_typing.specs.Laws.{Event, connect, reply, lose, happens, after}
-use Rattle.compose_typing.specs.Service.{answer_of, session_after, replies, typed, verdicts_in, verdicts_at, heard, moved, Types, session_for, key_at, AskedOnce, LostOnce, PendingAgain}
+use Rattle.compose_typing.specs.Service.{answer_of, replies, typed, verdicts_in, verdicts_at, heard, moved, Types, session_for, key_at, AskedOnce, LostOnce, PendingAgain}
 
 -- at these events the client becomes this one, and reports these verdicts
 pub record Goes (c : Client) (es : List Event) (end : Client) (verdicts : List KeyVerdict) : Type 0 where

@@ -1,5 +1,5 @@
 -- A client's verdicts over many keys, with a service that types over one table, while connections are lost.
-use Rattle.std.specs.Prelude.{◌≡◌, ℕ, ◌<◌, Bool, true, false, List, [], ◌∷◌, ◌++◌, length, map, take, Option, Some, None}
+use Rattle.std.specs.Prelude.{◌≡◌, ℕ, ◌<◌, true, false, List, [], ◌∷◌, ◌++◌, length, map, take, Option, Some, None}
 use Rattle.keysym_core.specs.Names.{KeysymNames}
 use Rattle.compose_model.specs.Table.{Definition}
 use Rattle.compose_model.specs.Step.{Effect, ignores, extends, completes, passes, cancels, effect, step, pending, pending_after}

@@ -1,19 +1,19 @@
 -- A client, and a service that types over one table: what happens at a key, even if connections are lost.
-use Rattle.std.specs.Prelude.{◌≡◌, ℕ, Bool, true, false, not, if◌then◌else◌, List, [], ◌∷◌, ◌++◌, Option, Some, None}
+use Rattle.std.specs.Prelude.{◌≡◌, ℕ, true, false, not, if◌then◌else◌, List, [], ◌∷◌, ◌++◌, Option, Some, None}
 use Rattle.keysym_core.specs.Keysym.{is_ignored}
 use Rattle.keysym_core.specs.Names.{KeysymNames}
 use Rattle.compose_model.specs.Table.{Definition}
 use Rattle.compose_model.specs.Step.{step, pending}
 use Rattle.compose_model.specs.Session.{Session, rest, fed as session_fed}
-use Rattle.compose_wire.specs.Messages.{Body, open_session, key, reset, close, load, ask, ReplyBody, fed, was_reset, state, refused, session_taken}
+use Rattle.compose_wire.specs.Messages.{Body, key, reset, ask, ReplyBody, fed, was_reset, state, refused, session_taken}
 use Rattle.compose_typing.specs.declared.action.Action.{Action}
-use Rattle.compose_typing.specs.declared.action.Action.TheVariants.{Wait, Send, Connect, Tell, Abandon, Close}
+use Rattle.compose_typing.specs.declared.action.Action.TheVariants.{Tell, Abandon}
 use Rattle.compose_typing.specs.declared.action.KeyVerdict.{KeyVerdict}
 use Rattle.compose_typing.specs.declared.action.KeyVerdict.TheVariants.{Pass}
 use Rattle.compose_typing.specs.declared.stage.Waiting.{Waiting}
 use Rattle.compose_typing.specs.declared.stage.KeyAnswer.{KeyAnswer}
 use Rattle.compose_typing.specs.declared.stage.Stage.{Stage}
-use Rattle.compose_typing.specs.declared.stage.Stage.TheVariants.{Apart, Ready, Connecting, Opening, Feeding, Asking}
+use Rattle.compose_typing.specs.declared.stage.Stage.TheVariants.{Ready, Opening, Feeding, Asking}
 use Rattle.compose_typing.specs.TypingSession.{Client, asks, bodies_for, verdict_on, is_cancelled}
 use Rattle.compose_typing.specs.Laws.{Event, connect, reply, lose, happens, after}
 

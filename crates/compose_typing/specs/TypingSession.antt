@@ -4,7 +4,7 @@ use Rattle.std.specs.Prelude.{ℕ, ◌-◌, ◌==◌, ◌||◌, ◌&&◌, Bool, 
 use Rattle.compose_text.specs.Numbers.{is_between}
 use Rattle.compose_model.specs.declared.Status.{Status}
 use Rattle.compose_model.specs.declared.Status.TheVariants.{Nothing, Composing, Composed, Cancelled}
-use Rattle.compose_wire.specs.Messages.{Body, open_session, key, reset, close, ask, Request, ReplyBody, opened, fed, was_reset, closed, state, refused, Refusal, session_taken, no_session, code, Reply}
+use Rattle.compose_wire.specs.Messages.{Body, open_session, key, reset, close, ask, ReplyBody, opened, fed, was_reset, closed, state, refused, Refusal, session_taken, no_session, code, Reply}
 use Rattle.compose_wire.specs.Frames.{frames}
 use Rattle.compose_typing.specs.declared.action.KeyVerdict.{KeyVerdict}
 use Rattle.compose_typing.specs.declared.action.KeyVerdict.TheVariants.{Pass, Take, Commit}
