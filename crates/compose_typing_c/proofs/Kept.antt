@@ -2,7 +2,6 @@
 use Rattle.std.proofs.Common.{◌≡◌, ℕ, ◌≤◌, ◌==◌, Bool, true, false, List, take, refl, ap, ap₂}
 use Rattle.std.specs.Prelude.{IsUtf8}
 use mir.Val.{bool_byte}
-use Rattle.std.specs.Str.{is_utf8}
 use Rattle.std.proofs.lemmas.Bool.{le-leb}
 use Rattle.std.proofs.lemmas.Str.{is_utf8-from_IsUtf8}
 use Rattle.keysym_core.specs.Keysym.{is_keysym}

@@ -1,5 +1,5 @@
 -- The meaning of the numbers in a C client.
-use Rattle.std.specs.Prelude.{◌≡◌, ℕ, ◌==◌, not, List, ◌++◌, if◌then◌else◌}
+use Rattle.std.specs.Prelude.{ℕ, ◌==◌, not, List, if◌then◌else◌}
 use Rattle.keysym_core.specs.Keysym.{is_keysym}
 use Rattle.compose_typing.specs.declared.stage.Waiting.{Waiting}
 use Rattle.compose_typing.specs.declared.stage.KeyAnswer.{KeyAnswer}
