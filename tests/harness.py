@@ -5,7 +5,8 @@ import subprocess
 import sys
 
 TOP = os.path.dirname(os.path.dirname(os.path.abspath(__file__)))
-# The library of clients, on which the engines stand, also in a copy of the tree.
+# The library of clients, on which the engines stand, also in a copy of the tree; and the proved static library that it is built of.
+PROVED_CLIENT = os.path.join("crates", "compose_typing_c", "out", "libcompose_typing_c.a")
 CLIENT_LIBRARY = os.path.join(TOP, "build", "lib", "libcomposecheck-client.so.0")
 os.environ.setdefault("COMPOSECHECK_CLIENT_LIBRARY", CLIENT_LIBRARY)
 COUNTS = re.compile(r"(\d+) passed, (\d+) failed(?:; .*)?\n?")
@@ -41,8 +42,7 @@ def write(folder, files):
 
 def build_client_library():
     """Builds the library of clients from the proved static library, which is proved and built first if it isn't there."""
-    proved = os.path.join("crates", "compose_typing_c", "out", "libcompose_typing_c.a")
-    if not os.path.exists(os.path.join(TOP, proved)):
+    if not os.path.exists(os.path.join(TOP, PROVED_CLIENT)):
         subprocess.run([sys.executable, os.path.join("tools", "build.py"), "compose_typing_c"], cwd=TOP, check=True, stdout=sys.stderr)
     subprocess.run([sys.executable, os.path.join("lib", "build_library.py"), "--client", os.path.dirname(CLIENT_LIBRARY)], cwd=TOP, check=True)
 

@@ -12,14 +12,14 @@ import os
 import re
 import sys
 
-from harness import TOP, build_client_library, follow
+from harness import PROVED_CLIENT, TOP, build_client_library, follow
 
 # The head of a script: its name, what it takes, and what it does.
 HEAD = re.compile(r"(\w+)\.py((?: (?:PROGRAM|TRIALS|\[[^\]]*\]))*): (.*?)(?:[.:;](?:\s|$)|$)", re.S)
 # What an unproved program won't do for: it has an allocator of its own, so that a library which refuses memory can't be preloaded, and is slow on
 # inputs at their limits; the C libraries are built of proved ones; the runner of edits needs the prover. The others are no part of the gate.
 NOT_QUICK = {"calls", "client", "edits_test", "engine", "installed", "library", "limits", "other_tables", "peers", "readers", "real", "real_service", "refusals"}
-# Those that need the library of clients.
+# Those that need the library of clients, which is built of a proved one: with --quick they run if that is there.
 WITH_CLIENT = {"client", "engine", "installed"}
 # How many random ones a script tries with --quick, where that takes the longest.
 FEWER = {"diff": ["100"], "network": ["30"]}
@@ -81,7 +81,8 @@ def main():
     words.add_argument("--trials", default="compose_trials", metavar="FILE", help="the program of single calls (./compose_trials)")
     words.add_argument("names", nargs="*", metavar="NAME")
     given, known = words.parse_args(), scripts()
-    names = given.names or [it for it in known if given.quick and it not in NOT_QUICK]
+    left_out = NOT_QUICK if os.path.exists(os.path.join(TOP, PROVED_CLIENT)) else NOT_QUICK | WITH_CLIENT
+    names = given.names or [it for it in known if given.quick and it not in left_out]
     if not names:
         print("".join(f"{it.name:<15}{it.does}\n" for it in known.values()), end="")
         return 0
@@ -95,6 +96,8 @@ def main():
             sys.exit(f"run.py: there is no {path}: `make` builds the programs, tools/unproved.py unproved ones, and --program and --trials name others")
     if any(it.name in WITH_CLIENT for it in chosen):
         build_client_library()
+    elif given.quick:
+        print(f"run.py: {', '.join(sorted(WITH_CLIENT))} are left out: they need the proved library that `make lib-client` builds")
     counts = run_all(chosen, paths, given.quick)
     passed, failed = map(sum, zip(*counts))
     print(f"{passed} passed, {failed} failed")

@@ -1,5 +1,5 @@
 -- A key that is asked about is typed once.
-use Rattle.std.proofs.Common.{◌≡◌, ℕ, suc, Bool, true, false, cond, refl, ap, ◌∙◌, List, [], ◌∷◌, ◌++◌, length, map}
+use Rattle.std.proofs.Common.{◌≡◌, ℕ, suc, Bool, true, false, cond, refl, ap, sym, ◌∙◌, List, [], ◌∷◌, ◌++◌, length, map}
 use Rattle.std.specs.Prelude.{Some}
 use Rattle.std.proofs.lemmas.Bool.{eq-eqb}
 use Rattle.std.proofs.Math.Dec.{eqb-suc-zero}
@@ -10,7 +10,7 @@ use Rattle.compose_model.specs.Step.{pending, pending_from}
 use Rattle.compose_model.specs.Session.{Session, rest, fed as session_fed}
 use Rattle.compose_model.specs.declared.Status.{Status}
 use Rattle.compose_model.proofs.Reached.{pending_reached}
-use Rattle.compose_wire.specs.Messages.{Body, open_session, key, ask, ReplyBody, fed, was_reset, refused, session_taken}
+use Rattle.compose_wire.specs.Messages.{Body, open_session, key, ask, ReplyBody, opened, fed, was_reset, refused, session_taken, no_session}
 use Rattle.compose_typing.specs.declared.action.KeyVerdict.{KeyVerdict}
 use Rattle.compose_typing.specs.declared.action.Action.TheVariants.{Wait, Send, Connect, Tell}
 use Rattle.compose_typing.specs.declared.stage.Waiting.{Waiting}
@@ -19,7 +19,7 @@ use Rattle.compose_typing.specs.declared.stage.Stage.{Stage}
 use Rattle.compose_typing.specs.declared.stage.Stage.TheVariants.{Apart, Ready, Connecting, Opening, Feeding, Asking, Refreshing, Closing}
 use Rattle.compose_typing.specs.TypingSession.{Client, Outcome, does, sent, asks, bodies_for, before_key, typed_anew, verdict_on, connected, answered, answered_at, fed_at, lost, lost_at, lost_with}
 use Rattle.compose_typing.specs.Laws.{Event, connect, reply, lose, happens, after}
-use Rattle.compose_typing.specs.Service.{answer_of, replies, typed, verdicts_in, verdicts_at, heard, moved, Types, session_for, key_at, AskedOnce, LostOnce, PendingAgain}
+use Rattle.compose_typing.specs.Service.{answer_of, replies, typed, verdicts_in, verdicts_at, heard, moved, Types, session_for, key_at, is_fed, AskedOnce, LostOnce, ClosedOnce, PendingAgain}
 
 -- at these events the client becomes this one, and reports these verdicts
 pub record Goes (c : Client) (es : List Event) (end : Client) (verdicts : List KeyVerdict) : Type 0 where
@@ -100,21 +100,50 @@ lost_is c (Refreshing n) w e = cc
 lost_is c Closing w e = cc
 
 pub lost_once : LostOnce
-lost_once names table c w n s is first opened =
+lost_once names table c w n s is first was_open =
     let v : Waiting = record { key = w.key; is_again = true } in
     let connecting : Client = record c { is_stale = true; stage = Connecting v } in
     let opening : Client = record c { is_stale = true; stage = Opening v } in
     let end : Session = typed table rest c.pending in
     let verdicts : List KeyVerdict = verdict_on w.key (heard names table end w.key) ∷ [] in
     let lost_so : lost c ≡ does connecting Connect = lost_is c c.stage w is ∙ rw first refl in
-    let opening_so : connected connecting n ≡ does opening (Send (sent c.session (open_session ∷ []))) = rw opened refl in
-    let opened_so : answered_at (Opening v) opening (refused session_taken) ≡ asks opening v = rw opened refl in
+    let opening_so : connected connecting n ≡ does opening (Send (sent c.session (open_session ∷ []))) = rw was_open refl in
+    let opened_so : answered_at (Opening v) opening (refused session_taken) ≡ asks opening v = rw was_open refl in
     let last : Types names table (asks opening v).client (replies names table c.session s (bodies_for opening w.key)) end w.key = asked_once names table opening v s in
     let asked : List Event = replies names table c.session s (bodies_for opening w.key) in
     let taken : Event = reply (record { session = c.session; answer = refused session_taken }) in
     let g = happened c lose (does connecting Connect) (connect n ∷ taken ∷ asked) (moved table c end w.key) verdicts lost_so
     (happened connecting (connect n) (does opening (Send (sent c.session (open_session ∷ [])))) (taken ∷ asked) (moved table c end w.key) verdicts opening_so
     (goes_on opening (refused session_taken) (asks opening v) asked (moved table c end w.key) verdicts opened_so (record { client = last.client; verdict_on = last.verdict }))) in
+    record { client = g.client; verdict = g.verdict_on }
+
+closed_is : (c : Client) (s : Stage) (w : Waiting) → key_at s ≡ Some w → is_fed s ≡ true → answered_at s c (refused no_session) ≡ lost_with c w
+closed_is c Apart w e f = cc
+closed_is c Ready w e f = cc
+closed_is c (Connecting v) w e f = cc
+closed_is c (Opening v) w e f = cc
+closed_is c (Feeding v n) w e f = cc
+closed_is c (Asking v h) w e f = cc
+closed_is c (Refreshing n) w e f = cc
+closed_is c Closing w e f = cc
+
+pub closed_once : ClosedOnce
+closed_once names table c w n is waits_for_it first was_open =
+    let v : Waiting = record { key = w.key; is_again = true } in
+    let connecting : Client = record c { is_stale = true; stage = Connecting v } in
+    let opening : Client = record c { is_stale = true; stage = Opening v } in
+    let end : Session = typed table rest c.pending in
+    let verdicts : List KeyVerdict = verdict_on w.key (heard names table end w.key) ∷ [] in
+    let closed_so : answered_at c.stage c (refused no_session) ≡ does connecting Connect = closed_is c c.stage w is waits_for_it ∙ rw first refl in
+    let opening_so : connected connecting n ≡ does opening (Send (sent c.session (open_session ∷ []))) = rw was_open refl in
+    let same : record opening { is_opened = true; is_stale = true } ≡ opening = λ i. record opening { is_opened = sym was_open i } in
+    let opened_so : answered_at (Opening v) opening opened ≡ asks opening v = ap (λ (x : Client). asks x v) same in
+    let last : Types names table (asks opening v).client (replies names table c.session rest (bodies_for opening w.key)) end w.key = asked_once names table opening v rest in
+    let asked : List Event = replies names table c.session rest (bodies_for opening w.key) in
+    let answer : Event = reply (record { session = c.session; answer = opened }) in
+    let g = goes_on c (refused no_session) (does connecting Connect) (connect n ∷ answer ∷ asked) (moved table c end w.key) verdicts closed_so
+    (happened connecting (connect n) (does opening (Send (sent c.session (open_session ∷ [])))) (answer ∷ asked) (moved table c end w.key) verdicts opening_so
+    (goes_on opening opened (asks opening v) asked (moved table c end w.key) verdicts opened_so (record { client = last.client; verdict_on = last.verdict }))) in
     record { client = g.client; verdict = g.verdict_on }
 
 typed_pending : (table : List Definition) (s : Session) (ks : List ℕ) → (typed table s ks).pending ≡ pending_from table s.pending ks

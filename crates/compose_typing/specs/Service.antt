@@ -1,11 +1,11 @@
 -- A client, and a service that types over one table: what happens at a key, even if connections are lost.
-use Rattle.std.specs.Prelude.{◌≡◌, ℕ, true, false, not, if◌then◌else◌, List, [], ◌∷◌, ◌++◌, Option, Some, None}
+use Rattle.std.specs.Prelude.{◌≡◌, ℕ, Bool, true, false, not, if◌then◌else◌, List, [], ◌∷◌, ◌++◌, Option, Some, None}
 use Rattle.keysym_core.specs.Keysym.{is_ignored}
 use Rattle.keysym_core.specs.Names.{KeysymNames}
 use Rattle.compose_model.specs.Table.{Definition}
 use Rattle.compose_model.specs.Step.{step, pending}
 use Rattle.compose_model.specs.Session.{Session, rest, fed as session_fed}
-use Rattle.compose_wire.specs.Messages.{Body, key, reset, ask, ReplyBody, fed, was_reset, state, refused, session_taken}
+use Rattle.compose_wire.specs.Messages.{Body, key, reset, ask, ReplyBody, opened, fed, was_reset, state, refused, session_taken, no_session}
 use Rattle.compose_typing.specs.declared.action.Action.{Action}
 use Rattle.compose_typing.specs.declared.action.Action.TheVariants.{Tell, Abandon}
 use Rattle.compose_typing.specs.declared.action.KeyVerdict.{KeyVerdict}
@@ -101,6 +101,24 @@ reconnected names table c n s k =
 abbrev pub LostOnce : Type 0
 LostOnce = (names : KeysymNames) (table : List Definition) (c : Client) (w : Waiting) (n : ℕ) (s : Session) → key_at c.stage ≡ Some w → w.is_again ≡ false → c.is_opened ≡ true
     → Types names table c (reconnected names table c n s w.key) (typed table rest c.pending) w.key
+
+-- the key waits for its own reply or for the state of the session after it
+abbrev pub is_fed : Stage → Bool
+is_fed (Feeding w n) = true
+is_fed (Asking w h) = true
+is_fed _ = false
+
+-- the session turns out to be closed, a new connection is made (with a number for another session), the session is opened
+-- there, and every request is answered
+abbrev pub reopened : KeysymNames → List Definition → Client → ℕ → ℕ → List Event
+reopened names table c n k =
+    reply (record { session = c.session; answer = refused no_session }) ∷ connect n ∷ reply (record { session = c.session; answer = opened })
+    ∷ replies names table c.session rest (bodies_for (record c { is_stale = true }) k)
+
+-- a key whose session another client closed is typed once, in the session of the keys that were pending before it
+abbrev pub ClosedOnce : Type 0
+ClosedOnce = (names : KeysymNames) (table : List Definition) (c : Client) (w : Waiting) (n : ℕ) → key_at c.stage ≡ Some w → is_fed c.stage ≡ true → w.is_again ≡ false → c.is_opened ≡ true
+    → Types names table c (reopened names table c n w.key) (typed table rest c.pending) w.key
 
 -- the pending keys of a session are pending again after they are typed anew
 abbrev pub PendingAgain : Type 0

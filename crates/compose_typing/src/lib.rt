@@ -20,7 +20,7 @@
 
 ghost use Rattle.compose_typing.specs.Laws.{OneVerdict};
 ghost use Rattle.compose_typing.specs.Runs.{TypesRun};
-ghost use Rattle.compose_typing.specs.Service.{AskedOnce, LostOnce, PendingAgain};
+ghost use Rattle.compose_typing.specs.Service.{AskedOnce, ClosedOnce, LostOnce, PendingAgain};
 
 mod action;
 mod client;
@@ -40,11 +40,12 @@ pub fn law_one_verdict()
 {}
 
 /// A key counts once, with a service that types over one table: it has one verdict, that of its
-/// step in the session, even if the connection is lost after any of its replies. What was pending
-/// before is pending again on the new connection.
+/// step in the session, even if the connection is lost after any of its replies, or another client
+/// closes the session. What was pending before is pending again on the new connection.
 pub fn law_key_once()
     ensures asked { AskedOnce }
     ensures lost { LostOnce }
+    ensures closed { ClosedOnce }
     ensures again { PendingAgain }
 {}
 
