@@ -21,3 +21,4 @@ pub mod Spaced
 pub mod Unsigned
 pub mod OneSign
 pub mod OneLine
+pub mod AtOnce

@@ -1,10 +1,16 @@
-use Rattle.std.proofs.Common.{◌≡◌, ◌+◌, ◌≤◌, ◌||◌, drop}
+use Rattle.std.proofs.Common.{◌≡◌, ◌+◌, ◌-◌, ◌≤◌, length, drop}
 use Rattle.compose_lint.specs.Lost.{has_sign_after, openings}
+use Rattle.compose_lint.proofs.AtOnce.{has_sign_in}
 use Rattle.compose_lint.proofs.signs.has_sign.Given as goal
 
--- what is found so far, and in the bytes that are left, is all
-abbrev pub invariant-loop-second : goal.invariant-loop-second
-invariant-loop-second l =
-    ((l.found || has_sign_after l.first (drop l.second-index l.line)) ≡ has_sign_after 58 l.line)
-    × (l.openings + openings (drop l.second-index l.line) ≡ openings l.line)
-    × (l.openings ≤ l.second-index)
+-- there is no sign before the byte in front of `at`
+abbrev pub invariant-loop-at : goal.invariant-loop-at
+invariant-loop-at l =
+    (has_sign_in (drop (l.at - 1) l.line) ≡ has_sign_after 58 l.line)
+    × (l.openings + openings (drop l.at l.line) ≡ openings l.line)
+    × (l.openings ≤ l.at)
+    × (1 ≤ l.at)
+    × (l.at ≤ length l.line)
+
+abbrev pub decreases-loop-at : goal.decreases-loop-at
+decreases-loop-at l = length l.line - l.at
