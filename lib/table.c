@@ -243,7 +243,7 @@ void composecheck_table_free(struct composecheck_table *table)
     free(table);
 }
 
-/* ---- what is told */
+/* ---- what is printed */
 
 static void cut(char *text, size_t room, const uint8_t *said, size_t length)
 {

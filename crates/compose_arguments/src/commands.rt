@@ -212,7 +212,7 @@ static CHECK: CommandRow = CommandRow {
 /// The command that reports what a new table changes.
 static DIFF: CommandRow = CommandRow {
     name: "diff",
-    about: "Tell of each sequence that a new Compose file changes, removes, makes wait or adds",
+    about: "Print each sequence that a new Compose file changes, removes, makes wait or adds",
     after_help: "Names are those of keysymdef.h, unless --names gives others.\nExit status: 0 nothing changes for people who type, 1 something does, 2 input refused, 3 out of memory\nExample: composecheck diff /usr/share/X11/locale/en_US.UTF-8/Compose ~/.XCompose",
     options: &[
         VERBOSE,
@@ -232,7 +232,7 @@ static DIFF: CommandRow = CommandRow {
             name: "accept",
             letter: None,
             takes: Takes::Value("FILE"),
-            help: "Leave out and count apart the changes that FILE lists; refuse a line of it that tells none",
+            help: "Leave out and count apart the changes that FILE lists; refuse a line of it that lists none",
         },
         OptionRow {
             name: "write-accept",
@@ -608,7 +608,7 @@ static SERVE: CommandRow = CommandRow {
                 range: NumberRange::U32(1, u32::MAX),
                 default: Some("65536"),
             },
-            help: "With --at-once: answer no more of a connection's requests while so many bytes of replies are unsent",
+            help: "With --at-once: answer no more of a connection's requests while this number of bytes of replies is unsent",
         },
         OptionRow {
             name: "idle",
@@ -618,7 +618,7 @@ static SERVE: CommandRow = CommandRow {
                 range: NumberRange::U32(1, u32::MAX),
                 default: None,
             },
-            help: "End a connection that neither sends nor takes anything for so many seconds",
+            help: "End a connection that neither sends nor takes anything for this number of seconds",
         },
         OptionRow {
             name: "own-sessions",
@@ -676,7 +676,7 @@ static SERVE: CommandRow = CommandRow {
         ArgumentRow {
             name: "CONNECTIONS",
             given: GivenArguments::NumberUnless(NumberRange::U16(1, u16::MAX), "state"),
-            help: "End after so many connections",
+            help: "End after this number of connections",
         },
     ],
 };

@@ -73,8 +73,12 @@ line_of w s = get_or w.lines (leaf_number w.table s) None
 abbrev pub keys_of : Written → List ℕ → List (List ℕ)
 keys_of w s = option_map_or (λ line. line.keys) (line_of w s) []
 
+-- the text of a sequence
+abbrev pub text_in : Written → List ℕ → List ℕ
+text_in w s = unwrap_or (text_at w.table s) []
+
 abbrev pub entry_at : Written → List ℕ → WrittenLine → ReportedEntry
-entry_at w s line = record { text = unwrap_or (text_at w.table s) []; source = line.place.source; path = get_or w.paths line.place.source []; line = line.place.line }
+entry_at w s line = record { text = text_in w s; source = line.place.source; path = get_or w.paths line.place.source []; line = line.place.line }
 
 -- what the table has for a sequence, if it has it
 abbrev pub entry_of : Written → List ℕ → Option ReportedEntry

@@ -14,7 +14,7 @@ ghost use Rattle.compose_diff.specs.declared.row.DiffRow.{DiffRow};
 
 use crate::asking::{DiffFault, DiffInput, Form};
 use crate::placed::PlacedMigration;
-use crate::reported::{ReportedSequence, reported_of_new, reported_of_old};
+use crate::reported::{ReportedSequence, lost_texts, reported_of_new, reported_of_old};
 use crate::rows::{add_kept_rows, reported_rows};
 use crate::written::WrittenTable;
 use compose_answer::{Answer, Refusal};
@@ -113,19 +113,13 @@ fn answer_tables<T: ComposeTable>(
     let _ = new.table.node_count();
     let whole = reports_kept(input.form);
     let comparison = compare(alloc, old.table, new.table, names, fresh)?;
-    let index = TextIndex::new(alloc, new.table)?;
-    let of_old = reported_of_old(
-        alloc,
-        names,
-        whole,
-        comparison.old_changes(),
-        &old,
-        &new,
-        &index,
-    )?;
+    let changes = comparison.old_changes();
+    let lost = lost_texts(alloc, changes, &old)?;
+    let index = TextIndex::of_texts(alloc, new.table, &lost)?;
+    let of_old = reported_of_old(alloc, names, whole, changes, &old, &new, &index)?;
     let of_new = reported_of_new(alloc, comparison.new_changes(), &new)?;
     let mut rows = sorted_rows(alloc, names, &of_old, &of_new, &new)?;
-    add_kept_rows(&mut rows, whole, comparison.old_changes(), &old)?;
+    add_kept_rows(&mut rows, whole, changes, &old)?;
     let overlaps = Overlaps {
         old: migration.old.overlaps,
         new: migration.new.overlaps,

@@ -1,19 +1,21 @@
 //! The sequences that get a row.
-ghost use Rattle.std.specs.Prelude.{◌≡◌, ◌<◌, ℕ, List, [], map, length, get_or, None, option_copied, IfOk};
+ghost use Rattle.std.specs.Prelude.{◌≡◌, ◌<◌, ℕ, List, [], map, length, get_or, None, option_copied, IfOk, IsTrue};
 ghost use Rattle.std.specs.Option.{option_map, option_map_or};
 ghost use Rattle.keysym_core.specs.Names.{KeysymNames};
 ghost use Rattle.compose_model.specs.Nodes.{leaves};
 ghost use Rattle.compose_compare.specs.Change.{old_changes, new_changes};
 ghost use Rattle.compose_diff_rows.specs.Rows as words;
 ghost use Rattle.compose_diff_rows.specs.Rows.{Written, named_sequence, reported_entry, reported_of, reported_sequence, old_reported, new_reported};
-ghost use Rattle.compose_lookup.specs.TextIndex.{IsTextIndex};
+ghost use Rattle.compose_compare.specs.declared.Change.TheVariants.{Kept};
+ghost use Rattle.compose_diff.specs.Line.{is_loss};
+ghost use Rattle.compose_lookup.specs.TextIndex.{is_among, IsTextIndex};
 
 use crate::longer::longer_now;
 use crate::typing::{NamedSequence, typed_now};
 use crate::written::WrittenTable;
 use arrayvec::ArrayVec;
 use compose_compare::Change;
-use compose_diff::TextPlace;
+use compose_diff::{TextPlace, is_loss};
 use compose_lookup::TextIndex;
 use compose_places::{CountingLine, Events};
 use compose_tree::{ComposeTable, LeafId};
@@ -61,7 +63,10 @@ pub(crate) fn reported_of_old<'a, T: ComposeTable>(
     index: &TextIndex,
 ) -> Result<Vec<ReportedSequence<'a>>, AllocError>
     requires fits { length changes.now ≡ length (leaves (T.definitions old.now.table.now)) }
-    requires indexed { IsTextIndex (T.definitions new.now.table.now) index.now }
+    requires indexed { (i : ℕ) → i < length changes.now → IsTrue (is_loss (get_or changes.now i Kept))
+        → IsTextIndex (T.definitions new.now.table.now)
+        (words.text_in (words.written T.definitions old.now)
+        (get_or (leaves (T.definitions old.now.table.now)) i [])) index.now }
     ensures { (fresh : List ℕ)
         → changes.now
         ≡ old_changes names.now fresh (T.definitions old.now.table.now)
@@ -82,6 +87,30 @@ pub(crate) fn reported_of_old<'a, T: ComposeTable>(
         }
     }
     Ok(reported)
+}
+
+/// Returns the texts of the old table's sequences that people lose; `changes` holds what happens to
+/// each of its sequences. O(leaves).
+pub(crate) fn lost_texts<'a, T: ComposeTable>(
+    alloc: Global,
+    changes: &[Change],
+    old: &WrittenTable<'a, T>,
+) -> Result<Vec<&'a str>, AllocError>
+    requires { length changes.now ≡ length (leaves (T.definitions old.now.table.now)) }
+    ensures { IfOk result
+        (λ texts. (i : ℕ) → i < length changes.now → IsTrue (is_loss (get_or changes.now i Kept))
+        → IsTrue
+        (is_among (map (λ t. t.now) texts.items)
+        (words.text_in (words.written T.definitions old.now)
+        (get_or (leaves (T.definitions old.now.table.now)) i [])))) }
+{
+    let mut texts = Vec::new(alloc);
+    for leaf in 0..old.table.leaf_count() {
+        if is_loss(changes[leaf as usize]) {
+            texts.push(old.table.text(LeafId(leaf)))?;
+        }
+    }
+    Ok(texts)
 }
 
 /// Returns the sequences that only the new table has, in its order; `changes` holds what happens to
@@ -121,7 +150,10 @@ fn lost_at<'a, T: ComposeTable>(
     index: &TextIndex,
 ) -> ReportedSequence<'a>
     requires in_table { leaf.0 < length (leaves (T.definitions old.now.table.now)) }
-    requires indexed { IsTextIndex (T.definitions new.now.table.now) index.now }
+    requires indexed { IsTrue (is_loss change)
+        → IsTextIndex (T.definitions new.now.table.now)
+        (words.text_in (words.written T.definitions old.now)
+        (get_or (leaves (T.definitions old.now.table.now)) leaf.0 [])) index.now }
     ensures change { result.change ≡ change }
     ensures keys { map (λ key. key.now) result.keys.items
         ≡ words.keys_of (words.written T.definitions old.now)

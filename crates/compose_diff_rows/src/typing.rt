@@ -1,8 +1,9 @@
 //! How the text of a lost sequence is typed with the new table.
-ghost use Rattle.std.specs.Prelude.{◌≡◌, ◌<◌, [], length, get_or};
+ghost use Rattle.std.specs.Prelude.{◌≡◌, ◌<◌, [], length, get_or, IsTrue, IfSome};
 ghost use Rattle.std.specs.Option.{option_map, option_and_then};
 ghost use Rattle.compose_model.specs.Nodes.{leaves};
 ghost use Rattle.compose_lookup.specs.TextIndex.{IsTextIndex};
+ghost use Rattle.compose_diff.specs.Line.{is_loss};
 ghost use Rattle.compose_diff_rows.specs.Rows as words;
 ghost use Rattle.compose_diff_rows.specs.Rows.{named_sequence, new_sequence, reported_entry};
 
@@ -40,15 +41,17 @@ impl<'a> NamedSequence<'a> {
 
 /// Returns how the text of a sequence to which this happens, and for which the old table has this
 /// entry, is typed with the new table: the first of the shortest sequences that give it. `None`
-/// unless people lose the sequence. O(log n) comparisons of texts for the n sequences of the new
-/// table.
+/// unless people lose the sequence; then the index has its text. O(log m) comparisons of texts for
+/// the m leaves of the index.
 pub(crate) fn typed_now<'a, T: ComposeTable>(
     change: Change,
     entry: &Option<TextPlace<'a>>,
     new: &WrittenTable<'a, T>,
     index: &TextIndex,
 ) -> Option<NamedSequence<'a>>
-    requires { IsTextIndex (T.definitions new.now.table.now) index.now }
+    requires { IsTrue (is_loss change)
+        → IfSome entry.now
+        (λ entry. IsTextIndex (T.definitions new.now.table.now) entry.text.now index.now) }
     ensures { option_map named_sequence result
         ≡ words.now_of (words.written T.definitions new.now) change
         (option_map reported_entry entry.now) }
@@ -68,7 +71,7 @@ fn first_typing<'a, T: ComposeTable>(
     new: &WrittenTable<'a, T>,
     index: &TextIndex,
 ) -> Option<NamedSequence<'a>>
-    requires { IsTextIndex (T.definitions new.now.table.now) index.now }
+    requires { IsTextIndex (T.definitions new.now.table.now) text.now index.now }
     ensures { option_map named_sequence result
         ≡ option_and_then (words.sequence_in (words.written T.definitions new.now))
         (words.first_typing (T.definitions new.now.table.now) text.now) }

@@ -38,9 +38,13 @@ fn numbers(alloc: Global, leaves: &[LeafId]) -> Result<String, Fail> {
     Ok(text)
 }
 
-/// Returns the leaves that a new index finds for the text.
+/// Returns the leaves that an index of the texts above finds for one of them.
 fn found<T: ComposeTable>(alloc: Global, table: &T, text: &str) -> Result<String, Fail> {
-    let index = TextIndex::new(alloc, table)?;
+    let mut texts = Vec::new(alloc);
+    for row in &FOUND {
+        texts.push(row.text)?;
+    }
+    let index = TextIndex::of_texts(alloc, table, &texts)?;
     numbers(alloc, index.leaves_with(table, text))
 }
 

@@ -1,11 +1,11 @@
 //! How texts can be typed.
-ghost use Rattle.std.specs.Prelude.{◌≡◌, ◌++◌, length, nat_lt, ℕ, List, map, flat_map, option_copied, IfOk, OnOk, string_bytes};
+ghost use Rattle.std.specs.Prelude.{◌≡◌, ◌++◌, length, nat_lt, ℕ, List, map, flat_map, option_copied, IfOk, OnOk, IsTrue, string_bytes};
 ghost use Rattle.compose_model.specs.Nodes.{leaves};
 ghost use Rattle.compose_read.specs.Lines.{Visit};
 ghost use Rattle.compose_places.specs.Counting.{counting_line, AreLines};
 ghost use Rattle.compose_migration.specs.MigrationReturns.{table_given};
 ghost use Rattle.compose_answer.specs.Refused.{Returns};
-ghost use Rattle.compose_lookup.specs.TextIndex.{IsTextIndex};
+ghost use Rattle.compose_lookup.specs.TextIndex.{is_among, IsTextIndex};
 ghost use Rattle.compose_listing.specs.Answers as words;
 ghost use Rattle.compose_listing.specs.Answers.{AreWays, given_repertoire, how_parts, is_given, ways};
 
@@ -46,8 +46,8 @@ pub struct Ways {
 
 /// Returns the sequences of a table that give these texts, all or for each text only the first. The
 /// shortest come first, and those of the same length are in order. If a repertoire is given, only
-/// those are returned that its keys can type. O(bytes of the sources + n log n) for n sequences,
-/// and O(log n) for each text, besides its sequences.
+/// those are returned that its keys can type. O(bytes of the sources + n) for n sequences, and O(m log
+/// m) for the m of them that give one of the texts.
 ///
 /// Errors: that of the first part that is refused, in the order names, table, repertoire, or
 /// `NoMemory` if memory runs out.
@@ -68,7 +68,7 @@ pub fn how_to_type<T: ComposeTable>(
     let named = read_names(alloc, header, &[])?;
     let placed: PlacedTable<'_, T> = read_placed(alloc, &named.names, table)?;
     let repertoire = read_given(alloc, wanted.repertoire)?;
-    let index = TextIndex::new(alloc, &placed.table)?;
+    let index = TextIndex::of_texts(alloc, &placed.table, wanted.texts)?;
     let listed = ListedTable {
         names: &named.names,
         table: &placed.table,
@@ -112,7 +112,8 @@ fn ways_of<T: ComposeTable>(
     texts: &[&str],
     asked: AskedWays<'_>,
 ) -> Result<Ways, AllocError>
-    requires index { IsTextIndex (T.definitions listed.now.table.now) index.now }
+    requires index { (text : List ℕ) → IsTrue (is_among (map (λ t. t.now) texts.now) text)
+        → IsTextIndex (T.definitions listed.now.table.now) text index.now }
     requires lines { AreLines listed.now.names.now (T.definitions listed.now.table.now)
         listed.now.lines.now }
     ensures lines { (visits : List Visit) → listed.now.lines.now
@@ -149,7 +150,7 @@ fn push_ways<T: ComposeTable>(
     text: &str,
     asked: AskedWays<'_>,
 ) -> Result<bool, AllocError>
-    requires index { IsTextIndex (T.definitions listed.now.table.now) index.now }
+    requires index { IsTextIndex (T.definitions listed.now.table.now) text.now index.now }
     requires lines { AreLines listed.now.names.now (T.definitions listed.now.table.now)
         listed.now.lines.now }
     ensures lines { (visits : List Visit) → listed.now.lines.now

@@ -4,3 +4,4 @@ pub mod Order
 pub mod FirstOne
 pub mod Shorter
 pub mod Counted
+pub mod Asked

@@ -1,16 +1,16 @@
 -- The leaves of a table in the order of their lengths are those of `shortest_first`.
-use Rattle.std.proofs.Common.{◌≡◌, ℕ, suc, append_assoc, append-nil, ◌+◌, ◌<◌, ◌≤◌, List, [], ◌∷◌, ◌++◌, true, false, cond, length, get_or, map, refl, sym, ◌∙◌, ap, ap₂, subst, inl, inr, arith, Some, rules}
-use Rattle.std.specs.Prelude.{nat_lt, nat_eq, filter, flat_map, unwrap_or}
+use Rattle.std.proofs.Common.{◌≡◌, ℕ, suc, ◌+◌, ◌<◌, ◌≤◌, List, [], ◌∷◌, true, false, cond, length, get_or, map, refl, sym, ◌∙◌, ap, ap₂, subst, inl, inr, arith, Some, rules}
+use Rattle.std.specs.Prelude.{nat_lt, nat_eq, filter, flat_map, unwrap_or, IsTrue}
 use Rattle.std.specs.List.{All, range_with_len}
 use Rattle.std.specs.List.Sorted.{IsPermutation, IsSortedByKey}
 use Rattle.std.specs.Ordering.{nat_cmp}
 use Rattle.std.specs.Cmp.Lexicographic.{slice_cmp}
 use Rattle.std.specs.Option.{option_map_or}
-use Rattle.std.proofs.lemmas.Bool.{cases_lt, ne_eqb}
+use Rattle.std.proofs.lemmas.Bool.{cases_lt}
 use Rattle.std.proofs.lemmas.List.{get_or-map, get_or_past, length-map}
 use Rattle.std.proofs.lemmas.List.Elements.{All-map, All-nil, All-append, All-filter}
 use Rattle.std.proofs.lemmas.List.Sorted.{All-permutation}
-use Rattle.std.proofs.lemmas.List.FromFn.{length-range_with_len, get_or-range_with_len, filter_of_map_range_with_len_more}
+use Rattle.std.proofs.lemmas.List.FromFn.{length-range_with_len, get_or-range_with_len}
 use Rattle.compose_model.specs.Table.{Definition, same}
 use Rattle.compose_model.specs.Nodes.{leaves}
 use Rattle.compose_read.specs.Settle.{IsSettled}
@@ -18,8 +18,9 @@ use Rattle.compose_tree.specs.Targets.{leaf_text}
 use Rattle.compose_tree.specs.declared.table.LeafId.{LeafId}
 use Rattle.compose_tree.proofs.Lookups.{leaves_count, leaf_text_is}
 use Rattle.compose_lookup.specs.Lookup.{gives, giving, shortest_first, key_counts}
-use Rattle.compose_lookup.specs.TextIndex.{IsTextIndex, sequence_at, IsLeaf, text_of, has_text, leaf_id, leaf_ids, of_length, by_length}
-use Rattle.compose_lookup.proofs.Shortest.{of_each}
+use Rattle.compose_lookup.specs.TextIndex.{IsTextIndex, sequence_at, IsLeaf, is_among, text_of, has_text, leaf_id, leaf_ids, giving_one, of_length, by_length}
+use Rattle.compose_lookup.proofs.Asked.{none_left_out}
+use Rattle.compose_lookup.proofs.Shortest.{of_each, mapped}
 
 -- ---- numbers in a row
 
@@ -43,30 +44,6 @@ all_joined : (P : LeafId → Type 0) (f : ℕ → List LeafId) → ((n : ℕ) �
 all_joined P f h [] = All-nil P
 all_joined P f h (n ∷ ns) = All-append P (f n) (flat_map f ns) (h n) (all_joined P f h ns)
 
--- ---- one leaf more
-
-module _ (lengths : List ℕ) (keys i : ℕ) (start xs ys : List LeafId) (so_far : xs ≡ start ++ filter (λ (leaf : LeafId). nat_eq (get_or lengths leaf.0 0) keys) (leaf_ids i)) where
-  more : filter (λ (leaf : LeafId). nat_eq (get_or lengths leaf.0 0) keys) (leaf_ids (i + 1))
-      ≡ filter (λ (leaf : LeafId). nat_eq (get_or lengths leaf.0 0) keys) (leaf_ids i) ++ cond (nat_eq (get_or lengths i 0) keys) (leaf_id i ∷ []) []
-  more = let here : 0 + i ≡ i = omega arith in filter_of_map_range_with_len_more (λ (leaf : LeafId). nat_eq (get_or lengths leaf.0 0) keys) leaf_id 0 i i here
-
-  -- of as many keys
-  pub one_taken : get_or lengths i 0 ≡ keys → ys ≡ xs ++ leaf_id i ∷ [] → ys ≡ start ++ filter (λ (leaf : LeafId). nat_eq (get_or lengths leaf.0 0) keys) (leaf_ids (i + 1))
-  one_taken e g =
-      g ∙ ap (λ t. t ++ leaf_id i ∷ []) so_far ∙ append_assoc start (filter (λ (leaf : LeafId). nat_eq (get_or lengths leaf.0 0) keys) (leaf_ids i)) (leaf_id i ∷ [])
-      ∙ ap (λ t. start ++ t) (sym (more ∙ ap (λ b. filter (λ (leaf : LeafId). nat_eq (get_or lengths leaf.0 0) keys) (leaf_ids i) ++ cond b (leaf_id i ∷ []) []) (same_number (get_or lengths i 0) keys e)))
-    where
-      same_number : (a b : ℕ) → a ≡ b → nat_eq a b ≡ true
-      same_number a b h = search rules
-
-  -- of another number
-  pub one_passed : (get_or lengths i 0 ≡ keys → ⊥) → ys ≡ xs → ys ≡ start ++ filter (λ (leaf : LeafId). nat_eq (get_or lengths leaf.0 0) keys) (leaf_ids (i + 1))
-  one_passed e g =
-      g ∙ so_far
-      ∙ ap (λ t. start ++ t)
-      (sym (more ∙ ap (λ b. filter (λ (leaf : LeafId). nat_eq (get_or lengths leaf.0 0) keys) (leaf_ids i) ++ cond b (leaf_id i ∷ []) []) (ne_eqb (get_or lengths i 0) keys e)
-      ∙ append-nil (filter (λ (leaf : LeafId). nat_eq (get_or lengths leaf.0 0) keys) (leaf_ids i))))
-
 module _ (table : List Definition) where
   -- the leaves by their numbers are the sequences in order
   pub numbered : map (sequence_at table) (leaf_ids (length (leaves table))) ≡ leaves table
@@ -88,10 +65,11 @@ module _ (table : List Definition) (settled : IsSettled table) where
       tested : (a b : ℕ) → a < b → nat_lt a b ≡ true
       tested a b h = search rules
 
-  -- the leaves in the order of their lengths that have a given text
-  pub shortest : (lengths : List ℕ) → lengths ≡ map length (leaves table) → (text : List ℕ)
-      → map (sequence_at table) (filter (has_text table text) (by_length lengths)) ≡ shortest_first (giving table text)
-  shortest lengths e text = subst (λ ls. map (sequence_at table) (filter (has_text table text) (by_length ls)) ≡ shortest_first (giving table text)) (sym e) here
+  -- of the leaves that give one of these texts, those with one of them are in the order of their lengths
+  pub shortest : (lengths : List ℕ) → lengths ≡ map length (leaves table) → (texts : List (List ℕ)) (text : List ℕ) → IsTrue (is_among texts text)
+      → map (sequence_at table) (filter (has_text table text) (by_length lengths (giving_one table texts))) ≡ shortest_first (giving table text)
+  shortest lengths e texts text among =
+      subst (λ ls. map (sequence_at table) (filter (has_text table text) (by_length ls (giving_one table texts))) ≡ shortest_first (giving table text)) (sym e) here
     where
       counts : (leaf : LeafId) → get_or (map length (leaves table)) leaf.0 0 ≡ length (sequence_at table leaf)
       counts leaf = elim (cases_lt leaf.0 (length (leaves table))) [
@@ -99,27 +77,40 @@ module _ (table : List Definition) (settled : IsSettled table) where
         | inr h ↦ (let long = length-map (leaves table) length in get_or_past (map length (leaves table)) leaf.0 0 (omega arith)) ∙ sym (ap length (get_or_past (leaves table) leaf.0 [] h))
       ]
 
-      here : map (sequence_at table) (filter (has_text table text) (by_length (map length (leaves table)))) ≡ shortest_first (giving table text)
+      these : List LeafId
+      these = leaf_ids (length (leaves table))
+
+      given : All (λ leaf. has_text table text leaf ≡ gives table text (sequence_at table leaf)) (giving_one table texts)
+      given =
+          All-filter (λ leaf. is_among texts (text_of table leaf)) (λ leaf. has_text table text leaf ≡ gives table text (sequence_at table leaf)) these
+          (λ k d h. text_given (get_or these k d) (all_leaves table k d h) text)
+
+      kept : filter (gives table text) (map (sequence_at table) (giving_one table texts)) ≡ giving table text
+      kept =
+          sym (filter_mapped (giving_one table texts) given) ∙ ap (map (sequence_at table)) (none_left_out table texts text among these)
+          ∙ filter_mapped these (λ k d h. text_given (get_or these k d) (all_leaves table k d h) text) ∙ ap (filter (gives table text)) (numbered table)
+        where
+          filter_mapped : (xs : List LeafId) → All (λ leaf. has_text table text leaf ≡ gives table text (sequence_at table leaf)) xs
+              → map (sequence_at table) (filter (has_text table text) xs) ≡ filter (gives table text) (map (sequence_at table) xs)
+          filter_mapped xs all = mapped (sequence_at table) (has_text table text) (gives table text) xs all
+
+      here : map (sequence_at table) (filter (has_text table text) (by_length (map length (leaves table)) (giving_one table texts))) ≡ shortest_first (giving table text)
       here =
-          ap (λ n. map (sequence_at table) (filter (has_text table text) (flat_map (λ m. filter (λ leaf. nat_eq (get_or (map length (leaves table)) leaf.0 0) m) (leaf_ids n)) key_counts))) (length-map (leaves table) length)
-          ∙ of_each (sequence_at table) (λ leaf. get_or (map length (leaves table)) leaf.0 0) counts (has_text table text) (gives table text) key_counts (leaf_ids (length (leaves table)))
-          (λ k d h. text_given (get_or (leaf_ids (length (leaves table))) k d) (all_leaves table k d h) text)
-          ∙ ap (λ ss. flat_map (λ n. filter (λ s. nat_eq (length s) n) (filter (gives table text) ss)) key_counts) (numbered table)
+          of_each (sequence_at table) (λ leaf. get_or (map length (leaves table)) leaf.0 0) counts (has_text table text) (gives table text) key_counts (giving_one table texts) given
+          ∙ ap shortest_first kept
 
   -- the leaves in the order of their lengths are the table's
-  pub all_by_length : (lengths : List ℕ) → length lengths ≡ length (leaves table) → All (IsLeaf table) (by_length lengths)
-  all_by_length lengths e = all_joined (IsLeaf table) (of_length lengths) (λ n.
-      All-filter (λ leaf. nat_eq (get_or lengths leaf.0 0) n) (IsLeaf table) (leaf_ids (length lengths))
-      (subst (λ m. All (IsLeaf table) (leaf_ids m)) (sym e) (all_leaves table))) key_counts
+  pub all_by_length : (lengths : List ℕ) (texts : List (List ℕ)) → All (IsLeaf table) (by_length lengths (giving_one table texts))
+  all_by_length lengths texts = all_joined (IsLeaf table) (of_length lengths (giving_one table texts)) (λ n.
+      All-filter (λ leaf. nat_eq (get_or lengths leaf.0 0) n) (IsLeaf table) (giving_one table texts)
+      (All-filter (λ leaf. is_among texts (text_of table leaf)) (IsLeaf table) (leaf_ids (length (leaves table))) (all_leaves table))) key_counts
 
   -- those leaves, in the order of their texts
-  pub made : (lengths : List ℕ) (start index : List LeafId) → lengths ≡ map length (leaves table) → start ≡ by_length lengths → IsPermutation start index
+  pub made : (lengths : List ℕ) (texts : List (List ℕ)) (start index : List LeafId) → lengths ≡ map length (leaves table) → start ≡ by_length lengths (giving_one table texts) → IsPermutation start index
       → IsSortedByKey (text_of table) (slice_cmp nat_cmp) index → ((text : List ℕ) → filter (has_text table text) index ≡ filter (has_text table text) start)
-      → IsTextIndex table index
-  made lengths start index e are moved rise stable = record {
-    in_table =
-        All-permutation (IsLeaf table) start index moved
-        (subst (λ ls. All (IsLeaf table) ls) (sym are) (all_by_length lengths (ap length e ∙ length-map (leaves table) length)));
+      → (text : List ℕ) → IsTrue (is_among texts text) → IsTextIndex table text index
+  made lengths texts start index e are moved rise stable text among = record {
+    in_table = All-permutation (IsLeaf table) start index moved (subst (λ ls. All (IsLeaf table) ls) (sym are) (all_by_length lengths texts));
     rise = rise;
-    each = λ text. ap (map (sequence_at table)) (stable text ∙ ap (filter (has_text table text)) are) ∙ shortest lengths e text;
+    sequences = ap (map (sequence_at table)) (stable text ∙ ap (filter (has_text table text)) are) ∙ shortest lengths e texts text among;
   }

@@ -3,22 +3,21 @@ use Rattle.std.proofs.Common.{◌≡◌, ℕ, zero, suc, ◌+◌, ◌<◌, ◌�
 use Rattle.std.specs.Prelude.{nat_eq, nat_lt, Option, Some, None, slice_get}
 use Rattle.std.specs.Option.{option_map}
 use Rattle.std.specs.Ordering.{is_lt}
-use Rattle.std.specs.List.{list_any, AllByRecursion}
+use Rattle.std.specs.List.{AllByRecursion}
 use Rattle.std.specs.List.Sorted.{IsStrictlySortedBy}
 use Rattle.std.specs.Cmp.Lexicographic.{slice_cmp}
-use Rattle.std.proofs.lemmas.Bool.{or_cases, or_left, or_right, and_parts, cases_Bool, cases_lt, ltb-true, ltb-false, eq-eqb, eqb-true}
+use Rattle.std.proofs.lemmas.Bool.{or_cases, or_left, and_parts, cases_Bool, cases_lt, ltb-true, ltb-false, eq-eqb, eqb-true}
 use Rattle.std.proofs.lemmas.Cmp.{nat_list_cmp_total}
 use Rattle.std.proofs.lemmas.List.{take_all}
 use Rattle.std.proofs.lemmas.Option.{slice_get_within, get_or_from_slice_get}
 use Rattle.compose_model.specs.Table.{Definition, same, comes_before, is_proper_prefix, is_sequence, is_extended}
 use Rattle.compose_model.specs.Nodes.{leaves, edges}
 use Rattle.compose_model.proofs.Lift.{not_extended}
-use Rattle.compose_model.proofs.NodeLemmas.{same_is, same_from, found_at, found_below}
+use Rattle.compose_model.proofs.NodeLemmas.{same_is, same_from, found_at}
 use Rattle.compose_model.proofs.Sorted.{rising_sorted}
 use Rattle.compose_model.proofs.Tests.{list_any-weaker}
 use Rattle.compose_read.specs.Settle.{IsSettled}
 use Rattle.compose_tree.specs.Targets.{leaf_number}
-use Rattle.compose_tree.specs.declared.table.LeafId.{LeafId}
 use Rattle.compose_tree.proofs.Steps.{leaf_means, leaf_below}
 use Rattle.compose_fresh.proofs.Positions.{any_more}
 use Rattle.compose_walk.proofs.Onward.{begins}

@@ -37,6 +37,14 @@ module _ {X : Type 0} (sequence : X → List ℕ) (count : X → ℕ) (counts : 
       ∙ map-append sequence (filter p (filter (λ x. nat_eq (count x) n) xs)) (filter p (flat_map (λ n. filter (λ x. nat_eq (count x) n) xs) ns))
       ∙ ap₂ (λ a b. a ++ b) (of_one n xs h) (of_each ns xs h)
 
+-- those that pass a test, and their sequences
+pub mapped : {X : Type 0} (sequence : X → List ℕ) (p : X → Bool) (q : List ℕ → Bool) (xs : List X) → All (λ x. p x ≡ q (sequence x)) xs → map sequence (filter p xs) ≡ filter q (map sequence xs)
+mapped sequence p q [] h = refl
+mapped sequence p q (x ∷ xs) h = elim (cases_Bool (q (sequence x))) [
+  | inl e ↦ rw (All-head (λ x. p x ≡ q (sequence x)) x xs h ∙ e, e) (ap (λ t. sequence x ∷ t) (mapped sequence p q xs (All-tail (λ x. p x ≡ q (sequence x)) x xs h)))
+  | inr e ↦ rw (All-head (λ x. p x ≡ q (sequence x)) x xs h ∙ e, e) (mapped sequence p q xs (All-tail (λ x. p x ≡ q (sequence x)) x xs h))
+]
+
 -- ---- numbers in a row
 
 -- one number more

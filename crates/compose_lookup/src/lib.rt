@@ -1,15 +1,15 @@
 //! The sequences of a table that give a text, and the number of those that go on from a node.
 //!
-//! A [`TextIndex`] is built from a table once. It then finds the leaves of all sequences that give
-//! a text, the shortest first, and those of the same length in order: the first of them is the
-//! shortest way to type the text. [`first_longer`] returns the shortest sequence that goes on from
+//! A [`TextIndex`] is built from a table once, for some texts. It then finds the leaves of all
+//! sequences that give one of them, the shortest first, and those of the same length in order: the
+//! first of them is the shortest way to type the text. [`first_longer`] returns the shortest sequence that goes on from
 //! a node.
 //!
 //! ```text
 //! <Multi_key> <x> <y> : "é"     leaf 0
 //! <dead_acute> <e>    : "é"     leaf 1
 //!
-//! let index = TextIndex::new(alloc, &table)?;
+//! let index = TextIndex::of_texts(alloc, &table, &["é"])?;
 //! index.leaves_with(&table, "é")    // [LeafId(1), LeafId(0)]
 //! ```
 //!

@@ -20,18 +20,18 @@ returns g c =
     let both = both_read given.migration placed.expected move placed.is placed.read in
     let old_lines = c.deref.ensures.value ∙ placed.old_lines in
     let new_lines = c.deref-2.ensures.value ∙ placed.new_lines in
-    let changes = c.old_changes.ensures ∙ c.in_ok-comparison.ensures.of_old in
+    let changes = c.old_changes-changes.ensures ∙ c.in_ok-comparison.ensures.of_old in
     let added = c.new_changes.ensures ∙ c.in_ok-comparison.ensures.of_new in
-    let kept = c.in_ok-add_kept_rows.ensures move.names c.args.fresh.now new (c.old_changes-2.ensures ∙ c.in_ok-comparison.ensures.of_old) in
+    let kept = c.in_ok-add_kept_rows.ensures move.names c.args.fresh.now new (c.old_changes-changes.ensures ∙ c.in_ok-comparison.ensures.of_old) in
     let found : Overlaps = record { old = c.args.migration.now.old.overlaps; new = c.args.migration.now.new.overlaps } in
     let overlaps : found ≡ overlaps_in given e = λ i. record { old = placed.old_overlaps i; new = placed.new_overlaps i } in
-    rows_reported given e c.args.accepted.now c.deref-5.result.now (c.node_count.ensures.settled.definitions, c.node_count-2.ensures.settled.definitions)
+    rows_reported given e c.args.accepted.now c.deref-6.result.now (c.node_count.ensures.settled.definitions, c.node_count-2.ensures.settled.definitions)
     (rows_are given e old new (λ i. record { table = move.old; lines = old_lines i; paths = given.old_paths }) (λ i. record { table = move.new; lines = new_lines i; paths = given.new_paths })
     c.reports_kept-whole.result c.reports_kept-whole.ensures
     (subst (AreLines move.names move.old) (sym old_lines) (root_lines_are move.names given.migration.old.rule move.old given.migration.old.sources both.0))
-    (map reported_sequence c.deref-3.result.now) (map reported_sequence c.deref-4.result.now)
-    (ap (map reported_sequence) c.deref-3.ensures.value ∙ c.in_ok-of_old.ensures c.args.fresh.now changes)
-    (ap (map reported_sequence) c.deref-4.ensures.value ∙ c.in_ok-of_new.ensures move.names c.args.fresh.now old added)
-    c.deref-5.result.now c.in_ok-rows.rows.items kept.0 (c.deref-5.ensures.value ∙ kept.1) c.in_ok-rows.ensures.same c.in_ok-rows.ensures.sorted kept.2)
+    (map reported_sequence c.deref-4.result.now) (map reported_sequence c.deref-5.result.now)
+    (ap (map reported_sequence) c.deref-4.ensures.value ∙ c.in_ok-of_old.ensures c.args.fresh.now changes)
+    (ap (map reported_sequence) c.deref-5.ensures.value ∙ c.in_ok-of_new.ensures move.names c.args.fresh.now old added)
+    c.deref-6.result.now c.in_ok-rows.rows.items kept.0 (c.deref-6.ensures.value ∙ kept.1) c.in_ok-rows.ensures.same c.in_ok-rows.ensures.sorted kept.2)
     c.answer_rows.result
-    (subst (λ (o : Overlaps). AnswersForm given.form given.lost_alone o c.args.accepted.now c.deref-5.result.now c.answer_rows.result) overlaps c.answer_rows.ensures)
+    (subst (λ (o : Overlaps). AnswersForm given.form given.lost_alone o c.args.accepted.now c.deref-6.result.now c.answer_rows.result) overlaps c.answer_rows.ensures)

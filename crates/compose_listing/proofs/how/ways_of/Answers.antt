@@ -3,7 +3,11 @@ use Rattle.std.specs.Prelude.{flat_map, option_copied}
 use Rattle.std.proofs.lemmas.Grind.{common_steps}
 use Rattle.std.proofs.lemmas.List.{take_all}
 use Rattle.compose_listing.specs.Answers.{ways}
+use Rattle.compose_lookup.proofs.Asked.{is_asked}
 use Rattle.compose_listing.proofs.how.ways_of.Goals as goal
+
+pub push_ways-requires-clause-index : goal.push_ways-requires-clause-index
+push_ways-requires-clause-index g c = c.requires.index _ (is_asked c.args.texts.now c.loop-text.text-index _ c.loop-text-test.true)
 
 pub loop-text-preserved : goal.loop-text-preserved
 loop-text-preserved g c = record {

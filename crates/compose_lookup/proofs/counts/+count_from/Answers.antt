@@ -1,9 +1,9 @@
-use Rattle.std.proofs.Common.{◌≡◌, ◌∙◌, ◌++◌, ◌∷◌, [], ◌+◌, ◌≤◌, length, take, sym, ap, arith}
+use Rattle.std.proofs.Common.{◌∙◌, ◌+◌, take, sym, ap, arith}
 use Rattle.compose_model.specs.Nodes.{node, edges, leaves}
 use Rattle.compose_compare.proofs.Children.{to_node, to_leaf, child_path, deeper}
 use Rattle.compose_compare.proofs.Written.{is_through}
 use Rattle.compose_lookup.specs.Lookup.{count_after}
-use Rattle.compose_lookup.proofs.Counted.{count_through, none_counted, node_counted, leaf_counted, all_counted, few_counted}
+use Rattle.compose_lookup.proofs.Counted.{none_counted, node_counted, leaf_counted, all_counted, few_counted}
 use Rattle.compose_lookup.proofs.counts.+count_from.Goals.{in-Node, in-Leaf}
 use Rattle.compose_lookup.proofs.counts.+count_from.Goals as goal
 

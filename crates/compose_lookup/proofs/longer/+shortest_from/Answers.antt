@@ -1,5 +1,5 @@
 use Rattle.std.proofs.Common.{◌≡◌, ◌∙◌, ◌++◌, ◌∷◌, [], ◌+◌, List, ℕ, length, take, sym, ap, subst, arith, length-append}
-use Rattle.std.specs.Prelude.{Option, Some}
+use Rattle.std.specs.Prelude.{Option}
 use Rattle.compose_model.specs.Nodes.{node, edges}
 use Rattle.compose_model.specs.Table.{is_proper_prefix}
 use Rattle.compose_compare.proofs.Children.{to_node, to_leaf, child_path, deeper}
@@ -7,7 +7,7 @@ use Rattle.compose_compare.proofs.Written.{is_through}
 use Rattle.compose_walk.proofs.Onward.{begins}
 use Rattle.compose_lookup.specs.Longer.{FindsShortest}
 use Rattle.compose_lookup.specs.declared.longer.FoundLeaf.{FoundLeaf}
-use Rattle.compose_lookup.proofs.Shorter.{by_none, one_edge, by_node, by_leaf, by_all}
+use Rattle.compose_lookup.proofs.Shorter.{one_edge, by_node, by_leaf, by_all}
 use Rattle.compose_lookup.proofs.longer.+shortest_from.Goals.{in-Node, in-Leaf}
 use Rattle.compose_lookup.proofs.longer.+shortest_from.Goals as goal
 

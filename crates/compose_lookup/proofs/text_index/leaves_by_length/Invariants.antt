@@ -6,4 +6,4 @@ use Rattle.compose_lookup.proofs.text_index.leaves_by_length.Given as goal
 
 -- those of fewer keys are there
 abbrev pub invariant-loop-keys : goal.invariant-loop-keys
-invariant-loop-keys l = l.leaves.items ≡ flat_map (of_length l.lengths) (range_with_len 1 (l.keys - 1))
+invariant-loop-keys l = l.leaves.items ≡ flat_map (of_length l.lengths l.these) (range_with_len 1 (l.keys - 1))

@@ -11,7 +11,7 @@ returns-clause-sequences g c =
     let table = g.T.ComposeTable.definitions c.args.table.now in
     let text = c.args.text.now in
     let are : c.with_text.result.now ≡ filter (has_text table text) c.args.self.now = c.with_text.ensures ∙ ap (filter (has_text table text)) (c.as_slice.ensures.value ∙ c.self.view_is) in
-    ap (map (sequence_at table)) are ∙ c.requires.each text
+    ap (map (sequence_at table)) are ∙ c.requires.sequences
 
 pub returns-clause-in_table : goal.returns-clause-in_table
 returns-clause-in_table g c =
