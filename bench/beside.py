@@ -52,7 +52,7 @@ def beside(clients, service, work):
 
 
 def times_of(peer, sent, size, count):
-    """How long each of so many answers takes, in order of length."""
+    """How long each of `count` answers takes, in order of length."""
     times = []
     for _ in range(count):
         start = time.perf_counter()
@@ -64,7 +64,7 @@ def times_of(peer, sent, size, count):
 
 
 def print_times(program, clients, work):
-    """Prints how long a key takes while so many clients do this."""
+    """Prints how long a key takes while this number of clients do this."""
     with Serving(program, connections=clients + 2, options=at_once(clients + 2)) as service, Peer(service) as typing, Peer(service) as loading:
         typing.ask(OPEN_7, OPENED_7)
         one_load = times_of(loading, load(OLD, ITSELF), len(loaded(1)), 20)[10]

@@ -149,7 +149,7 @@ CASES = [
 
 # ---- a burst of dear loads
 
-# So many clients load at the same time, and so many keys are timed.
+# This number of clients load at the same time, and this number of keys are timed.
 LOADERS, TIMED_KEYS = (0, 1, 8), 300
 
 
@@ -212,7 +212,7 @@ def times_of_keys(path):
 
 
 def keys_beside(path, load, loaders):
-    """How long keys take while so many clients send the load."""
+    """How long keys take while this number of clients send the load."""
     context = multiprocessing.get_context("fork")
     processes = [context.Process(target=load_on, args=(path, load), daemon=True) for _ in range(loaders)]
     for process in processes:

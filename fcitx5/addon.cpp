@@ -59,7 +59,7 @@ void log(bool isFault, const std::string &what) {
     }
 }
 
-// Whether a plain key is nothing but its text here. (A game tells no text around the cursor.)
+// Whether a plain key is nothing but its text here. (A game reports no text around the cursor.)
 bool isTextField(const fcitx::InputContext &context) {
     auto flags = context.capabilityFlags();
     return flags.test(fcitx::CapabilityFlag::SurroundingText) && !flags.test(fcitx::CapabilityFlag::Terminal);

@@ -31,7 +31,7 @@ std::unique_ptr<Connection> Connection::open(const std::string &path) {
 Connection::~Connection() { ::close(descriptor_); }
 
 bool Connection::send(const uint8_t *bytes, size_t count) {
-    // (at most 448 bytes, which a socket takes whole. What the service said before it closed may still be read)
+    // (at most 448 bytes, which a socket takes whole. What the service sent before it closed may still be read)
     ssize_t taken = ::send(descriptor_, bytes, count, MSG_NOSIGNAL);
     return taken < 0 || static_cast<size_t>(taken) == count;
 }

@@ -114,7 +114,7 @@ static size_t block_size(const struct composecheck_sizes *sizes)
            + 2 * sizes->offsets * sizeof(uint32_t) + sizes->texts + sizes->hints;
 }
 
-/* A block with room for so many entries. */
+/* A block with room for this number of entries. */
 static uint8_t *new_block(const struct composecheck_sizes *sizes, struct room *room)
 {
     uint8_t *block = calloc(1, block_size(sizes));
@@ -148,7 +148,7 @@ static struct composecheck_table *table_of(const struct room *wide, const struct
     return table;
 }
 
-/* Room that the table of so many bytes hardly exceeds: an event has three bytes, a line five. */
+/* Room that the table of a source of this number of bytes hardly exceeds: an event has three bytes, a line five. */
 static struct composecheck_sizes guess(size_t bytes)
 {
     struct composecheck_sizes sizes = { bytes / 3 + 2, bytes / 3 + 1, bytes / 5 + 2, bytes + 1, 4 * (bytes / 3 + 1), { 0 } };

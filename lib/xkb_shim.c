@@ -1,7 +1,7 @@
 /* libxkbcommon's xkb_compose_* over composecheck: for LD_PRELOAD, or to be linked in front of libxkbcommon. C, and unproved: which files of the
  * user come first, how files are read, and the reference counts. What includes lead to and the table of a locale come from the proved library.
  *
- * What differs from libxkbcommon: a table with a faulty line is refused, and why is told to stderr; with COMPOSECHECK_SHIM_SKIP=1 up to ten
+ * What differs from libxkbcommon: a table with a faulty line is refused, for a reason that is printed to stderr; with COMPOSECHECK_SHIM_SKIP=1 up to ten
  * faulty lines are left out, each with a message. Where a line names no result keysym, xkb_compose_state_get_one_sym gives that of a text of
  * one character. Modifier lists are refused. A relative include is looked for beside the including file too. A path that is not UTF-8 is refused. */
 #define _GNU_SOURCE
@@ -142,11 +142,11 @@ static char *locale_file(const char *given)
 
 /* ---- tables */
 
-static void tell(const struct composecheck_files *files, const struct composecheck_fault *fault, const char *end)
+static void report(const struct composecheck_files *files, const struct composecheck_fault *fault, const char *end)
 {
-    char said[1024];
-    composecheck_files_explain(files, true, fault, said, sizeof said);
-    fprintf(stderr, "composecheck: %s%s\n", said, end);
+    char sentence[1024];
+    composecheck_files_explain(files, true, fault, sentence, sizeof sentence);
+    fprintf(stderr, "composecheck: %s%s\n", sentence, end);
 }
 
 /* Whether the fault is one line's own, which libxkbcommon passes over: no UTF-8, no line of the grammar, or a name that is no keysym's or an ignored
@@ -185,7 +185,7 @@ static struct composecheck_table *read_table(const struct composecheck_files *fi
     struct composecheck_input input = { .bundle = files->bundle, .bundle_length = files->bundle_length, .longest = true };
     struct composecheck_table *table = composecheck_table_new(&input, fault);
     for (int skipped = 0; !table && skipped < MOST_SKIPPED && may_skip() && is_of_line(fault); skipped++) {
-        tell(files, fault, "; the line is left out");
+        report(files, fault, "; the line is left out");
         blank(files, fault);
         table = composecheck_table_new(&input, fault);
     }
@@ -214,7 +214,7 @@ static struct xkb_compose_table *table_of(struct xkb_context *context, const cha
     struct composecheck_fault fault;
     struct composecheck_table *table = composecheck_files_find(&files, shown, bytes, length, &places, &fault) ? read_table(&files, &fault) : NULL;
     if (!table)
-        tell(&files, &fault, "");
+        report(&files, &fault, "");
     composecheck_files_free(&files);
     free(path);
     return kept(context, table);

@@ -23,11 +23,11 @@ CLIENTS = 64
 LARGE_AT_ONCE, LARGE = 8, 100_000
 # So many loads are accepted beside the many clients.
 LOADS = 40
-# A client that reads nothing sends so many requests; their replies are more than sockets hold.
+# A client that reads nothing sends this number of requests; their replies are more than sockets hold.
 UNREAD = 200_000
-# A connection may be idle for so many seconds; so many ends of connections are more than a pipe of so many bytes holds.
+# A connection may be idle for this number of seconds; this number of ends of connections is more than a pipe of this number of bytes holds.
 IDLE, ENDS, PIPE = 2, 400, 8192
-# So many sessions may be open, of so many clients that are killed.
+# This number of sessions may be open, of this number of clients that are killed.
 SESSIONS, KILLED = 4096, 5
 # So many connections hold several loads each.
 LOADING = 8
@@ -240,7 +240,7 @@ class Sessions:
 
 
 def stream_of(chance, first, requests=400):
-    """A random stream of so many requests over two sessions of its own, and the replies to it."""
+    """A random stream of `requests` requests over two sessions of its own, and the replies to it."""
     sessions, sent, wanted = Sessions(), bytearray(), bytearray()
     for _ in range(requests):
         kind, session = chance.choice((1, 2, 2, 2, 2, 2, 2, 3, 4, 6)), first + chance.randrange(2)

@@ -435,7 +435,7 @@ def check_forms(program, results):
         results.expect("Markdown", (report, said, status), (HEADING + TABLES + THREE, "", 1))
         results.expect("the counts of Markdown", counts["all"], {"kept": 4, "removed": 2, "added": 2, "texts lost": 2})
         printed, said, status = trees.compare(program, "--format=html")
-        results.expect("HTML: what is said", (said, status, printed.startswith("<!DOCTYPE html>"), printed.endswith("</html>\n")), ("", 1, True, True))
+        results.expect("HTML: what is printed", (said, status, printed.startswith("<!DOCTYPE html>"), printed.endswith("</html>\n")), ("", 1, True, True))
         rows = re.findall(r"<tr>(.*)</tr>", printed)
         results.expect("HTML: the first row of counts", rows[1], '<th scope="row">cs_CZ.UTF-8</th><td>2</td><td>0</td><td>0</td><td>0</td><td>0</td><td>0</td><td>0</td><td>0</td>')
         lost = "<td> <b>y</b></td><td> U+0079</td><td> <kbd>Multi_key</kbd> <kbd>b</kbd></td><td> removed</td><td> old/en_US.UTF-8/Compose:2</td>"

@@ -87,7 +87,7 @@ def frame(kind, session, payload=b""):
     return struct.pack(">BII", kind, session, len(payload)) + payload
 
 
-# The replies to a dead key and a letter in session 9, and what is said at each of them.
+# The replies to a dead key and a letter in session 9, and what is done at each of them.
 REPLIES = [frame(0x81, 9), frame(0x83, 9), frame(0x82, 9, b"\1\1"), frame(0x86, 9, b"\1\1" + struct.pack(">I", ACUTE)), frame(0x82, 9, b"\2\1" + "é".encode()), frame(0x86, 9, b"\2\0")]
 RESET = frame(3, 9)
 

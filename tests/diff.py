@@ -1,8 +1,8 @@
 #!/usr/bin/env python3
-"""diff.py PROGRAM [COUNT]: what `diff` tells of random tables, in each form, against a second reading of what happens to a sequence.
+"""diff.py PROGRAM [COUNT]: what `diff` prints of random tables, in each form, against a second reading of what happens to a sequence.
 
 Both tables of a pair are files of some lines with few keysyms, some of them written in several ways, with repeated and overlapping sequences, and
-comments; the new one is mostly the old one with some lines changed. What is told of each sequence is worked out here by going
+comments; the new one is mostly the old one with some lines changed. What is printed of each sequence is worked out here by going
 through its keys with a list of definitions. COUNT pairs are tried, 300 if none is given. The last line is `N passed, M failed`."""
 import json
 import os
@@ -71,7 +71,7 @@ class Table:
     """A random Compose file: the definition of each sequence that counts, and where it stands."""
 
     def __init__(self, name, ways):
-        """Each keysym is written in one of its first so many ways."""
+        """Each keysym is written in one of its first `ways` ways."""
         self.name, self.ways, self.lines, self.overlaps = name, ways, [], 0
         self.texts, self.places, self.keys = {}, {}, {}
 

@@ -30,7 +30,7 @@ def key_values(folder):
 
 
 def sequences(numbers, longest, count, width):
-    """The keys of each sequence and the number of its text. There are so many rows, each so wide; those of the longest sequences come last."""
+    """The keys of each sequence and the number of its text. There are `count` rows, `width` numbers each; those of the longest sequences come last."""
     for first, *bounds in (numbers[at : at + width] for at in range(0, count * width, width)):
         for length, (start, end) in enumerate(zip(bounds, bounds[1:]), longest + 3 - width):
             for at in range(start, end, length):

@@ -4,7 +4,7 @@ on random tables beside a second reading of them, and, where libxkbcommon.so.0 i
 arrays, rooms and lines of any numbers, the C of it compiled with -fsanitize=address,undefined.
 
   library.py          20,000 keys on the table of en_US.UTF-8: for the gate; it takes seconds, once crates/compose_c is proved
-  library.py COUNT    so many keys on each table of the system in UTF-8: for `make real`
+  library.py COUNT    COUNT keys on each table of the system in UTF-8: for `make real`
 
 The last line is `N passed, M failed`."""
 import ctypes

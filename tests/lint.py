@@ -19,7 +19,7 @@ from collections import Counter
 from harness import Results
 
 SEED = 51
-# Of so many tables one is tried with lists of accepted findings and as JSON.
+# Of this number of tables one is tried with lists of accepted findings and as JSON.
 OTHERS = 5
 # The keysyms of these tables, and how they are written.
 WRITTEN = {0x61: ["a", "U0061"], 0x62: ["b"], 0xfe51: ["dead_acute"], 0xff20: ["Multi_key"]}

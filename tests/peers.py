@@ -19,7 +19,7 @@ import build_library
 MODIFIERS = "asks for modifier lists, which are refused"
 LISTED = {"test_compose_seq_buffer 1": MODIFIERS, "test_modifier_syntax 1": MODIFIERS}
 
-# An assert of the test that is told and goes on; one of the code that it calls ends the program.
+# An assert of the test that is printed and goes on; one of the code that it calls ends the program.
 ASSERT = """#include <stdio.h>
 #include <stdlib.h>
 #include <string.h>

@@ -26,7 +26,7 @@ from harness import Results
 
 SOURCES = os.path.join(os.path.dirname(os.path.abspath(__file__)), "readers")
 SEED = 7
-# As many random tables are typed at once; of so many tables one is compared with `type`; and so many random keys are pressed on each.
+# This number of random tables is typed at once; of this number of tables one is compared with `type`; and this number of random keys is pressed on each.
 BATCH, CHECKED, KEYS_A_TABLE = 500, 100, 40
 # As many keys are given to one run of `type`.
 PART = 25_000

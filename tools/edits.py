@@ -376,7 +376,7 @@ def tried(rt, trials, jobs):
     for library in dict.fromkeys(below for it in trials for below in it.crate.below()):
         if library.build_rlib(["--jobs", str(jobs)], anew=False):
             sys.exit(f"edits: the library {library.name} is not proved, so no edit was tried")
-    # (so many checks side by side)
+    # (this number of checks side by side)
     os.environ["RT_JOBS"] = str(jobs)
     tasks, passed, printing = {}, [], threading.Lock()
 

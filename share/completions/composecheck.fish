@@ -26,7 +26,7 @@ complete -c composecheck -n "__fish_seen_subcommand_from make" -l all -d "All ch
 complete -c composecheck -n "__fish_seen_subcommand_from update serve" -l state -x -a "(__fish_complete_directories)" -d "Folder of the table in use"
 complete -c composecheck -n "__fish_seen_subcommand_from how update" -l repertoire -r -F -d "The characters that people need"
 complete -c composecheck -n "__fish_seen_subcommand_from update" -l socket -r -F -d "The socket of the running service"
-complete -c composecheck -n "__fish_seen_subcommand_from serve" -l at-once -x -d "Serve so many connections at once"
+complete -c composecheck -n "__fish_seen_subcommand_from serve" -l at-once -x -d "Serve this number of connections at once"
 complete -c composecheck -n "__fish_seen_subcommand_from serve" -l unsent -x -d "Bytes of replies that may be unsent on a connection"
 complete -c composecheck -n "__fish_seen_subcommand_from serve" -l idle -x -d "Seconds that a connection may be idle"
 complete -c composecheck -n "__fish_seen_subcommand_from serve" -l own-sessions -d "Close each session when its connection ends"

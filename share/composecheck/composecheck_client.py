@@ -170,7 +170,7 @@ class Request(NamedTuple):
 
     @classmethod
     def ask(cls, session: int) -> "Request":
-        """To be told where a session stands. Answered by a `State`."""
+        """Asks for the state of a session. Answered by a `State`."""
         return cls(ASK, session)
 
     @classmethod
@@ -338,7 +338,7 @@ class Client:
         try:
             self._socket.sendall(frames)
         except (BrokenPipeError, ConnectionResetError):
-            pass  # (what the service said before it closed may still be read)
+            pass  # (what the service sent before it closed may still be read)
 
     def _read(self, size: int, end: Optional[float]) -> bytes:
         parts, left = [], size

@@ -125,7 +125,7 @@ class Service:
             self._socket.settimeout(max(end - time.monotonic(), 0.001))
             self._socket.sendall(sent)
         except (BrokenPipeError, ConnectionResetError):
-            pass  # (what the service said before it closed may still be read)
+            pass  # (what the service sent before it closed may still be read)
         except OSError as error:
             self.lost(error)
             return False

@@ -176,7 +176,7 @@ class Desk:
             window = wait_for("the window", lambda: self.told("xdotool", "search", "--onlyvisible", "--name", "composecheck trial").split())
             self.run("xdotool", "windowfocus", "--sync", window[0])
         wait_for("the focus", lambda: self.entry()["focus"] == 0)
-        # (GTK 4 loses keys that come before its input method has answered for the first time, and nothing tells when it has)
+        # (GTK 4 loses keys that come before its input method has answered for the first time, and nothing reports when it has)
         time.sleep(0.5)
         return entry
 

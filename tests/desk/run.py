@@ -1,6 +1,6 @@
 #!/usr/bin/env python3
 """run.py PROGRAM: all trials that need a desktop, on displays that nobody sees: IBus and fcitx5 on X11, fcitx5 on Wayland, and what a key takes.
-What they need of Debian is installed by apt-get where root runs this; else the command is told. Pictures of what is pending are put into
+What they need of Debian is installed by apt-get where root runs this; else the command is printed. Pictures of what is pending are put into
 packages/pictures. The last line is `N passed, M failed`."""
 import os
 import re

@@ -1,4 +1,4 @@
-/* States of any numbers, arrays of any numbers, rooms of any size and lines of any bytes: nothing may be read or written outside, and what is said
+/* States of any numbers, arrays of any numbers, rooms of any size and lines of any bytes: nothing may be read or written outside, and what the header says
  * of each has to hold. Compiled with -fsanitize=address,undefined. */
 #include <composecheck.h>
 #include <stdio.h>
@@ -63,7 +63,7 @@ static void states(const struct composecheck_table *table, int rounds)
     }
 }
 
-/* Changes one number of one array, or cuts an array, and tells whether the arrays differ from the table's then. */
+/* Changes one number of one array, or cuts an array, and returns whether the arrays differ from the table's then. */
 static bool damage(struct composecheck_table *t, const struct composecheck_table *table, uint32_t *numbers, size_t count)
 {
     size_t *sizes[] = { &t->sizes.nodes, &t->sizes.edges, &t->sizes.offsets, &t->sizes.texts };

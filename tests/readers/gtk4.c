@@ -29,7 +29,7 @@ static unsigned keysym_at(int place)
     return keysym;
 }
 
-/* Has GTK take notice of the mapping: it reads this when it next needs it, after the event that tells of it. */
+/* Has GTK take notice of the mapping: it reads this when it next needs it, after the event that reports it. */
 static void wait_for_mapping(void)
 {
     for (int i = 0; i < 6; i++) {
