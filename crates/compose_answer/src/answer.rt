@@ -2,8 +2,8 @@
 ghost use Rattle.std.specs.Prelude.{◌≡◌};
 ghost use Rattle.compose_answer.specs.Ends.{end_of, status_of};
 
-use crate::refusal::Refusal;
 use compose_check::CheckFault;
+use compose_migration::Refusal;
 use keysym_core::{Keysym, ShownKeysym};
 use std::fmt;
 

@@ -18,8 +18,8 @@ use Rattle.compose_messages.specs.Places.{position_of}
 use Rattle.compose_c.specs.Answers.{answers_of}
 use Rattle.compose_c.specs.Faults.{of_part, lexical_number, lexical_place}
 use Rattle.compose_c.specs.declared.fault.FaultRecord.{FaultRecord}
-use Rattle.compose_c.specs.declared.find.Finding.{Finding}
-use Rattle.compose_c.specs.declared.find.Finding.TheVariants.{Found, Wanted}
+use Rattle.compose_c.specs.declared.find.SearchResult.{SearchResult}
+use Rattle.compose_c.specs.declared.find.SearchResult.TheVariants.{Found, Wanted}
 
 -- ---- a search
 
@@ -67,18 +67,18 @@ pub record IsWanted (s : Search) (path : List ℕ) : Type 0 where
   pub is : found s.files s.words s.root ≡ Err (wanted path)
   pub new : All (λ f. f.path ≢ path) s.files
 
-abbrev pub IsFinding : Search → List ℕ → Finding → Type 0
-IsFinding s certificate (Found bytes) = IsFound s certificate bytes.items
-IsFinding s certificate (Wanted path) = IsWanted s (string_bytes path)
+abbrev pub IsSearchResult : Search → List ℕ → SearchResult → Type 0
+IsSearchResult s certificate (Found bytes) = IsFound s certificate bytes.items
+IsSearchResult s certificate (Wanted path) = IsWanted s (string_bytes path)
 
-abbrev pub finding_bytes : Finding → List ℕ
-finding_bytes (Found bytes) = bytes.items
-finding_bytes (Wanted path) = string_bytes path
+abbrev pub search_result_bytes : SearchResult → List ℕ
+search_result_bytes (Found bytes) = bytes.items
+search_result_bytes (Wanted path) = string_bytes path
 
 -- the number that the call returns to C
-abbrev pub finding_number : Finding → ℕ
-finding_number (Found bytes) = 0
-finding_number (Wanted path) = 3
+abbrev pub search_result_number : SearchResult → ℕ
+search_result_number (Found bytes) = 0
+search_result_number (Wanted path) = 3
 
 -- ---- why it fails
 
@@ -146,7 +146,7 @@ abbrev pub IsLarge : Bundle → Type 0
 IsLarge b = BundleFits b → max_payload < length (bundle_bytes b)
 
 -- the bundle is written, or it is too large for a load, or an allocation failed
-abbrev pub IsBundled : Bundle → Result Finding FaultRecord → Type 0
+abbrev pub IsBundled : Bundle → Result SearchResult FaultRecord → Type 0
 IsBundled b (Ok (Found bytes)) = IsBundle bytes.items b
 IsBundled b (Ok (Wanted path)) = ⊥
 IsBundled b (Err fault) = (fault ≡ of_part 6 0) ⊎ (IsLarge b × (fault ≡ of_part 2 2))
@@ -170,8 +170,8 @@ Finds search certificate bytes = (s : Search) × (search ≡ Some s) × IsFound 
 abbrev pub Wants : Option Search → List ℕ → Type 0
 Wants search path = (s : Search) × (search ≡ Some s) × IsWanted s path
 
-abbrev pub IsFindingOf : Option Search → List ℕ → Finding → Type 0
-IsFindingOf search certificate finding = (s : Search) × (search ≡ Some s) × IsFinding s certificate finding
+abbrev pub IsSearchResultOf : Option Search → List ℕ → SearchResult → Type 0
+IsSearchResultOf search certificate search_result = (s : Search) × (search ≡ Some s) × IsSearchResult s certificate search_result
 
 -- the bundle that is found, or the path to look for, has this number of bytes
 abbrev pub Needs : Option Search → List ℕ → ℕ → Type 0

@@ -12,12 +12,12 @@ use std::marker::Model;
 
 /// A path that was looked for, and the bytes of its file, if there is one.
 #[derive(Drop)]
-pub struct Answer<'p> {
+pub struct FileAnswer<'p> {
     path: &'p str,
     bytes: Option<&'p [u8]>,
 }
 
-impl<'p> Model for Answer<'p> {
+impl<'p> Model for FileAnswer<'p> {
     ghost use Rattle.std.specs.Prelude.{option_copied};
     ghost use Rattle.compose_find.specs.Found as found;
 
@@ -26,7 +26,7 @@ impl<'p> Model for Answer<'p> {
     ghost view = { λ a. record { path = a.path.now; bytes = option_copied a.bytes } };
 }
 
-impl<'p> Answer<'p> {
+impl<'p> FileAnswer<'p> {
     ghost use Rattle.std.specs.Prelude.{◌≡◌, option_copied};
 
     /// Returns the path.
@@ -47,7 +47,10 @@ impl<'p> Answer<'p> {
 /// Returns the answers in a payload; `None` if it is malformed. O(answers).
 ///
 /// `Err` if memory runs out.
-pub fn read_answers(alloc: Global, payload: &[u8]) -> Result<Option<Vec<Answer<'_>>>, AllocError>
+pub fn read_answers(
+    alloc: Global,
+    payload: &[u8],
+) -> Result<Option<Vec<FileAnswer<'_>>>, AllocError>
     ensures { IfOk result
         (λ answers. option_map (λ a. a.items) answers ≡ answers_of payload.now) }
 {
@@ -68,7 +71,7 @@ fn read_counted(
     alloc: Global,
     count: u16,
     bytes: &[u8],
-) -> Result<Option<(Vec<Answer<'_>>, &[u8])>, AllocError>
+) -> Result<Option<(Vec<FileAnswer<'_>>, &[u8])>, AllocError>
     ensures { IfOk result
         (λ read. option_map (λ p. (p.0.items, p.1.now)) read ≡ answers_at count [] bytes.now) }
 {
@@ -85,7 +88,7 @@ fn read_counted(
 }
 
 /// Reads one answer. Returns it and the bytes after it.
-fn read_answer(bytes: &[u8]) -> Option<(Answer<'_>, &[u8])>
+fn read_answer(bytes: &[u8]) -> Option<(FileAnswer<'_>, &[u8])>
     ensures { option_map (λ p. (p.0, p.1.now)) result ≡ answer_at bytes.now }
 {
     let (path, rest) = split_by_2(bytes)?;
@@ -94,14 +97,14 @@ fn read_answer(bytes: &[u8]) -> Option<(Answer<'_>, &[u8])>
 
 /// Reads what was found at the path: no file, or the bytes of one. Returns the answer and the bytes
 /// after it.
-fn read_file<'p>(path: &'p str, bytes: &'p [u8]) -> Option<(Answer<'p>, &'p [u8])>
+fn read_file<'p>(path: &'p str, bytes: &'p [u8]) -> Option<(FileAnswer<'p>, &'p [u8])>
     ensures { option_map (λ p. (p.0, p.1.now)) result ≡ file_at path.now bytes.now }
 {
     match bytes {
-        [0, rest @ ..] => Some((Answer { path, bytes: None }, rest)),
+        [0, rest @ ..] => Some((FileAnswer { path, bytes: None }, rest)),
         [1, rest @ ..] => {
             let (bytes, rest) = split_by_4(rest)?;
-            let answer = Answer {
+            let answer = FileAnswer {
                 path,
                 bytes: Some(bytes),
             };
@@ -114,7 +117,7 @@ fn read_file<'p>(path: &'p str, bytes: &'p [u8]) -> Option<(Answer<'p>, &'p [u8]
 /// Returns the files that were looked for, each with a copy of its bytes. O(bytes).
 ///
 /// `Err` if memory runs out.
-pub fn files_of(alloc: Global, answers: &[Answer<'_>]) -> Result<Files, AllocError>
+pub fn files_of(alloc: Global, answers: &[FileAnswer<'_>]) -> Result<Files, AllocError>
     ensures { IfOk result (λ files. files ≡ answers.now) }
 {
     let mut files = Files::new(alloc);
@@ -130,35 +133,35 @@ pub fn files_of(alloc: Global, answers: &[Answer<'_>]) -> Result<Files, AllocErr
 
 /// Returns the index of the answer for this path, or the number of answers if there is none.
 /// O(answers).
-pub fn answer_for(answers: &[Answer<'_>], path: &str) -> usize
+pub fn answer_for(answers: &[FileAnswer<'_>], path: &str) -> usize
     ensures { result ≡ answer_for answers.now path.now }
 {
     position_of(answers, path).unwrap_or(answers.len())
 }
 
 /// Returns the index of the answer for this path, if there is one.
-fn position_of(answers: &[Answer<'_>], path: &str) -> Option<usize>
+fn position_of(answers: &[FileAnswer<'_>], path: &str) -> Option<usize>
     ensures { result ≡ position (λ f. bytes_eq path.now f.path) answers.now }
 {
     answers.iter().position(|answer| has_path(answer, path))
 }
 
 /// Returns the bytes of the file at this path, if one was found there. O(answers).
-pub fn held_at<'s, 'p>(answers: &'s [Answer<'p>], path: &str) -> Option<&'p [u8]>
+pub fn held_at<'s, 'p>(answers: &'s [FileAnswer<'p>], path: &str) -> Option<&'p [u8]>
     ensures { option_copied result ≡ found.held_at answers.now path.now }
 {
     looked(answers, path)?.bytes()
 }
 
 /// Returns the answer for this path, if there is one.
-fn looked<'s, 'p>(answers: &'s [Answer<'p>], path: &str) -> Option<&'s Answer<'p>>
+fn looked<'s, 'p>(answers: &'s [FileAnswer<'p>], path: &str) -> Option<&'s FileAnswer<'p>>
     ensures { option_copied result ≡ find (λ f. bytes_eq path.now f.path) answers.now }
 {
     answers.iter().find(|answer| has_path(answer, path))
 }
 
 /// Returns whether the answer is for this path.
-fn has_path(answer: &Answer<'_>, path: &str) -> bool
+fn has_path(answer: &FileAnswer<'_>, path: &str) -> bool
     ensures { result ≡ bytes_eq path.now answer.now.path }
 {
     path == answer.path

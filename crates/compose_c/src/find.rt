@@ -3,9 +3,9 @@ ghost use Rattle.std.specs.Prelude.{◌≡◌, ◌<◌, ◌≤◌, ◌≢◌, �
 ghost use Rattle.compose_find.specs.FindReturns.{words};
 ghost use Rattle.compose_c.specs.Faults as numbers;
 ghost use Rattle.compose_c.specs.Finds as finds;
-ghost use Rattle.compose_c.specs.Finds.{IsBundled, IsFinding, IsFindingOf, FailsSearch, Finds, Wants, Needs, ReportsFind, search_by, search_of, words_of};
+ghost use Rattle.compose_c.specs.Finds.{IsBundled, IsSearchResult, IsSearchResultOf, FailsSearch, Finds, Wants, Needs, ReportsFind, search_by, search_of, words_of};
 
-use crate::answers::{Answer, answer_for, files_of, held_at, read_answers};
+use crate::answers::{FileAnswer, answer_for, files_of, held_at, read_answers};
 use crate::copies::put;
 use crate::fault::{FaultRecord, of_lexical, of_part};
 use crate::pieces::text_of;
@@ -17,7 +17,7 @@ use std::alloc::{AllocError, Global};
 
 /// The result of a search that does not fail.
 #[derive(Drop)]
-pub enum Finding {
+pub enum SearchResult {
     /// All files are found: the bundle of the sources and the certificate.
     Found(Vec<u8>),
     /// The path that has to be looked for next.
@@ -93,7 +93,7 @@ pub fn find(
         sysroot,
         certificate,
     ) {
-        Ok(finding) => put_finding(&finding, target, target_length),
+        Ok(search_result) => put_search_result(&search_result, target, target_length),
         Err(refused) => {
             *fault = refused;
             1
@@ -103,40 +103,44 @@ pub fn find(
 
 /// Puts the result of the search into the caller's memory, and returns its number; 2 if it doesn't
 /// fit.
-fn put_finding(finding: &Finding, target: &mut [u8], target_length: &mut usize) -> u32
-    ensures length { target_length.new ≡ length (finds.finding_bytes finding.now) }
+fn put_search_result(
+    search_result: &SearchResult,
+    target: &mut [u8],
+    target_length: &mut usize,
+) -> u32
+    ensures length { target_length.new ≡ length (finds.search_result_bytes search_result.now) }
     ensures wide { result ≡ 2 → length target.old < target_length.new }
-    ensures number { result ≢ 2 → result ≡ finds.finding_number finding.now }
+    ensures number { result ≢ 2 → result ≡ finds.search_result_number search_result.now }
     ensures bytes { result ≢ 2
-        → take target_length.new target.new ≡ finds.finding_bytes finding.now }
+        → take target_length.new target.new ≡ finds.search_result_bytes search_result.now }
     ensures few { result ≤ 3 }
 {
-    let bytes = finding_bytes(finding);
+    let bytes = search_result_bytes(search_result);
     *target_length = bytes.len();
     if bytes.len() > target.len() {
         return 2;
     }
     put(bytes, target);
-    finding_number(finding)
+    search_result_number(search_result)
 }
 
 /// Returns the bytes of the bundle or of the path.
-fn finding_bytes(finding: &Finding) -> &[u8]
-    ensures { result.now ≡ finds.finding_bytes finding.now }
+fn search_result_bytes(search_result: &SearchResult) -> &[u8]
+    ensures { result.now ≡ finds.search_result_bytes search_result.now }
 {
-    match finding {
-        Finding::Found(bytes) => bytes.as_slice(),
-        Finding::Wanted(path) => path.as_bytes(),
+    match search_result {
+        SearchResult::Found(bytes) => bytes.as_slice(),
+        SearchResult::Wanted(path) => path.as_bytes(),
     }
 }
 
 /// Returns the number for C: 0 for a bundle, 3 for a path.
-fn finding_number(finding: &Finding) -> u32
-    ensures { result ≡ finds.finding_number finding.now }
+fn search_result_number(search_result: &SearchResult) -> u32
+    ensures { result ≡ finds.search_result_number search_result.now }
 {
-    match finding {
-        Finding::Found(_) => 0,
-        Finding::Wanted(_) => 3,
+    match search_result {
+        SearchResult::Found(_) => 0,
+        SearchResult::Wanted(_) => 3,
     }
 }
 
@@ -152,11 +156,11 @@ fn search(
     home: &[u8],
     sysroot: &[u8],
     certificate: &[u8],
-) -> Result<Finding, FaultRecord>
+) -> Result<SearchResult, FaultRecord>
     ensures { MatchResult result
-        (λ finding. IsFindingOf
+        (λ search_result. IsSearchResultOf
         (search_of answers.now root.now system.now locale.now home.now sysroot.now)
-        certificate.now finding)
+        certificate.now search_result)
         (λ fault. ReportsFind
         (search_of answers.now root.now system.now locale.now home.now sysroot.now)
         certificate.now fault) }
@@ -179,14 +183,14 @@ fn search(
 /// Searches with these answers.
 fn search_over(
     alloc: Global,
-    answers: &[Answer<'_>],
+    answers: &[FileAnswer<'_>],
     meanings: Meanings<'_>,
     root: &str,
     certificate: &[u8],
-) -> Result<Finding, FaultRecord>
+) -> Result<SearchResult, FaultRecord>
     ensures { MatchResult result
-        (λ finding. IsFinding (search_by answers.now (words meanings.entry) root.now)
-        certificate.now finding)
+        (λ search_result. IsSearchResult (search_by answers.now (words meanings.entry) root.now)
+        certificate.now search_result)
         (λ fault. FailsSearch (search_by answers.now (words meanings.entry) root.now)
         certificate.now fault) }
 {
@@ -195,7 +199,7 @@ fn search_over(
     };
     match find_table(alloc, &files, meanings, root) {
         Ok(table) => bundle_of(alloc, &table.sources, certificate),
-        Err(FindFault::Wanted { path }) => Ok(Finding::Wanted(path)),
+        Err(FindFault::Wanted { path }) => Ok(SearchResult::Wanted(path)),
         Err(FindFault::MissingRoot { path }) => Err(of_missing_root(answers, &path)),
         Err(FindFault::MissingFile { from, line, .. }) => {
             Err(of_missing_file(alloc, answers, &from, line))
@@ -208,11 +212,15 @@ fn search_over(
 }
 
 /// Returns the bundle of these sources and this certificate.
-fn bundle_of(alloc: Global, sources: &Sources, certificate: &[u8]) -> Result<Finding, FaultRecord>
+fn bundle_of(
+    alloc: Global,
+    sources: &Sources,
+    certificate: &[u8],
+) -> Result<SearchResult, FaultRecord>
     ensures { IsBundled (record { sources = sources.now; certificate = certificate.now }) result }
 {
     match write_bundle(alloc, sources, certificate) {
-        Ok(bytes) => Ok(Finding::Found(bytes)),
+        Ok(bytes) => Ok(SearchResult::Found(bytes)),
         Err(BundleFault::TooLarge) => Err(of_part(2, 2)),
         Err(BundleFault::NoMemory) => Err(of_part(6, 0)),
         Err(BundleFault::Form) => unreachable!(),
@@ -221,7 +229,7 @@ fn bundle_of(alloc: Global, sources: &Sources, certificate: &[u8]) -> Result<Fin
 
 /// Returns the fault of the file at this path.
 fn in_answer(
-    answers: &[Answer<'_>],
+    answers: &[FileAnswer<'_>],
     from: &str,
     line: usize,
     column: usize,
@@ -237,14 +245,19 @@ fn in_answer(
 }
 
 /// Returns the fault that there is no file at the root's path.
-fn of_missing_root(answers: &[Answer<'_>], path: &str) -> FaultRecord
+fn of_missing_root(answers: &[FileAnswer<'_>], path: &str) -> FaultRecord
     ensures { result ≡ finds.of_missing_root answers.now path.now }
 {
     in_answer(answers, path, 0, 0, 2)
 }
 
 /// Returns the fault that there is no file for an include.
-fn of_missing_file(alloc: Global, answers: &[Answer<'_>], from: &str, line: usize) -> FaultRecord
+fn of_missing_file(
+    alloc: Global,
+    answers: &[FileAnswer<'_>],
+    from: &str,
+    line: usize,
+) -> FaultRecord
     ensures { (result ≡ numbers.of_part 6 0)
         ⊎ (result ≡ finds.of_missing_file answers.now from.now line) }
 {
@@ -258,7 +271,7 @@ fn of_missing_file(alloc: Global, answers: &[Answer<'_>], from: &str, line: usiz
 /// Returns the fault that an include can't be resolved.
 fn of_include(
     alloc: Global,
-    answers: &[Answer<'_>],
+    answers: &[FileAnswer<'_>],
     from: &str,
     line: usize,
     fault: IncludeFault,
@@ -339,7 +352,7 @@ fn as_read(line: usize, fault: IncludeFault) -> ReadFault
 /// not on a line. `Err` if memory runs out.
 fn column_in(
     alloc: Global,
-    answers: &[Answer<'_>],
+    answers: &[FileAnswer<'_>],
     from: &str,
     fault: &ReadFault,
 ) -> Result<usize, AllocError>

@@ -1,17 +1,18 @@
 //! Checking a certificate on bytes.
-ghost use Rattle.std.specs.Prelude.{◌≡◌, ◌≢◌, ℕ, Result, Ok};
+ghost use Rattle.std.specs.Prelude.{◌≡◌, Result, Ok, map};
 ghost use Rattle.compose_model.specs.Follows.{Follows, Waits};
 ghost use Rattle.compose_model.specs.Certificate.{IsValid, TypesAll};
-ghost use Rattle.compose_cert.specs.Reading.{certificate_of};
-ghost use Rattle.compose_cert.specs.Repertoire.{repertoire_of};
-ghost use Rattle.compose_migration.specs.Migration.{Parts as GivenParts, NoMigration, or_because, migration_of};
-ghost use Rattle.compose_migration.specs.MigrationReturns.{MigrationRefused, parts};
-ghost use Rattle.compose_check.specs.Input.{Parts, certified_parts, parts_of, no_migration, no_repertoire, no_certificate};
-ghost use Rattle.compose_check.specs.CheckReturns.{CheckReturns, InputReturns, InputRefused, IsVerdict, input_of};
+ghost use Rattle.compose_migration.specs.Migration.{NoAnswer, migration_of};
+ghost use Rattle.compose_migration.specs.Refused.{IsRefused, Returns};
+ghost use Rattle.compose_migration.specs.Values.{parts};
+ghost use Rattle.compose_check.specs.Input.{Parts, allowed_parts, certified_parts, parts_of, verdict_on, with_key_names};
+ghost use Rattle.compose_check.specs.CheckReturns.{CheckReturns, InputRefused, IsOfInput, Promises, input_of, parts_read};
 
 use crate::verdict::{Verdict, check};
 use compose_cert::{CertFault, Certificate, Repertoire, RepertoireFault};
-use compose_migration::{Migration, MigrationFault, MigrationInput, Side, TableInput};
+use compose_migration::{
+    Migration, MigrationInput, Refusal, Side, TableInput, read_certificate, read_repertoire,
+};
 use compose_model::Rule;
 use compose_read::Sources;
 use compose_tree::{ComposeTable, TableFault};
@@ -61,6 +62,94 @@ pub enum InputFault {
     NoMemory,
 }
 
+/// What a check reads: the names and tables, the repertoire, and the certificate.
+#[derive(Drop)]
+pub struct CheckParts<T: ComposeTable> {
+    /// The names, the keysyms of the key names, and both tables.
+    pub migration: Migration<T>,
+    /// The characters that people need, and the keys that they have.
+    pub repertoire: Repertoire,
+    /// The certificate.
+    pub certificate: Certificate,
+}
+
+impl<T: ComposeTable> CheckParts<T> {
+    /// Reads the names, the keysyms of the key names, the old table and the new one, the repertoire
+    /// and the certificate, in this order. O(bytes of all parts, sorting of the definitions).
+    ///
+    /// Errors: the first of `Names`, `Key`, `Side` for the old and then the new table, `Repertoire`
+    /// and `Certificate`; or `NoMemory`.
+    pub fn read(
+        alloc: Global,
+        input: &CheckInput<'_>,
+        key_names: &[&str],
+    ) -> Result<CheckParts<T>, Refusal>
+        ensures { Returns (λ expected read. expected ≡ parts_read T.definitions read) result
+            (allowed_parts (map (λ name. name.now) key_names.now) (input_of input.entry.now)) }
+    {
+        let migration: Migration<T> = read_migration(alloc, input, key_names)?;
+        read_texts(alloc, input, migration)
+    }
+
+    /// Returns the verdict on the certificate. It costs what `check` does.
+    pub fn verdict(&self) -> Verdict
+        ensures exact { result ≡ verdict_on (parts_read T.definitions self.now) }
+        ensures promises { result ≡ Verdict.Yes → Promises (parts_read T.definitions self.now) }
+    {
+        check(
+            &self.migration.old,
+            &self.migration.new,
+            &self.migration.names,
+            &self.repertoire,
+            &self.certificate,
+        )
+    }
+}
+
+/// Reads the names, the keysyms of the key names, and both tables.
+fn read_migration<T: ComposeTable>(
+    alloc: Global,
+    input: &CheckInput<'_>,
+    key_names: &[&str],
+) -> Result<Migration<T>, Refusal>
+    ensures { Returns (λ expected read. expected ≡ parts T.definitions read) result
+        (migration_of
+        (with_key_names (map (λ name. name.now) key_names.now) (input_of input.entry.now)).migration) }
+{
+    let given = MigrationInput {
+        header: input.header,
+        key_names,
+        old: TableInput {
+            sources: input.old,
+            rule: input.old_rule,
+        },
+        new: TableInput {
+            sources: input.new,
+            rule: input.new_rule,
+        },
+    };
+    Migration::read(alloc, &given)
+}
+
+/// Reads the repertoire and the certificate, once the migration is read.
+fn read_texts<T: ComposeTable>(
+    alloc: Global,
+    input: &CheckInput<'_>,
+    migration: Migration<T>,
+) -> Result<CheckParts<T>, Refusal>
+    ensures { Returns (λ expected read. expected ≡ parts_read T.definitions read) result
+        (certified_parts (parts T.definitions migration)
+        input.entry.now.repertoire.now input.entry.now.certificate.now) }
+{
+    let repertoire = read_repertoire(alloc, input.repertoire)?;
+    let certificate = read_certificate(alloc, input.certificate)?;
+    Ok(CheckParts {
+        migration,
+        repertoire,
+        certificate,
+    })
+}
+
 /// Checks a certificate for a move from the old sources to the new ones, given as bytes. The parts
 /// are read in order, and both tables with the same names. O(bytes of all parts, sorting of the
 /// definitions), and then as `check`.
@@ -83,99 +172,33 @@ pub fn check_bytes<T: ComposeTable>(
     ensures types { (p : Parts) → parts_of (input_of input.entry.now) ≡ Ok p
         → result ≡ Ok Verdict.Yes → TypesAll p.names p.new p.repertoire p.certificate.typings }
 {
-    let migration: Migration<T> = read_migration(alloc, input)?;
-    check_migration(alloc, input, &migration)
-}
-
-/// Returns the verdict on a migration that was read, with the repertoire and the certificate of the
-/// input.
-fn check_migration<T: ComposeTable>(
-    alloc: Global,
-    input: &CheckInput<'_>,
-    migration: &Migration<T>,
-) -> Result<Verdict, InputFault>
-    ensures { InputReturns IsVerdict result
-        (certified_parts (parts T.definitions migration.now)
-        input.entry.now.repertoire.now input.entry.now.certificate.now) }
-{
-    let repertoire = read_repertoire(alloc, input.repertoire)?;
-    let certificate = read_certificate(alloc, input.certificate)?;
-    Ok(check(
-        &migration.old,
-        &migration.new,
-        &migration.names,
-        &repertoire,
-        &certificate,
-    ))
-}
-
-/// Reads the names and both tables.
-fn read_migration<T: ComposeTable>(
-    alloc: Global,
-    input: &CheckInput<'_>,
-) -> Result<Migration<T>, InputFault>
-    ensures { InputReturns (λ expected read. expected ≡ parts T.definitions read) result
-        (or_because no_migration (migration_of (input_of input.entry.now).migration)) }
-{
-    let given = MigrationInput {
-        header: input.header,
-        key_names: &[],
-        old: TableInput {
-            sources: input.old,
-            rule: input.old_rule,
-        },
-        new: TableInput {
-            sources: input.new,
-            rule: input.new_rule,
-        },
-    };
-    match Migration::read(alloc, &given) {
-        Ok(migration) => Ok(migration),
-        Err(fault) => Err(input_fault(fault)),
+    match CheckParts::<T>::read(alloc, input, &[]) {
+        Ok(parts) => Ok(parts.verdict()),
+        Err(refusal) => Err(input_fault(refusal)),
     }
 }
 
-/// Returns the fault of a migration without key names.
-fn input_fault(fault: MigrationFault) -> InputFault
-    requires { (index : ℕ) → fault ≢ MigrationFault.Key index }
-    ensures { (expected : Result GivenParts NoMigration) → MigrationRefused fault expected
-        → InputRefused result (or_because no_migration expected) }
+/// Returns the fault of the input of a check without key names that is refused.
+fn input_fault(refusal: Refusal) -> InputFault
+    requires { IsOfInput refusal }
+    ensures { (expected : Result Parts NoAnswer) → IsRefused refusal expected
+        → InputRefused result expected }
 {
-    match fault {
-        MigrationFault::Names(fault) => InputFault::Names(fault),
-        MigrationFault::Key { .. } => unreachable!(),
-        MigrationFault::Table {
+    match refusal {
+        Refusal::Names(fault) => InputFault::Names(fault),
+        Refusal::Side {
             side: Side::Old,
             fault,
         } => InputFault::Old(fault),
-        MigrationFault::Table {
+        Refusal::Side {
             side: Side::New,
             fault,
         } => InputFault::New(fault),
-        MigrationFault::NoMemory => InputFault::NoMemory,
-    }
-}
-
-/// Reads the repertoire.
-fn read_repertoire(alloc: Global, bytes: &[u8]) -> Result<Repertoire, InputFault>
-    ensures { InputReturns (λ expected repertoire. expected ≡ repertoire) result
-        (or_because no_repertoire (repertoire_of bytes.now)) }
-{
-    match Repertoire::read(alloc, bytes) {
-        Ok(repertoire) => Ok(repertoire),
-        Err(RepertoireFault::NoMemory) => Err(InputFault::NoMemory),
-        Err(fault) => Err(InputFault::Repertoire(fault)),
-    }
-}
-
-/// Reads the certificate.
-fn read_certificate(alloc: Global, bytes: &[u8]) -> Result<Certificate, InputFault>
-    ensures { InputReturns (λ expected certificate. expected ≡ certificate) result
-        (or_because no_certificate (certificate_of bytes.now)) }
-{
-    match Certificate::read(alloc, bytes) {
-        Ok(certificate) => Ok(certificate),
-        Err(CertFault::NoMemory) => Err(InputFault::NoMemory),
-        Err(fault) => Err(InputFault::Certificate(fault)),
+        Refusal::Repertoire(fault) => InputFault::Repertoire(fault),
+        Refusal::Certificate(fault) => InputFault::Certificate(fault),
+        Refusal::NoMemory => InputFault::NoMemory,
+        Refusal::Key { .. } | Refusal::Table(_) | Refusal::Fresh(_) | Refusal::TooManyFresh => {
+            unreachable!()
+        }
     }
 }

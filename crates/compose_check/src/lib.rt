@@ -24,5 +24,5 @@ mod typings;
 mod verdict;
 
 pub use compose_fresh::{CheckFault, check_fresh};
-pub use input::{CheckInput, InputFault, check_bytes};
+pub use input::{CheckInput, CheckParts, InputFault, check_bytes};
 pub use verdict::{Verdict, check, law_conditions};

@@ -1,7 +1,7 @@
 //! `load` and `session`: a client of a running service. What is sent, and what is printed for the
 //! replies, is in `compose_service_runs`; here are the socket and its bytes. A function returns an
 //! error if its input can't be read or is refused, or if memory runs out.
-ghost use Rattle.std.specs.Prelude.{None};
+ghost use Rattle.std.specs.Prelude.{None, ⊤};
 
 use compose_arguments::{LoadArguments, SessionArguments};
 use compose_client::{ReplyFeeder, RequestFault, put_request};
@@ -94,6 +94,8 @@ struct Connection {
 
 impl Peer for Connection {
     ghost turns = { λ _. None };
+
+    ghost gives = { λ _ _ _. ⊤ };
 
     fn ask(&mut self, alloc: Global, request: &Request) -> Result<Option<Reply>, Fault> {
         send(alloc, &self.stream, request)?;

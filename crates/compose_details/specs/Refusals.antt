@@ -8,11 +8,11 @@ use Rattle.keysym_core.specs.declared.fault.NameFault.{NameFault}
 use Rattle.compose_read.specs.declared.settling.SettleFault.TheVariants as settle_faults
 use Rattle.compose_tree.specs.declared.reading.TableFault.{TableFault}
 use Rattle.compose_tree.specs.declared.reading.TableFault.TheVariants.{Read, Settle, Build}
-use Rattle.compose_migration.specs.declared.fault.Side.TheVariants.{Old, New}
+use Rattle.compose_migration.specs.declared.refusal.Side.TheVariants.{Old, New}
 use Rattle.compose_fresh.specs.declared.fault.CheckFault.{CheckFault}
 use Rattle.compose_fresh.specs.declared.fault.CheckFault.TheVariants.{FreshIgnored, FreshUsed}
-use Rattle.compose_answer.specs.declared.refusal.Refusal.{Refusal}
-use Rattle.compose_answer.specs.declared.refusal.Refusal.TheVariants.{Names, Key, Table, Side, Repertoire, Certificate, Fresh, TooManyFresh}
+use Rattle.compose_migration.specs.declared.refusal.Refusal.{Refusal}
+use Rattle.compose_migration.specs.declared.refusal.Refusal.TheVariants.{Names, Key, Table, Side, Repertoire, Certificate, Fresh, TooManyFresh}
 use Rattle.compose_messages.specs.Faults.{name_line, name_message, certificate_line, certificate_message, repertoire_line, repertoire_message}
 use Rattle.compose_messages.specs.Hints.{certificate_hint, header_hint, hint_text, locale_hint, name_hint, repertoire_hint, source_not_utf8, table_hint}
 use Rattle.compose_messages.specs.Characters.{IsKeyOfText, character_hint, text_in_place}

@@ -10,7 +10,7 @@ use crate::refusal::push_keysyms;
 use crate::sides::{SideTable, push_hinted_differences, push_side};
 use compose_answer::Answer;
 use compose_cert::{CertFault, Certificate};
-use compose_migration::{Migration, MigrationFault, MigrationInput};
+use compose_migration::{Migration, MigrationInput, Refusal};
 use compose_places::{DefinitionPlace, definition_places, last_definitions};
 use compose_read::{Definitions, ReadFault, read_definitions};
 use compose_tree::ComposeTable;
@@ -102,7 +102,7 @@ fn push_moved<T: ComposeTable>(
     };
     match Migration::<T>::read(alloc, &input) {
         Ok(migration) => push_migration(alloc, text, given, old, new, &migration, pair),
-        Err(MigrationFault::NoMemory) => Err(AllocError),
+        Err(Refusal::NoMemory) => Err(AllocError),
         Err(_) => Ok(()),
     }
 }

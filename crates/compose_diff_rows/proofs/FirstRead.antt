@@ -9,8 +9,8 @@ use Rattle.compose_model.specs.Nodes.{leaves}
 use Rattle.compose_model.specs.declared.Rule.{Rule}
 use Rattle.compose_read.specs.Lines.{Source}
 use Rattle.compose_tree.specs.TableReturns.{NoTable, first_table}
-use Rattle.compose_migration.specs.Migration.{GivenMigration, NamedParts, Parts, NoMigration, no_table, or_because, named, migration_of}
-use Rattle.compose_migration.specs.declared.fault.Side.TheVariants.{Old, New}
+use Rattle.compose_migration.specs.Migration.{GivenMigration, NamedParts, Parts, NoAnswer, no_table, or_because, named, migration_of}
+use Rattle.compose_migration.specs.declared.refusal.Side.TheVariants.{Old, New}
 use Rattle.compose_places.specs.Counting.{counting_line, read_lines, AreLines}
 use Rattle.compose_places.proofs.CountingLaw.{are_lines}
 use Rattle.compose_diff_rows.specs.Answers.{root_of}
@@ -28,7 +28,7 @@ module _ (given : GivenMigration) (p q : Parts) (e : p ≡ q) where
   same_Ok x y h = cc
 
   by_new : (n : NamedParts) (old : List Definition) → first_table n.names given.old.sources given.old.rule ≡ Ok old → (r : Result (List Definition) NoTable)
-      → first_table n.names given.new.sources given.new.rule ≡ r → (or_because (no_table New) r >>= (λ new. let x : Result Parts NoMigration = Ok (together n old new) in x)) ≡ Ok p → IsRead
+      → first_table n.names given.new.sources given.new.rule ≡ r → (or_because (no_table New) r >>= (λ new. let x : Result Parts NoAnswer = Ok (together n old new) in x)) ≡ Ok p → IsRead
   by_new n old f (Err why) g h = cc
   by_new n old f (Ok new) g h =
       let is : together n old new ≡ q = same_Ok (together n old new) p h ∙ e in
@@ -37,17 +37,17 @@ module _ (given : GivenMigration) (p q : Parts) (e : p ≡ q) where
         ap (λ m. first_table m given.new.sources given.new.rule) names ∙ g ∙ ap Ok (ap (λ (x : Parts). x.new) is),
       )
 
-  abbrev after_old : NamedParts → List Definition → Result Parts NoMigration
+  abbrev after_old : NamedParts → List Definition → Result Parts NoAnswer
   after_old n old = or_because (no_table New) (first_table n.names given.new.sources given.new.rule) >>= (λ new. Ok (together n old new))
 
   by_old : (n : NamedParts) → (r : Result (List Definition) NoTable) → first_table n.names given.old.sources given.old.rule ≡ r → (or_because (no_table Old) r >>= after_old n) ≡ Ok p → IsRead
   by_old n (Err why) f h = cc
   by_old n (Ok old) f h = by_new n old f (first_table n.names given.new.sources given.new.rule) refl h
 
-  abbrev after_names : NamedParts → Result Parts NoMigration
+  abbrev after_names : NamedParts → Result Parts NoAnswer
   after_names n = or_because (no_table Old) (first_table n.names given.old.sources given.old.rule) >>= after_old n
 
-  by_names : (r : Result NamedParts NoMigration) → (r >>= after_names) ≡ Ok p → IsRead
+  by_names : (r : Result NamedParts NoAnswer) → (r >>= after_names) ≡ Ok p → IsRead
   by_names (Err why) h = cc
   by_names (Ok n) h = by_old n (first_table n.names given.old.sources given.old.rule) refl h
 

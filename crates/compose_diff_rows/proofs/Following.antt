@@ -21,10 +21,9 @@ use Rattle.compose_fresh.specs.Fresh.{fresh_conditions}
 use Rattle.compose_fresh.specs.Conditions.{first_unmet}
 use Rattle.compose_fresh.specs.declared.fault.CheckFault.{CheckFault}
 use Rattle.compose_fresh.proofs.FreshKeysyms.{are_fresh}
-use Rattle.compose_walk.specs.declared.fault.MakeFault.TheVariants.{BadFresh}
 use Rattle.compose_text.specs.Results.{◌>>=◌}
-use Rattle.compose_migration.specs.Migration.{GivenMigration, Parts}
-use Rattle.compose_answer.specs.Parts.{Explainable, NoAnswer, no_fresh, migration_parts}
+use Rattle.compose_migration.specs.Migration.{GivenMigration, Parts, NoAnswer, no_fresh, migration_of}
+use Rattle.compose_answer.specs.Parts.{Explainable}
 use Rattle.compose_answer.specs.declared.answer.Answer.{Answer}
 use Rattle.compose_answer.specs.declared.answer.Answer.TheVariants.{Yes, No, Invalid, FreshNotAllowed}
 use Rattle.compose_compare.specs.declared.Change.{Change}
@@ -235,10 +234,10 @@ module _ (asked : Asked) (e : Explainable) where
 
 -- what is compared has fresh keysyms
 fresh_of : (given : GivenMigration) (e : Explainable) → compared_parts given ≡ Ok e → AreFresh e.fresh e.move.old
-fresh_of given e h = by_parts (migration_parts given) h
+fresh_of given e h = by_parts (migration_of given) h
   where
     by_fault : (move : Parts) (fresh : List ℕ) (unmet : Option CheckFault) → first_unmet (fresh_conditions move.old fresh) ≡ unmet
-        → (let r : Result Explainable NoAnswer = option_map_or (λ fault. Err (no_fresh (BadFresh fault))) unmet (Ok (record { move = move; fresh = fresh })) in r) ≡ Ok e → AreFresh e.fresh e.move.old
+        → (let r : Result Explainable NoAnswer = option_map_or (λ fault. Err (no_fresh fault)) unmet (Ok (record { move = move; fresh = fresh })) in r) ≡ Ok e → AreFresh e.fresh e.move.old
     by_fault move fresh None met k =
         subst (λ (x : Explainable). AreFresh x.fresh x.move.old) (same_Ok (record { move = move; fresh = fresh }) k) (are_fresh move.old fresh met)
       where

@@ -12,16 +12,12 @@ use Rattle.compose_model.specs.Nodes.{rising}
 use Rattle.compose_fresh.specs.Conditions.{first_unmet}
 use Rattle.compose_fresh.specs.Fresh.{fresh_conditions}
 use Rattle.compose_fresh.specs.declared.fault.CheckFault.{CheckFault}
-use Rattle.compose_walk.specs.declared.fault.MakeFault.TheVariants.{BadFresh}
-use Rattle.compose_migration.specs.Migration.{GivenMigration, Parts, migration_of}
-use Rattle.compose_migration.specs.MigrationReturns.{MigrationRefused}
-use Rattle.compose_migration.specs.declared.fault.MigrationFault.{MigrationFault}
-use Rattle.compose_answer.specs.Parts.{NoAnswer, Explainable, no_fresh, migration_parts}
-use Rattle.compose_answer.specs.Refused.{IsRefused, migration_raised}
+use Rattle.compose_migration.specs.Migration.{GivenMigration, Parts, migration_of, NoAnswer, no_fresh}
+use Rattle.compose_answer.specs.Parts.{Explainable}
+use Rattle.compose_migration.specs.Refused.{IsRefused}
 use Rattle.compose_answer.specs.declared.answer.Answer.{Answer}
-use Rattle.compose_answer.specs.declared.refusal.Refusal.{Refusal}
-use Rattle.compose_answer.specs.declared.refusal.Refusal.TheVariants as refusals
-use Rattle.compose_answer.proofs.Refusals.{migration_refused, unmoved}
+use Rattle.compose_migration.specs.declared.refusal.Refusal.{Refusal}
+use Rattle.compose_migration.proofs.Steps.{step_refused}
 use Rattle.compose_diff.specs.Accepted.{Line, list_lines_from, accepted_of, is_in_form, Returns}
 use Rattle.compose_diff.specs.declared.accepted.AcceptFault.{AcceptFault}
 use Rattle.compose_diff.specs.declared.accepted.AcceptFault.TheVariants.{Stale, BadLine, NoMemory}
@@ -32,27 +28,15 @@ use Rattle.compose_diff_rows.specs.declared.asking.DiffFault.TheVariants.{Input,
 
 -- ---- what is compared
 
--- a refusal of one step is the refusal of the whole
-step_refused : {A B : Type 0} (refusal : Refusal) (r : Result A NoAnswer) (f : A → Result B NoAnswer) → IsRefused refusal r → IsRefused refusal (r >>= f)
-step_refused (refusals.Names fault) r f h = ap (λ r. r >>= f) h
-step_refused (refusals.Key index) r f h = ap (λ r. r >>= f) h
-step_refused (refusals.Table fault) r f h = (h.0, ap (λ r. r >>= f) h.1, h.2)
-step_refused (refusals.Side side fault) r f h = (h.0, ap (λ r. r >>= f) h.1, h.2)
-step_refused (refusals.Repertoire fault) r f h = ap (λ r. r >>= f) h
-step_refused (refusals.Certificate fault) r f h = ap (λ r. r >>= f) h
-step_refused (refusals.Fresh fault) r f h = ap (λ r. r >>= f) h
-step_refused refusals.TooManyFresh r f h = ap (λ r. r >>= f) h
-step_refused refusals.NoMemory r f h = tt
-
 module _ (given : GivenMigration) where
-  -- a fault of the migration is refused as what it is
-  pub unread_refused : (fault : MigrationFault) → MigrationRefused fault (migration_of given) → IsRefused (migration_raised fault) (compared_parts given)
-  unread_refused fault h = step_refused (migration_raised fault) (migration_parts given) compared (migration_refused fault (migration_of given) h)
+  -- a refusal of the migration is that of what is compared
+  pub unread_refused : (refusal : Refusal) → IsRefused refusal (migration_of given) → IsRefused refusal (compared_parts given)
+  unread_refused refusal h = step_refused refusal (migration_of given) compared h
 
   module _ (expected move : Parts) (was : migration_of given ≡ Ok expected) (is : expected ≡ move) where
     -- once the migration is read, what is compared depends on it
     pub after_read : compared_parts given ≡ compared move
-    after_read = ap (λ r. unmoved r >>= compared) was ∙ ap compared is
+    after_read = ap (λ r. r >>= compared) was ∙ ap compared is
 
 -- ---- the fresh keysyms
 
@@ -63,20 +47,20 @@ rising_of keys copied items sorted fresh from same moved in_order is = rising_is
 
 module _ (move : Parts) (fresh seen : List ℕ) (is : fresh ≡ rising nat_cmp move.keys) (same : seen ≡ fresh) where
   abbrev compared_by : List ℕ → List ℕ → Result Explainable NoAnswer
-  compared_by checked kept = option_map_or (λ fault. Err (no_fresh (BadFresh fault))) (first_unmet (fresh_conditions move.old checked)) (Ok (record { move = move; fresh = kept }))
+  compared_by checked kept = option_map_or (λ fault. Err (no_fresh fault)) (first_unmet (fresh_conditions move.old checked)) (Ok (record { move = move; fresh = kept }))
 
   given_fresh : compared move ≡ compared_by seen fresh
   given_fresh = ap (λ (xs : List ℕ). compared_by xs xs) (sym is) ∙ ap (λ (xs : List ℕ). compared_by xs fresh) (sym same)
 
   abbrev by_fault : Option CheckFault → Result Explainable NoAnswer
-  by_fault unmet = option_map_or (λ fault. Err (no_fresh (BadFresh fault))) unmet (Ok (record { move = move; fresh = fresh }))
+  by_fault unmet = option_map_or (λ fault. Err (no_fresh fault)) unmet (Ok (record { move = move; fresh = fresh }))
 
   -- rising keysyms that meet all conditions are compared
   pub fresh_met : None ≡ first_unmet (fresh_conditions move.old seen) → compared move ≡ Ok (record { move = move; fresh = fresh })
   fresh_met h = given_fresh ∙ ap by_fault (sym h)
 
   -- the first condition that they do not meet is the refusal
-  pub fresh_unmet : (fault : CheckFault) → Some fault ≡ first_unmet (fresh_conditions move.old seen) → compared move ≡ Err (no_fresh (BadFresh fault))
+  pub fresh_unmet : (fault : CheckFault) → Some fault ≡ first_unmet (fresh_conditions move.old seen) → compared move ≡ Err (no_fresh fault)
   fresh_unmet fault h = given_fresh ∙ ap by_fault (sym h)
 
 -- ---- the list of intended changes

@@ -8,15 +8,14 @@ use Rattle.keysym_core.specs.Names.{KeysymNames}
 use Rattle.compose_model.specs.Table.{Definition, is_table}
 use Rattle.compose_model.specs.Nodes.{leaves, rising}
 use Rattle.compose_read.specs.Lines.{Source}
-use Rattle.compose_migration.specs.Migration.{GivenMigration, Parts}
-use Rattle.compose_migration.specs.MigrationReturns.{given_of}
+use Rattle.compose_migration.specs.Migration.{GivenMigration, Parts, NoAnswer, no_fresh, migration_of}
+use Rattle.compose_migration.specs.Values.{given_of}
 use Rattle.compose_fresh.specs.Fresh.{fresh_conditions}
 use Rattle.compose_fresh.specs.Conditions.{first_unmet}
-use Rattle.compose_walk.specs.declared.fault.MakeFault.TheVariants.{BadFresh}
 use Rattle.compose_places.specs.Counting.{WrittenLine, counting_line, read_lines}
 use Rattle.compose_places.specs.Overlaps.{overlap_count}
-use Rattle.compose_answer.specs.Parts.{Explainable, NoAnswer, no_fresh, migration_parts}
-use Rattle.compose_answer.specs.Refused.{IsRefused}
+use Rattle.compose_answer.specs.Parts.{Explainable}
+use Rattle.compose_migration.specs.Refused.{IsRefused}
 use Rattle.compose_answer.specs.declared.answer.Answer.{Answer}
 use Rattle.compose_answer.specs.declared.answer.Answer.TheVariants.{Yes, No, Invalid, FreshNotAllowed}
 use Rattle.compose_diff.specs.Accepted.{Line, accepted_of, left_of, accept_lines}
@@ -63,11 +62,11 @@ asked input = record {
 abbrev pub compared : Parts → Result Explainable NoAnswer
 compared move =
     let fresh = rising nat_cmp move.keys in
-    option_map_or (λ fault. Err (no_fresh (BadFresh fault))) (first_unmet (fresh_conditions move.old fresh)) (Ok (record { move = move; fresh = fresh }))
+    option_map_or (λ fault. Err (no_fresh fault)) (first_unmet (fresh_conditions move.old fresh)) (Ok (record { move = move; fresh = fresh }))
 
 abbrev pub compared_parts : GivenMigration → Result Explainable NoAnswer
 compared_parts given = do
-  move ← migration_parts given
+  move ← migration_of given
   compared move
 
 -- both lists of definitions are tables

@@ -6,11 +6,11 @@ use Rattle.compose_model.specs.Certificate.{keys_rise}
 use Rattle.compose_model.specs.Table.{Definition}
 use Rattle.compose_migration.specs.Migration.{Parts, migration_of}
 use Rattle.compose_places.specs.Overlaps.{overlap_count}
-use Rattle.compose_migration.specs.MigrationReturns.{given_of}
+use Rattle.compose_migration.specs.Values.{given_of}
 use Rattle.compose_answer.specs.Parts.{Explainable}
-use Rattle.compose_answer.specs.Refused.{IsRefused}
+use Rattle.compose_migration.specs.Refused.{IsRefused}
 use Rattle.compose_answer.specs.declared.answer.Answer.{Answer}
-use Rattle.compose_answer.specs.declared.refusal.Refusal.TheVariants as refusals
+use Rattle.compose_migration.specs.declared.refusal.Refusal.TheVariants as refusals
 use Rattle.compose_diff.specs.Accepted.{Line, left_of}
 use Rattle.compose_diff.specs.declared.accepted.AcceptFault.{AcceptFault}
 use Rattle.compose_diff.specs.declared.accepted.AcceptFault.TheVariants.{Stale, BadLine, NoMemory}

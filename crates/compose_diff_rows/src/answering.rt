@@ -48,7 +48,7 @@ pub fn diff_migration<T: ComposeTable>(
 {
     match PlacedMigration::<T>::read(alloc, &input.tables) {
         Ok(migration) => diff_tables(alloc, input, &migration),
-        Err(fault) => Err(DiffFault::Input(Refusal::from(fault))),
+        Err(refusal) => Err(DiffFault::Input(refusal)),
     }
 }
 

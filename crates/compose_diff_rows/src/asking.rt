@@ -77,7 +77,7 @@ impl From<AcceptFault> for DiffFault {
 
 impl From<AllocError> for DiffFault {
     ghost use Rattle.std.specs.Prelude.{◌≡◌};
-    ghost use Rattle.compose_answer.specs.declared.refusal.Refusal.TheVariants.{NoMemory};
+    ghost use Rattle.compose_migration.specs.declared.refusal.Refusal.TheVariants.{NoMemory};
     ghost use Rattle.compose_diff_rows.specs.declared.asking.DiffFault.TheVariants.{Input};
 
     ghost from_gives = { λ _ e. e ≡ Input NoMemory };
@@ -89,7 +89,7 @@ impl From<AllocError> for DiffFault {
 
 impl<T: Drop> From<AllocFailed<T>> for DiffFault {
     ghost use Rattle.std.specs.Prelude.{◌≡◌};
-    ghost use Rattle.compose_answer.specs.declared.refusal.Refusal.TheVariants.{NoMemory};
+    ghost use Rattle.compose_migration.specs.declared.refusal.Refusal.TheVariants.{NoMemory};
     ghost use Rattle.compose_diff_rows.specs.declared.asking.DiffFault.TheVariants.{Input};
 
     ghost from_gives = { λ _ e. e ≡ Input NoMemory };

@@ -2,14 +2,15 @@
 ghost use Rattle.std.specs.Prelude.{◌≡◌, map, IfOk};
 ghost use Rattle.compose_model.specs.Nodes.{leaves};
 ghost use Rattle.compose_migration.specs.Migration.{no_table, or_because, migration_of};
-ghost use Rattle.compose_migration.specs.MigrationReturns.{MigrationReturns, given_of};
+ghost use Rattle.compose_migration.specs.Refused.{Returns};
+ghost use Rattle.compose_migration.specs.Values.{given_of};
 ghost use Rattle.compose_places.specs.Counting.{counting_line, read_lines};
 ghost use Rattle.compose_places.specs.Overlaps.{overlap_count};
 ghost use Rattle.compose_tree.specs.TableReturns.{TableReturns, first_table};
 ghost use Rattle.compose_diff_rows.specs.Answers.{root_of};
 ghost use Rattle.compose_diff_rows.specs.Steps.{placed_parts};
 
-use compose_migration::{MigrationFault, MigrationInput, Named, Side, TableInput};
+use compose_migration::{MigrationInput, Named, Refusal, Side, TableInput};
 use compose_model::Rule;
 use compose_places::{PlacedTable, read_placed_table};
 use compose_read::{ReadFault, Sources};
@@ -33,8 +34,8 @@ impl<'a, T: ComposeTable> PlacedMigration<'a, T> {
     pub(crate) fn read(
         alloc: Global,
         input: &MigrationInput<'a, '_>,
-    ) -> Result<PlacedMigration<'a, T>, MigrationFault>
-        ensures parts { MigrationReturns (λ expected read. expected ≡ placed_parts T.definitions read) result
+    ) -> Result<PlacedMigration<'a, T>, Refusal>
+        ensures parts { Returns (λ expected read. expected ≡ placed_parts T.definitions read) result
             (migration_of (given_of input.now)) }
         ensures old_lines { IfOk result
             (λ read. read.old.lines.items
@@ -76,8 +77,8 @@ fn read_side<'a, T: ComposeTable>(
     names: &Names,
     side: Side,
     input: &TableInput<'a>,
-) -> Result<PlacedTable<'a, T>, MigrationFault>
-    ensures table { MigrationReturns (λ expected placed. expected ≡ T.definitions placed.table) result
+) -> Result<PlacedTable<'a, T>, Refusal>
+    ensures table { Returns (λ expected placed. expected ≡ T.definitions placed.table) result
         (or_because (no_table side) (first_table names.now input.now.sources.now input.now.rule)) }
     ensures lines { IfOk result
         (λ placed. placed.lines.items
@@ -91,8 +92,8 @@ fn read_side<'a, T: ComposeTable>(
 {
     match read_first(alloc, names, input.sources, input.rule) {
         Ok(placed) => Ok(placed),
-        Err(TableFault::NoMemory) => Err(MigrationFault::NoMemory),
-        Err(fault) => Err(MigrationFault::Table { side, fault }),
+        Err(TableFault::NoMemory) => Err(Refusal::NoMemory),
+        Err(fault) => Err(Refusal::Side { side, fault }),
     }
 }
 

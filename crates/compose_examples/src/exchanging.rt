@@ -1,6 +1,6 @@
 //! Exchanges with a service whose replies are written out: what a client sends, and what it then
 //! prints.
-ghost use Rattle.std.specs.Prelude.{None};
+ghost use Rattle.std.specs.Prelude.{None, ⊤};
 
 use crate::helpers::{core, expect_text};
 use arrayvec::{ArrayString, ArrayVec};
@@ -36,6 +36,8 @@ struct Script {
 
 impl Peer for Script {
     ghost turns = { λ _. None };
+
+    ghost gives = { λ _ _ _. ⊤ };
 
     fn ask(&mut self, _alloc: Global, request: &Request) -> Result<Option<Reply>, Fault> {
         push_request(&mut self.asked, request)?;

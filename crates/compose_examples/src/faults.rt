@@ -3,7 +3,7 @@
 use crate::tables::{core, table};
 use compose_cert::{CertFault, RepertoireFault};
 use compose_check::{CheckFault, InputFault, check_fresh};
-use compose_migration::{KeyFault, MigrationFault, Side};
+use compose_migration::{Refusal, Side};
 use compose_read::{ReadFault, SettleFault, SourceFault};
 use compose_tool::TypeFault;
 use compose_tree::{BuildFault, ComposeTable, ListTable, PackedTable, TableFault};
@@ -114,30 +114,47 @@ fn faults_of_inputs(rt: HostRuntime) -> Result<(), Fail> {
 }
 
 #[test]
-fn faults_of_migrations(rt: HostRuntime) -> Result<(), Fail> {
-    let faults = [
+fn refusals(rt: HostRuntime) -> Result<(), Fail> {
+    let refusals = [
         (
-            MigrationFault::Names(NameFault::TooManyNames),
-            "1 Names: 5 TooManyNames",
+            Refusal::Names(NameFault::TooManyNames),
+            "refused: names: 5 TooManyNames",
         ),
-        (MigrationFault::Key { index: 3 }, "2 Key index=3"),
+        (Refusal::Key { index: 3 }, "refused: key: word 3"),
         (
-            MigrationFault::Table {
+            Refusal::Table(TableFault::Read(ReadFault::MissingRoot)),
+            "refused: table: 1 Read: 1 MissingRoot",
+        ),
+        (
+            Refusal::Side {
                 side: Side::Old,
                 fault: TableFault::Read(ReadFault::MissingRoot),
             },
-            "3 Table side=old: 1 Read: 1 MissingRoot",
+            "refused: old: 1 Read: 1 MissingRoot",
         ),
         (
-            MigrationFault::Table {
+            Refusal::Side {
                 side: Side::New,
                 fault: TableFault::Build(BuildFault::TooManyNodes),
             },
-            "3 Table side=new: 3 Build: 1 TooManyNodes",
+            "refused: new: 3 Build: 1 TooManyNodes",
         ),
-        (MigrationFault::NoMemory, "4 NoMemory"),
+        (
+            Refusal::Repertoire(RepertoireFault::TooMany),
+            "refused: repertoire: 3 TooMany",
+        ),
+        (
+            Refusal::Certificate(CertFault::TooLarge),
+            "refused: certificate: 2 TooLarge",
+        ),
+        (
+            Refusal::Fresh(CheckFault::FreshNotRising),
+            "refused: fresh: 13 FreshNotRising",
+        ),
+        (Refusal::TooManyFresh, "refused: fresh: 3 TooManyFresh"),
+        (Refusal::NoMemory, "out of memory"),
     ];
-    assert_eq!(rt; first_wrong(rt.alloc(), &faults)?, None);
+    assert_eq!(rt; first_wrong(rt.alloc(), &refusals)?, None);
     Ok(())
 }
 
@@ -150,10 +167,6 @@ fn faults_of_typing_words_and_making(rt: HostRuntime) -> Result<(), Fail> {
         ),
         (TypeFault::NoMemory, "2 NoMemory"),
     ];
-    let key_names = [
-        (KeyFault::Unknown { index: 3 }, "1 Unknown index=3"),
-        (KeyFault::NoMemory, "2 NoMemory"),
-    ];
     let making = [
         (MakeFault::NoMemory, "1 NoMemory"),
         (
@@ -163,7 +176,6 @@ fn faults_of_typing_words_and_making(rt: HostRuntime) -> Result<(), Fail> {
         (MakeFault::TooManyFresh, "3 TooManyFresh"),
     ];
     assert_eq!(rt; first_wrong(rt.alloc(), &typing)?, None);
-    assert_eq!(rt; first_wrong(rt.alloc(), &key_names)?, None);
     assert_eq!(rt; first_wrong(rt.alloc(), &making)?, None);
     Ok(())
 }

@@ -3,7 +3,7 @@
 //! Most functions here call one function of the libraries, whose contract then stays out of the
 //! proofs of those that call these.
 use compose_cert::{CertFault, Certificate, Repertoire, RepertoireFault};
-use compose_migration::{KeyFault, look_up_keys};
+use compose_migration::{Refusal, look_up_keys};
 use compose_model::Rule;
 use compose_read::Sources;
 use compose_tree::{ComposeTable, TableFault, read_table};
@@ -89,7 +89,7 @@ pub fn fresh_of(alloc: Global, names: &Names, key_name: &str) -> Result<Vec<Keys
     Ok(keys_of(alloc, names, &[key_name])?)
 }
 
-fn keys_of(alloc: Global, names: &Names, key_names: &[&str]) -> Result<Vec<Keysym>, KeyFault> {
+fn keys_of(alloc: Global, names: &Names, key_names: &[&str]) -> Result<Vec<Keysym>, Refusal> {
     look_up_keys(alloc, names, key_names)
 }
 

@@ -48,7 +48,7 @@ pub struct LocaleTable {
 impl TableFiles {
     ghost use Rattle.compose_input.specs.Faults.{FailsListed, FailsFound};
     ghost use Rattle.compose_input.specs.Tables.{IsListed, IsFoundOnSystem, sources_of};
-    ghost use Rattle.compose_migration.specs.MigrationReturns.{table_given};
+    ghost use Rattle.compose_migration.specs.Values.{table_given};
 
     /// Reads a manifest and the files that it lists. A fault of a source names this part. O(bytes).
     ///

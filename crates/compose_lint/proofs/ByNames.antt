@@ -4,7 +4,7 @@ use Rattle.std.specs.Prelude.{Result, Ok, Err, IfOk}
 use Rattle.keysym_core.specs.Names.{KeysymNames}
 use Rattle.keysym_core.specs.Header.{names_of}
 use Rattle.compose_answer.specs.declared.answer.Answer.{Answer}
-use Rattle.compose_answer.specs.declared.refusal.Refusal.TheVariants.{Names, Key, Table as TableRefused, Side, Repertoire, Certificate, Fresh, TooManyFresh, NoMemory}
+use Rattle.compose_migration.specs.declared.refusal.Refusal.TheVariants.{Names, Key, Table as TableRefused, Side, Repertoire, Certificate, Fresh, TooManyFresh, NoMemory}
 use Rattle.compose_lint.specs.Answers.{Asked, AnswersBy, AnswersLint}
 use Rattle.compose_lint.specs.declared.asking.LintFault.{LintFault}
 use Rattle.compose_lint.specs.declared.asking.LintFault.TheVariants.{Input, Accept}

@@ -5,7 +5,7 @@ use Rattle.keysym_core.specs.Names.{KeysymNames}
 use Rattle.keysym_core.specs.Header.{names_of}
 use Rattle.compose_answer.specs.declared.answer.Answer.{Answer}
 use Rattle.compose_answer.specs.declared.answer.Answer.TheVariants.{Yes, No, Invalid, FreshNotAllowed}
-use Rattle.compose_answer.specs.declared.refusal.Refusal.TheVariants.{Names, NoMemory as RefusalNoMemory}
+use Rattle.compose_migration.specs.declared.refusal.Refusal.TheVariants.{Names, NoMemory as RefusalNoMemory}
 use Rattle.compose_diff.specs.Accepted.{Line}
 use Rattle.compose_diff.specs.declared.accepted.AcceptFault.TheVariants.{Stale, BadLine, NoMemory}
 use Rattle.compose_lint.specs.Rows.{Table, Row, rows_in}

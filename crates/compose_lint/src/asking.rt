@@ -72,7 +72,7 @@ impl From<AcceptFault> for LintFault {
 
 impl From<AllocError> for LintFault {
     ghost use Rattle.std.specs.Prelude.{◌≡◌};
-    ghost use Rattle.compose_answer.specs.declared.refusal.Refusal.TheVariants.{NoMemory};
+    ghost use Rattle.compose_migration.specs.declared.refusal.Refusal.TheVariants.{NoMemory};
     ghost use Rattle.compose_lint.specs.declared.asking.LintFault.TheVariants.{Input};
 
     ghost from_gives = { λ _ e. e ≡ Input NoMemory };
@@ -84,7 +84,7 @@ impl From<AllocError> for LintFault {
 
 impl<T: Drop> From<AllocFailed<T>> for LintFault {
     ghost use Rattle.std.specs.Prelude.{◌≡◌};
-    ghost use Rattle.compose_answer.specs.declared.refusal.Refusal.TheVariants.{NoMemory};
+    ghost use Rattle.compose_migration.specs.declared.refusal.Refusal.TheVariants.{NoMemory};
     ghost use Rattle.compose_lint.specs.declared.asking.LintFault.TheVariants.{Input};
 
     ghost from_gives = { λ _ e. e ≡ Input NoMemory };

@@ -4,34 +4,17 @@ use Rattle.std.specs.Prelude.{Result, Ok, Err}
 use Rattle.compose_text.specs.Results.{◌>>=◌}
 use Rattle.compose_model.specs.Certificate.{Repertoire}
 use Rattle.compose_cert.specs.Repertoire.{repertoire_of}
-use Rattle.compose_migration.specs.Migration.{TableSources, or_because}
-use Rattle.compose_check.specs.Input.{no_repertoire}
-use Rattle.compose_answer.specs.Parts.{NoAnswer, TypedParts, type_parts, unread}
-use Rattle.compose_answer.specs.Refused.{IsRefused}
-use Rattle.compose_answer.specs.declared.refusal.Refusal.{Refusal}
-use Rattle.compose_answer.specs.declared.refusal.Refusal.TheVariants as refusals
-use Rattle.compose_tool.proofs.Steps.{IsRead}
+use Rattle.compose_migration.specs.Migration.{TableSources, or_because, NoAnswer, no_repertoire}
+use Rattle.compose_answer.specs.Parts.{TypedParts, type_parts}
+use Rattle.compose_migration.specs.Refused.{IsRefused}
+use Rattle.compose_migration.specs.declared.refusal.Refusal.{Refusal}
+use Rattle.compose_migration.proofs.Steps.{IsRead, is_read, step_refused}
 use Rattle.compose_listing.specs.Answers.{HowParts, given_repertoire, how_parts}
-
-is_read : {A : Type 0} (expected : Result A NoAnswer) (x : A) → IsRead expected x → expected ≡ Ok x
-is_read expected x h = h.1 ∙ ap (λ a. Ok a) h.2
-
--- a refusal of one step is the refusal of the whole
-step_refused : {A B : Type 0} (refusal : Refusal) (r : Result A NoAnswer) (f : A → Result B NoAnswer) → IsRefused refusal r → IsRefused refusal (r >>= f)
-step_refused (refusals.Names fault) r f h = ap (λ r. r >>= f) h
-step_refused (refusals.Key index) r f h = ap (λ r. r >>= f) h
-step_refused (refusals.Table fault) r f h = (h.0, ap (λ r. r >>= f) h.1, h.2)
-step_refused (refusals.Side side fault) r f h = (h.0, ap (λ r. r >>= f) h.1, h.2)
-step_refused (refusals.Repertoire fault) r f h = ap (λ r. r >>= f) h
-step_refused (refusals.Certificate fault) r f h = ap (λ r. r >>= f) h
-step_refused (refusals.Fresh fault) r f h = ap (λ r. r >>= f) h
-step_refused refusals.TooManyFresh r f h = ap (λ r. r >>= f) h
-step_refused refusals.NoMemory r f h = tt
 
 -- a repertoire that is given
 module _ (bytes : List ℕ) where
   abbrev pub read_from : Result Repertoire NoAnswer
-  read_from = or_because (λ why. unread (no_repertoire why)) (repertoire_of bytes)
+  read_from = or_because no_repertoire (repertoire_of bytes)
 
   pub given_refused : (refusal : Refusal) → IsRefused refusal read_from → IsRefused refusal (given_repertoire (Some bytes))
   given_refused refusal h = step_refused refusal read_from (λ r. Ok (Some r)) h

@@ -7,9 +7,8 @@ use Rattle.compose_model.specs.Certificate.{Repertoire}
 use Rattle.compose_cert.specs.Repertoire.{repertoire_of}
 use Rattle.compose_read.specs.Lines.{Source, Visit}
 use Rattle.compose_places.specs.Counting.{read_lines}
-use Rattle.compose_migration.specs.Migration.{TableSources, or_because}
-use Rattle.compose_check.specs.Input.{no_repertoire}
-use Rattle.compose_answer.specs.Parts.{NoAnswer, TypedParts, type_parts, unread}
+use Rattle.compose_migration.specs.Migration.{TableSources, or_because, NoAnswer, no_repertoire}
+use Rattle.compose_answer.specs.Parts.{TypedParts, type_parts}
 use Rattle.compose_answer.specs.declared.answer.Answer.{Answer}
 use Rattle.compose_answer.specs.declared.answer.Answer.TheVariants.{Yes, No, Invalid, FreshNotAllowed}
 use Rattle.compose_lookup.specs.Lookup.{giving, shortest_first}
@@ -61,7 +60,7 @@ pub record HowParts : Type 0 where
 
 abbrev pub given_repertoire : Option (List ℕ) → Result (Option Repertoire) NoAnswer
 given_repertoire None = Ok None
-given_repertoire (Some bytes) = or_because (λ why. unread (no_repertoire why)) (repertoire_of bytes) >>= (λ r. Ok (Some r))
+given_repertoire (Some bytes) = or_because no_repertoire (repertoire_of bytes) >>= (λ r. Ok (Some r))
 
 -- they are read in the order names, table, repertoire
 abbrev pub how_parts : List ℕ → TableSources → Option (List ℕ) → Result HowParts NoAnswer

@@ -3,8 +3,8 @@ ghost use Rattle.std.specs.Prelude.{◌≡◌, ◌++◌, length, nat_lt, ℕ, Li
 ghost use Rattle.compose_model.specs.Nodes.{leaves};
 ghost use Rattle.compose_read.specs.Lines.{Visit};
 ghost use Rattle.compose_places.specs.Counting.{counting_line, AreLines};
-ghost use Rattle.compose_migration.specs.MigrationReturns.{table_given};
-ghost use Rattle.compose_answer.specs.Refused.{Returns};
+ghost use Rattle.compose_migration.specs.Values.{table_given};
+ghost use Rattle.compose_migration.specs.Refused.{Returns};
 ghost use Rattle.compose_lookup.specs.TextIndex.{is_among, IsTextIndex};
 ghost use Rattle.compose_listing.specs.Answers as words;
 ghost use Rattle.compose_listing.specs.Answers.{AreWays, given_repertoire, how_parts, is_given, ways};
@@ -12,11 +12,11 @@ ghost use Rattle.compose_listing.specs.Answers.{AreWays, given_repertoire, how_p
 use crate::chosen::typable_leaves;
 use crate::form::ListForm;
 use crate::listed::{ListedTable, push_leaves};
-use crate::read::{read_names, read_placed, read_repertoire};
+use crate::read::read_placed;
 use compose_answer::Refusal;
 use compose_cert::Repertoire;
 use compose_lookup::TextIndex;
-use compose_migration::TableInput;
+use compose_migration::{Named, TableInput, read_repertoire};
 use compose_places::PlacedTable;
 use compose_tree::{ComposeTable, LeafId};
 use std::alloc::{AllocError, Global};
@@ -65,7 +65,7 @@ pub fn how_to_type<T: ComposeTable>(
         (how_parts header.now (table_given table.entry.now)
         (option_copied wanted.entry.repertoire)) }
 {
-    let named = read_names(alloc, header, &[])?;
+    let named = Named::read(alloc, header, &[])?;
     let placed: PlacedTable<'_, T> = read_placed(alloc, &named.names, table)?;
     let repertoire = read_given(alloc, wanted.repertoire)?;
     let index = TextIndex::of_texts(alloc, &placed.table, wanted.texts)?;

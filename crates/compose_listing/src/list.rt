@@ -3,18 +3,18 @@ ghost use Rattle.std.specs.Prelude.{◌≡◌, ℕ, List, map, option_copied, If
 ghost use Rattle.compose_model.specs.Nodes.{leaves};
 ghost use Rattle.compose_read.specs.Lines.{Visit};
 ghost use Rattle.compose_places.specs.Counting.{counting_line, AreLines};
-ghost use Rattle.compose_migration.specs.MigrationReturns.{table_given};
+ghost use Rattle.compose_migration.specs.Values.{table_given};
 ghost use Rattle.compose_answer.specs.Parts.{type_parts};
-ghost use Rattle.compose_answer.specs.Refused.{Returns};
+ghost use Rattle.compose_migration.specs.Refused.{Returns};
 ghost use Rattle.compose_listing.specs.Answers.{IsListed, IsListing};
 
 use crate::chosen::chosen_leaves;
 use crate::form::{ListForm, ListOrder};
 use crate::listed::{ListedTable, push_leaves};
 use crate::order::put_in_order;
-use crate::read::{read_names, read_placed};
+use crate::read::read_placed;
 use compose_answer::{Answer, Refusal};
-use compose_migration::TableInput;
+use compose_migration::{Named, TableInput};
 use compose_places::PlacedTable;
 use compose_tree::ComposeTable;
 use keysym_core::Keysym;
@@ -53,7 +53,7 @@ pub fn list_table<T: ComposeTable>(
         (type_parts header.now (map (λ key. key.now) wanted.entry.prefix.now)
         (table_given table.entry.now)) }
 {
-    let named = read_names(alloc, header, wanted.prefix)?;
+    let named = Named::read(alloc, header, wanted.prefix)?;
     let placed: PlacedTable<'_, T> = read_placed(alloc, &named.names, table)?;
     let listed = ListedTable {
         names: &named.names,

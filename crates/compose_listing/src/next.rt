@@ -3,19 +3,19 @@ ghost use Rattle.std.specs.Prelude.{◌≡◌, ◌<◌, ◌++◌, ◌∷◌, ℕ
 ghost use Rattle.keysym_core.specs.Printed.{printed};
 ghost use Rattle.compose_model.specs.Nodes as nodes_words;
 ghost use Rattle.compose_model.specs.Nodes.{nodes, edges};
-ghost use Rattle.compose_migration.specs.MigrationReturns.{table_given};
+ghost use Rattle.compose_migration.specs.Values.{table_given};
 ghost use Rattle.compose_answer.specs.Parts.{type_parts};
-ghost use Rattle.compose_answer.specs.Refused.{Returns};
+ghost use Rattle.compose_migration.specs.Refused.{Returns};
 ghost use Rattle.compose_listing.specs.Answers.{IsNext};
 ghost use Rattle.compose_listing.specs.Next as words;
 
 use crate::form::ListForm;
 use crate::json::push_json_string;
 use crate::line::push_result;
-use crate::read::{read_names, read_placed};
+use crate::read::read_placed;
 use compose_answer::{Answer, Refusal};
 use compose_lookup::{sequences_after, text_of};
-use compose_migration::TableInput;
+use compose_migration::{Named, TableInput};
 use compose_places::PlacedTable;
 use compose_tree::{ComposeTable, NodeId, Target};
 use keysym_core::{Keysym, Names};
@@ -38,7 +38,7 @@ pub fn list_next<T: ComposeTable>(
     ensures { Returns (IsNext form) result
         (type_parts header.now (map (λ key. key.now) prefix.now) (table_given table.entry.now)) }
 {
-    let named = read_names(alloc, header, prefix)?;
+    let named = Named::read(alloc, header, prefix)?;
     let placed: PlacedTable<'_, T> = read_placed(alloc, &named.names, table)?;
     let lines = next_lines(alloc, &named.names, &placed.table, &named.keys, form)?;
     Ok(Answer::Yes(lines))

@@ -1,48 +1,20 @@
-//! The input of `list` and `how`, read part by part.
+//! The table of `list` and `how`, with the lines that count.
 ghost use Rattle.std.specs.Prelude.{◌≡◌, map, IfOk};
 ghost use Rattle.compose_model.specs.Nodes.{leaves};
 ghost use Rattle.compose_places.specs.Counting.{counting_line, read_lines, AreLines};
 ghost use Rattle.compose_tree.specs.TableReturns.{TableReturns, first_table};
-ghost use Rattle.compose_cert.specs.Repertoire.{repertoire_of};
-ghost use Rattle.compose_check.specs.Input.{no_repertoire};
-ghost use Rattle.compose_migration.specs.Migration.{or_because};
-ghost use Rattle.compose_migration.specs.MigrationReturns.{named_parts};
-ghost use Rattle.compose_answer.specs.Parts.{given_key_names, no_only_table, unread};
-ghost use Rattle.compose_answer.specs.Refused.{Returns};
+ghost use Rattle.compose_migration.specs.Migration.{or_because, no_only_table};
+ghost use Rattle.compose_migration.specs.Refused.{Returns};
 ghost use Rattle.compose_listing.specs.Answers.{root_of};
 
 use compose_answer::Refusal;
-use compose_cert::{Repertoire, RepertoireFault};
-use compose_migration::{Named, TableInput};
+use compose_migration::TableInput;
 use compose_model::Rule;
 use compose_places::{PlacedTable, read_placed_table};
 use compose_read::{ReadFault, Sources};
 use compose_tree::{ComposeTable, TableFault};
 use keysym_core::Names;
 use std::alloc::Global;
-
-/// Reads the names of a header, and the keysyms of key names.
-pub(crate) fn read_names(alloc: Global, header: &[u8], key_names: &[&str]) -> Result<Named, Refusal>
-    ensures { Returns (λ expected read. expected ≡ named_parts read) result
-        (given_key_names header.now (map (λ name. name.now) key_names.now)) }
-{
-    match Named::read(alloc, header, key_names) {
-        Ok(named) => Ok(named),
-        Err(fault) => Err(Refusal::from(fault)),
-    }
-}
-
-/// Reads the characters that people need, and the keys that they have.
-pub(crate) fn read_repertoire(alloc: Global, bytes: &[u8]) -> Result<Repertoire, Refusal>
-    ensures { Returns (λ expected repertoire. expected ≡ repertoire) result
-        (or_because (λ why. unread (no_repertoire why)) (repertoire_of bytes.now)) }
-{
-    match Repertoire::read(alloc, bytes) {
-        Ok(repertoire) => Ok(repertoire),
-        Err(RepertoireFault::NoMemory) => Err(Refusal::NoMemory),
-        Err(fault) => Err(Refusal::Repertoire(fault)),
-    }
-}
 
 /// Reads the one table that is given, and the lines that count for its sequences; the keys of these
 /// lines are the sequences.

@@ -137,7 +137,7 @@ nobodys s (o ∷ owners) none h =
     let no : Some o.session ≡ None = sym (ap (λ (b : Bool). cond b (Some o.session) (first_own o.connection owners)) (eq-eqb o.connection o.connection refl)) ∙ none o.connection in
     absurd (cc)
 
--- where each connection ended with its sessions, or nothing happened on it, no session is open but those that were before
+-- if each connection ended with its sessions, or nothing happened on it, no session is open but those that were before
 pub no_session_stays : NoSessionStays
 no_session_stays reading first now all h ended n some =
     elim (stays_owned n (IsSome (session_of first.sessions n)) reading now all first [] h (λ p. inl p) some) [

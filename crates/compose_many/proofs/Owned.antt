@@ -15,7 +15,7 @@ not_own true x r h = absurd (cc)
 not_own false x r h = (refl, h)
 
 module _ (c : ℕ) where
-  -- where the connection owns none, it owns none of fewer sessions
+  -- if the connection owns none, it owns none of fewer sessions
   none_without : (n : ℕ) (owners : List Owner) → first_own c owners ≡ None → first_own c (without n owners) ≡ None
   none_without n [] h = refl
   none_without n (o ∷ owners) h =

@@ -9,9 +9,8 @@ use Rattle.compose_tree.specs.TableReturns.{NoTable, IsReadFault, TableReturns}
 use Rattle.compose_tree.specs.declared.reading.TableFault.{TableFault}
 use Rattle.compose_tree.specs.declared.reading.TableFault.TheVariants as table_faults
 use Rattle.compose_tree.specs.declared.table.BuildFault.TheVariants as build_faults
-use Rattle.compose_migration.specs.declared.fault.Side.{Side}
-use Rattle.compose_migration.specs.Migration.{no_table, or_because}
-use Rattle.compose_migration.specs.MigrationReturns.{TableFails}
+use Rattle.compose_migration.specs.Migration.{NoAnswer, or_because}
+use Rattle.compose_migration.specs.Refused.{TableFails}
 
 read_at_all : (fault : ReadFault) (table : List Definition) → IsReadFault fault (Ok table) → ⊥
 read_at_all read_faults.MissingRoot table h = cc
@@ -39,7 +38,7 @@ pub why_none : (fault : TableFault) (expected : Result (List Definition) NoTable
 why_none fault (Ok table) h = absurd (is_read fault table h)
 why_none fault (Err why) h = (why, refl, h)
 
--- the same for a side
-pub side_refused : (side : Side) (fault : TableFault) (expected : Result (List Definition) NoTable) → TableFails fault expected
-    → (why : NoTable) × (or_because (no_table side) expected ≡ Err (no_table side why)) × TableFails fault (Err why)
-side_refused side fault expected h = let none = why_none fault expected h in (none.0, ap (or_because (no_table side)) none.1, none.2)
+-- the same for a part that is a table
+pub table_refused : (of : NoTable → NoAnswer) (fault : TableFault) (expected : Result (List Definition) NoTable) → TableFails fault expected
+    → (why : NoTable) × (or_because of expected ≡ Err (of why)) × TableFails fault (Err why)
+table_refused of fault expected h = let none = why_none fault expected h in (none.0, ap (or_because of) none.1, none.2)

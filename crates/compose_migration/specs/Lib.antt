@@ -1,3 +1,4 @@
 pub mod Keys
 pub mod Migration
-pub mod MigrationReturns
+pub mod Values
+pub mod Refused

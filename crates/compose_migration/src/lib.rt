@@ -1,7 +1,8 @@
 //! Reads a migration, that is, a move from an old compose table to a new one: the keysym names, the
 //! keysyms of the arguments, and both tables, each read once. The checker and the crates that
-//! explain differences and make certificates start from it. The first fault in that order is the
-//! error, and names its part.
+//! explain differences and make certificates start from it. The first part in that order that has a
+//! fault is refused. The other parts of a command's input are read here too, since a [`Refusal`]
+//! names the first part that is refused.
 //!
 //! ```text
 //! let migration: Migration<PackedTable> = Migration::read(alloc, &input)?;
@@ -9,10 +10,12 @@
 //! ```
 #![tactic(auto)]
 
-mod fault;
 mod keys;
 mod migration;
+mod parts;
+mod refusal;
 
-pub use fault::{MigrationFault, Side};
-pub use keys::{KeyFault, look_up_keys};
+pub use keys::look_up_keys;
 pub use migration::{Migration, MigrationInput, Named, TableInput};
+pub use parts::{read_certificate, read_only_table, read_repertoire};
+pub use refusal::{Refusal, Side};

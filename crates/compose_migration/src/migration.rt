@@ -2,12 +2,12 @@
 ghost use Rattle.std.specs.Prelude.{◌≡◌, map};
 ghost use Rattle.keysym_core.specs.Header.{names_of};
 ghost use Rattle.compose_tree.specs.TableReturns.{first_table};
-ghost use Rattle.compose_migration.specs.Keys.{keys_of};
-ghost use Rattle.compose_migration.specs.Migration.{no_names, no_key, no_table, or_because, named, migration_of};
-ghost use Rattle.compose_migration.specs.MigrationReturns.{MigrationReturns, given_of, named_parts, parts};
+ghost use Rattle.compose_migration.specs.Migration.{no_names, no_table, or_because, named, migration_of};
+ghost use Rattle.compose_migration.specs.Refused.{Returns};
+ghost use Rattle.compose_migration.specs.Values.{given_of, named_parts, parts};
 
-use crate::fault::{MigrationFault, Side};
-use crate::keys::{KeyFault, look_up_keys};
+use crate::keys::look_up_keys;
+use crate::refusal::{Refusal, Side};
 use compose_model::Rule;
 use compose_read::Sources;
 use compose_tree::{ComposeTable, TableFault, read_first_table};
@@ -51,12 +51,12 @@ impl Named {
     ///
     /// Errors: `Names` for a fault of the header, or else `Key` for the first key name that names
     /// no keysym; or `NoMemory`.
-    pub fn read(alloc: Global, header: &[u8], key_names: &[&str]) -> Result<Named, MigrationFault>
-        ensures { MigrationReturns (λ expected read. expected ≡ named_parts read) result
+    pub fn read(alloc: Global, header: &[u8], key_names: &[&str]) -> Result<Named, Refusal>
+        ensures { Returns (λ expected read. expected ≡ named_parts read) result
             (named header.now (map (λ key_name. key_name.now) key_names.now)) }
     {
         let names = read_names(alloc, header)?;
-        let keys = read_keys(alloc, &names, key_names)?;
+        let keys = look_up_keys(alloc, &names, key_names)?;
         Ok(Named { names, keys })
     }
 }
@@ -78,13 +78,10 @@ impl<T: ComposeTable> Migration<T> {
     /// Reads the names, the keysyms of the key names, the old table and the new one, in this order.
     /// O(b + n log n) in the bytes of everything and the definitions of a table.
     ///
-    /// Errors: the first of `Names`, `Key`, and `Table` for the old and then the new table; or
+    /// Errors: the first of `Names`, `Key`, and `Side` for the old and then the new table; or
     /// `NoMemory`.
-    pub fn read(
-        alloc: Global,
-        input: &MigrationInput<'_, '_>,
-    ) -> Result<Migration<T>, MigrationFault>
-        ensures { MigrationReturns (λ expected read. expected ≡ parts T.definitions read) result
+    pub fn read(alloc: Global, input: &MigrationInput<'_, '_>) -> Result<Migration<T>, Refusal>
+        ensures { Returns (λ expected read. expected ≡ parts T.definitions read) result
             (migration_of (given_of input.entry.now)) }
     {
         let named = Named::read(alloc, input.header, input.key_names)?;
@@ -100,30 +97,14 @@ impl<T: ComposeTable> Migration<T> {
 }
 
 /// Reads the names of a header.
-fn read_names(alloc: Global, header: &[u8]) -> Result<Names, MigrationFault>
-    ensures { MigrationReturns (λ expected names. expected ≡ names) result
+fn read_names(alloc: Global, header: &[u8]) -> Result<Names, Refusal>
+    ensures { Returns (λ expected names. expected ≡ names) result
         (or_because no_names (names_of header.now)) }
 {
     match Names::read(alloc, header) {
         Ok(names) => Ok(names),
-        Err(NameFault::NoMemory) => Err(MigrationFault::NoMemory),
-        Err(fault) => Err(MigrationFault::Names(fault)),
-    }
-}
-
-/// Looks up the keysyms of key names.
-fn read_keys(
-    alloc: Global,
-    names: &Names,
-    key_names: &[&str],
-) -> Result<Vec<Keysym>, MigrationFault>
-    ensures { MigrationReturns (λ expected keys. expected ≡ keys.items) result
-        (or_because no_key (keys_of names.now (map (λ key_name. key_name.now) key_names.now))) }
-{
-    match look_up_keys(alloc, names, key_names) {
-        Ok(keys) => Ok(keys),
-        Err(KeyFault::Unknown { index }) => Err(MigrationFault::Key { index }),
-        Err(KeyFault::NoMemory) => Err(MigrationFault::NoMemory),
+        Err(NameFault::NoMemory) => Err(Refusal::NoMemory),
+        Err(fault) => Err(Refusal::Names(fault)),
     }
 }
 
@@ -133,14 +114,14 @@ fn read_side<T: ComposeTable>(
     names: &Names,
     side: Side,
     input: &TableInput<'_>,
-) -> Result<T, MigrationFault>
-    ensures { MigrationReturns (λ expected table. expected ≡ T.definitions table) result
+) -> Result<T, Refusal>
+    ensures { Returns (λ expected table. expected ≡ T.definitions table) result
         (or_because (no_table side)
         (first_table names.now input.entry.now.sources.now input.entry.now.rule)) }
 {
     match read_first_table(alloc, names, input.sources, input.rule) {
         Ok(table) => Ok(table),
-        Err(TableFault::NoMemory) => Err(MigrationFault::NoMemory),
-        Err(fault) => Err(MigrationFault::Table { side, fault }),
+        Err(TableFault::NoMemory) => Err(Refusal::NoMemory),
+        Err(fault) => Err(Refusal::Side { side, fault }),
     }
 }

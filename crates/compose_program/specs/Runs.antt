@@ -1,4 +1,4 @@
--- A run of a command that reads files and answers (defined by this project).
+-- A run of a command that reads files and answers (this project's profile).
 use Rattle.std.specs.Prelude.{◌⊎◌, List, Option}
 use Rattle.compose_arguments.specs.declared.question.Question.{Question}
 use Rattle.compose_folder.specs.Content.{Entry}

@@ -1,4 +1,4 @@
--- What is printed if the arguments are not a command (defined by this project): help on standard
+-- What is printed if the arguments are not a command (this project's profile): help on standard
 -- output, a refusal on standard error.
 use Rattle.std.specs.Prelude.{◌≡◌, ℕ, List, [], None, string_bytes, codes}
 use Rattle.clap.specs.declared.error.kind.ErrorKind.{ErrorKind}

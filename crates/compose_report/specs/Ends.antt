@@ -1,4 +1,4 @@
--- How a run ends (defined by this project): as its answer or its refusal says; if an answer can't
+-- How a run ends (this project's profile): as its answer or its refusal says; if an answer can't
 -- be written, the run ends as refused.
 use Rattle.std.specs.Prelude.{◌≡◌, ◌⊎◌, Result, Ok, Err}
 use Rattle.clap.specs.declared.error.kind.ErrorKind.{ErrorKind}

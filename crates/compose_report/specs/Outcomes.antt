@@ -1,4 +1,4 @@
--- What a run prints and how it ends (defined by this project). `own` is the printed form of the
+-- What a run prints and how it ends (this project's profile). `own` is the printed form of the
 -- fault of an invalid certificate, or of a refusal: it is derived, and no contract describes it.
 use Rattle.std.specs.Prelude.{◌≡◌, ℕ, Bool, true, false, List, [], ◌∷◌, ◌++◌, map, slice_get, None, Result, Ok, Err, string_bytes, codes}
 use Rattle.std.specs.Option.{option_map_or}
@@ -9,8 +9,8 @@ use Rattle.compose_answer.specs.declared.answer.Ended.{Ended}
 use Rattle.compose_answer.specs.declared.answer.Ended.TheVariants as ends
 use Rattle.compose_answer.specs.declared.answer.Answer.{Answer}
 use Rattle.compose_answer.specs.declared.answer.Answer.TheVariants.{Yes, No, Invalid, FreshNotAllowed}
-use Rattle.compose_answer.specs.declared.refusal.Refusal.{Refusal}
-use Rattle.compose_answer.specs.declared.refusal.Refusal.TheVariants.{Key, NoMemory}
+use Rattle.compose_migration.specs.declared.refusal.Refusal.{Refusal}
+use Rattle.compose_migration.specs.declared.refusal.Refusal.TheVariants.{Key, NoMemory}
 use Rattle.compose_input.specs.declared.fault.Fault.{Fault}
 use Rattle.compose_input.specs.declared.fault.Fault.TheVariants.{NoMemory as FaultNoMemory}
 use Rattle.compose_details.specs.Answers.{IsAnswerDetails}

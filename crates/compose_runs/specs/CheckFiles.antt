@@ -1,4 +1,4 @@
--- The files of a check (defined by this project).
+-- The files of a check (this project's profile).
 use Rattle.std.specs.Prelude.{ℕ, List, [], Option}
 use Rattle.compose_folder.specs.Content.{Entry, File, IsHeld}
 use Rattle.compose_check.specs.Input.{Input}

@@ -1,14 +1,12 @@
--- What `check` prints (defined by this project).
+-- What `check` prints (this project's profile).
 use Rattle.std.specs.Prelude.{ℕ, Bool, List, [], ◌∷◌, map, Option, Some, None, Result}
 use Rattle.std.proofs.Common.{Bor}
 use Rattle.std.specs.Option.{option_map, unwrap_or}
 use Rattle.compose_folder.specs.Content.{Entry}
-use Rattle.compose_migration.specs.Migration.{or_because}
-use Rattle.compose_check.specs.Input.{parts_of}
-use Rattle.compose_answer.specs.Parts.{unread, allowed_parts}
-use Rattle.compose_answer.specs.Refused.{Returns}
+use Rattle.compose_check.specs.Input.{allowed_parts, parts_of}
+use Rattle.compose_migration.specs.Refused.{Returns}
 use Rattle.compose_answer.specs.declared.answer.Answer.{Answer}
-use Rattle.compose_answer.specs.declared.refusal.Refusal.{Refusal}
+use Rattle.compose_migration.specs.declared.refusal.Refusal.{Refusal}
 use Rattle.compose_tool.specs.Answers.{IsChecked, IsCheckedFor}
 use Rattle.compose_details.specs.Given.{GivenParts, IsGiven}
 use Rattle.compose_details.specs.Given.{parts_of as listed_parts}
@@ -31,7 +29,7 @@ allowed_names allowed = option_map (λ names. map (λ name. name.now) names.now)
 -- the answer about the certificate; if keysyms are allowed, all its fresh keysyms have to be among
 -- them
 abbrev pub AnswersCheck : Option (List (List ℕ)) → Result Answer Refusal → CheckFiles → Type 0
-AnswersCheck None answered check = Returns IsChecked answered (or_because unread (parts_of (check_given check)))
+AnswersCheck None answered check = Returns IsChecked answered (parts_of (check_given check))
 AnswersCheck (Some allowed) answered check = Returns IsCheckedFor answered (allowed_parts allowed (check_given check))
 
 -- the paths except those of the tables

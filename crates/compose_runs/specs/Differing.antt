@@ -1,11 +1,11 @@
--- What `diff` prints (defined by this project).
+-- What `diff` prints (this project's profile).
 use Rattle.std.specs.Prelude.{◌≡◌, ℕ, Bool, true, false, List, [], ◌∷◌, ◌++◌, map, Option, unwrap_or, option_copied, Result, Ok, Err, string_bytes, codes}
 use Rattle.std.specs.Str.Lines.{lines}
 use Rattle.compose_folder.specs.Content.{Entry}
 use Rattle.compose_answer.specs.declared.answer.Answer.{Answer}
 use Rattle.compose_answer.specs.declared.answer.Answer.TheVariants.{Yes, No}
 use Rattle.compose_answer.specs.declared.answer.Ended.TheVariants.{Refused}
-use Rattle.compose_answer.specs.declared.refusal.Refusal.{Refusal}
+use Rattle.compose_migration.specs.declared.refusal.Refusal.{Refusal}
 use Rattle.compose_arguments.specs.declared.diff_arguments.DiffArguments.{DiffArguments}
 use Rattle.compose_arguments.specs.declared.diff_arguments.DiffForm.{DiffForm}
 use Rattle.compose_arguments.specs.declared.diff_arguments.DiffForm.TheVariants as forms

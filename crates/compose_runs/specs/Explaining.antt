@@ -1,11 +1,11 @@
--- What `explain` prints (defined by this project).
+-- What `explain` prints (this project's profile).
 use Rattle.std.specs.Prelude.{ℕ, Bool, true, false, List, [], ◌∷◌, map, Option, Result}
 use Rattle.compose_folder.specs.Content.{Entry}
 use Rattle.compose_migration.specs.Migration.{GivenMigration}
 use Rattle.compose_answer.specs.Parts.{explain_parts}
-use Rattle.compose_answer.specs.Refused.{Returns}
+use Rattle.compose_migration.specs.Refused.{Returns}
 use Rattle.compose_answer.specs.declared.answer.Answer.{Answer}
-use Rattle.compose_answer.specs.declared.refusal.Refusal.{Refusal}
+use Rattle.compose_migration.specs.declared.refusal.Refusal.{Refusal}
 use Rattle.compose_arguments.specs.declared.given_tables.FilePair.{FilePair}
 use Rattle.compose_arguments.specs.declared.given_tables.TablePaths.{TablePaths}
 use Rattle.compose_tool.specs.Answers.{IsExplained, IsAllExplained}

@@ -1,5 +1,5 @@
 -- Why the files of a command can't be read: the fault is that of the first one that is refused, and
--- those before it are read (defined by this project). Memory may run out at any time; then nothing
+-- those before it are read (this project's profile). Memory may run out at any time; then nothing
 -- more is known.
 use Rattle.std.specs.Prelude.{◌≡◌, ◌⊎◌, ℕ, List, [], ◌∷◌, ◌++◌, Option, Some, None, Err, IsUtf8, option_copied, string_bytes, codes}
 use Rattle.std.proofs.Common.{Bor}

@@ -1,4 +1,4 @@
--- The files of tables, as the commands read them (defined by this project).
+-- The files of tables, as the commands read them (this project's profile).
 use Rattle.std.specs.Prelude.{ℕ, List, ◌++◌, Option, string_bytes}
 use Rattle.compose_folder.specs.Content.{Entry}
 use Rattle.compose_input.specs.Names.{AreNames}

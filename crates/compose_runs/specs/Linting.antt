@@ -1,4 +1,4 @@
--- What `lint` reads and prints (defined by this project).
+-- What `lint` reads and prints (this project's profile).
 use Rattle.std.specs.Prelude.{◌≡◌, ℕ, Bool, true, false, ◌==◌, ◌||◌, length, if◌then◌else◌, List, [], ◌∷◌, ◌++◌, map, flat_map, Option, Some, None, unwrap_or, option_copied, Result, Ok, Err, string_bytes, bytes_eq, codes}
 use Rattle.std.specs.List.{AllZip, list_any}
 use Rattle.std.proofs.Common.{Bor}
@@ -6,7 +6,7 @@ use Rattle.compose_folder.specs.Content.{Entry}
 use Rattle.compose_model.specs.declared.Rule.TheVariants.{Longest}
 use Rattle.compose_answer.specs.declared.answer.Answer.{Answer}
 use Rattle.compose_answer.specs.declared.answer.Ended.TheVariants.{Refused}
-use Rattle.compose_answer.specs.declared.refusal.Refusal.{Refusal}
+use Rattle.compose_migration.specs.declared.refusal.Refusal.{Refusal}
 use Rattle.compose_arguments.specs.declared.lint_arguments.LintArguments.{LintArguments}
 use Rattle.compose_details.specs.Files.{message_at}
 use Rattle.compose_details.specs.Given.{IsGiven, parts_of}

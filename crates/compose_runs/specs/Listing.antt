@@ -1,11 +1,12 @@
--- What `list` prints (defined by this project).
+-- What `list` prints (this project's profile).
 use Rattle.std.specs.Prelude.{ℕ, Bool, true, false, List, [], map, Option, option_copied, Result, string_bytes}
 use Rattle.std.specs.Option.{option_map}
 use Rattle.compose_folder.specs.Content.{Entry}
-use Rattle.compose_answer.specs.Parts.{NoAnswer, TypedParts, type_parts}
-use Rattle.compose_answer.specs.Refused.{Returns}
+use Rattle.compose_migration.specs.Migration.{NoAnswer}
+use Rattle.compose_answer.specs.Parts.{TypedParts, type_parts}
+use Rattle.compose_migration.specs.Refused.{Returns}
 use Rattle.compose_answer.specs.declared.answer.Answer.{Answer}
-use Rattle.compose_answer.specs.declared.refusal.Refusal.{Refusal}
+use Rattle.compose_migration.specs.declared.refusal.Refusal.{Refusal}
 use Rattle.compose_arguments.specs.declared.list_arguments.ListArguments.{ListArguments}
 use Rattle.compose_arguments.specs.declared.list_arguments.ListSort.{ListSort}
 use Rattle.compose_arguments.specs.declared.list_arguments.ListSort.TheVariants as sorts

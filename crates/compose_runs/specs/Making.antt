@@ -1,14 +1,14 @@
--- What `make` prints, or writes to a file (defined by this project).
+-- What `make` prints, or writes to a file (this project's profile).
 use Rattle.std.specs.Prelude.{◌≡◌, ℕ, Bool, true, false, List, [], ◌∷◌, map, Option, None, option_copied, Result, string_bytes}
 use Rattle.std.specs.Option.{option_map}
 use Rattle.compose_folder.specs.Content.{Entry, File, IsHeld}
 use Rattle.compose_migration.specs.Migration.{GivenMigration}
 use Rattle.compose_answer.specs.Parts.{make_parts}
-use Rattle.compose_answer.specs.Refused.{Returns}
+use Rattle.compose_migration.specs.Refused.{Returns}
 use Rattle.compose_answer.specs.declared.answer.Answer.{Answer}
 use Rattle.compose_answer.specs.declared.answer.Ended.{Ended}
 use Rattle.compose_answer.specs.declared.answer.Ended.TheVariants.{Yes}
-use Rattle.compose_answer.specs.declared.refusal.Refusal.{Refusal}
+use Rattle.compose_migration.specs.declared.refusal.Refusal.{Refusal}
 use Rattle.compose_arguments.specs.declared.given_tables.FilePair.{FilePair}
 use Rattle.compose_arguments.specs.declared.given_tables.TablePaths.{TablePaths}
 use Rattle.compose_tool.specs.Answers.{IsMadeText, IsAllMadeText}

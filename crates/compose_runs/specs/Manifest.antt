@@ -1,4 +1,4 @@
--- What `manifest` prints (defined by this project).
+-- What `manifest` prints (this project's profile).
 use Rattle.std.specs.Prelude.{◌⊎◌, ℕ, List, [], ◌∷◌, ◌++◌, Option, option_copied, string_bytes, codes}
 use Rattle.compose_folder.specs.Content.{Entry}
 use Rattle.compose_find.specs.Found.{FoundSource}

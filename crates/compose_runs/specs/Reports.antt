@@ -1,7 +1,7 @@
--- What is printed for an answer or a refusal on an input (defined by this project).
+-- What is printed for an answer or a refusal on an input (this project's profile).
 use Rattle.std.specs.Prelude.{Bool, false, ◌||◌, Result}
 use Rattle.compose_answer.specs.declared.answer.Answer.{Answer}
-use Rattle.compose_answer.specs.declared.refusal.Refusal.{Refusal}
+use Rattle.compose_migration.specs.declared.refusal.Refusal.{Refusal}
 use Rattle.compose_details.specs.Given.{GivenParts, IsGiven}
 use Rattle.compose_details.specs.declared.given.Given.{Given}
 use Rattle.compose_report.specs.Outcomes.{IsNoted, IsWorded}

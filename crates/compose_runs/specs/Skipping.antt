@@ -1,5 +1,5 @@
 -- The files that commands read, without the faulty lines of tables, and the report of these lines
--- (defined by this project).
+-- (this project's profile).
 use Rattle.std.specs.Prelude.{◌≡◌, ℕ, Bool, true, false, List, [], ◌∷◌, ◌++◌, string_bytes}
 use Rattle.keysym_core.specs.Header.{names_of}
 use Rattle.compose_skipped.specs.Kept.{IsKept}

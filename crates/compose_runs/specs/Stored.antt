@@ -1,4 +1,4 @@
--- The table in use, as `update` stores it: the message about damage (defined by this project).
+-- The table in use, as `update` stores it: the message about damage (this project's profile).
 use Rattle.std.specs.Prelude.{◌≡◌, ◌⊎◌, ℕ, List, ◌++◌, string_bytes, codes}
 use Rattle.compose_bundle.specs.Bundle.{Bundle, IsBundle}
 use Rattle.compose_input.specs.declared.fault.Fault.{Fault}

@@ -1,4 +1,4 @@
--- What `type` prints (defined by this project).
+-- What `type` prints (this project's profile).
 use Rattle.std.specs.Prelude.{◌≡◌, ℕ, Bool, false, List, [], ◌∷◌, flat_map, length, map, Option, Some, None, Result, string_bytes}
 use Rattle.std.specs.Str.Lines.{lines}
 use Rattle.compose_folder.specs.Content.{Entry, File, IsHeld}
@@ -7,9 +7,9 @@ use Rattle.compose_input.specs.Tables.{IsListed, sources_of}
 use Rattle.compose_input.specs.declared.names.NameFiles.{NameFiles}
 use Rattle.compose_input.specs.declared.tables.TableFiles.{TableFiles}
 use Rattle.compose_answer.specs.Parts.{type_parts}
-use Rattle.compose_answer.specs.Refused.{Returns}
+use Rattle.compose_migration.specs.Refused.{Returns}
 use Rattle.compose_answer.specs.declared.answer.Answer.{Answer}
-use Rattle.compose_answer.specs.declared.refusal.Refusal.{Refusal}
+use Rattle.compose_migration.specs.declared.refusal.Refusal.{Refusal}
 use Rattle.compose_tool.specs.Answers.{AreListsTyped, IsTyped}
 use Rattle.compose_details.specs.Given.{IsGiven, parts_of}
 use Rattle.compose_details.specs.declared.given.Given.{Given}

@@ -1,4 +1,4 @@
--- What `update` reads, and what it does with the table in use (defined by this project).
+-- What `update` reads, and what it does with the table in use (this project's profile).
 use Rattle.std.specs.Prelude.{◌≡◌, ℕ, true, false, List, [], ◌∷◌, map, Option, Some, None, option_copied, Result, Ok, Err, string_bytes, codes}
 use Rattle.std.specs.declared.alloc.Global.{Global}
 use Rattle.std.specs.declared.string.String.{String}
@@ -9,7 +9,7 @@ use Rattle.compose_bundle.specs.Bundle.{Bundle, IsBundle}
 use Rattle.compose_answer.specs.declared.answer.Answer.{Answer}
 use Rattle.compose_answer.specs.declared.answer.Answer.TheVariants.{Yes}
 use Rattle.compose_answer.specs.declared.answer.Ended.TheVariants as ends
-use Rattle.compose_answer.specs.declared.refusal.Refusal.{Refusal}
+use Rattle.compose_migration.specs.declared.refusal.Refusal.{Refusal}
 use Rattle.compose_arguments.specs.declared.update_arguments.UpdateArguments.{UpdateArguments}
 use Rattle.compose_details.specs.Given.{IsGiven, parts_of}
 use Rattle.compose_details.specs.declared.given.Given.{Given}

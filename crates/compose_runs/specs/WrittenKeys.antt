@@ -1,5 +1,5 @@
 -- Keys as they are written on the command line for Compose files: by their names, or as their
--- characters (defined by this project).
+-- characters (this project's profile).
 use Rattle.std.specs.Prelude.{◌≡◌, ℕ, Bool, true, false, List, [], ◌∷◌, Option, Some, None, Result, Ok, Err}
 use Rattle.keysym_core.specs.Names.{KeysymNames, value}
 use Rattle.keysym_core.specs.Printed.{printed}

@@ -1,6 +1,6 @@
 //! The files of an old and a new table.
 ghost use Rattle.std.specs.Prelude.{◌≡◌, ◌++◌, map, IfOk, IfErr, string_bytes};
-ghost use Rattle.compose_migration.specs.MigrationReturns.{given_of};
+ghost use Rattle.compose_migration.specs.Values.{given_of};
 ghost use Rattle.compose_runs.specs.DiffFiles.{IsFoundTable, place_arguments, rule_by};
 ghost use Rattle.compose_runs.specs.Faults.{FailsTable};
 

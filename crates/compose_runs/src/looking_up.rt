@@ -1,7 +1,7 @@
 //! `how` and `list`: the sequences of one Compose file.
 ghost use Rattle.std.specs.Prelude.{◌≡◌, ◌++◌, [], map, unwrap_or, option_map, option_copied, IfOk, IfErr, OnOk, string_bytes};
 ghost use Rattle.std.specs.List.{list_all};
-ghost use Rattle.compose_answer.specs.Refused.{Returns};
+ghost use Rattle.compose_migration.specs.Refused.{Returns};
 ghost use Rattle.compose_listing.specs.Answers.{AreWays, IsListed, how_parts};
 ghost use Rattle.compose_listing.specs.Wanted as wanted_words;
 ghost use Rattle.compose_input.specs.Tables.{sources_of};

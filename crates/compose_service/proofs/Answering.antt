@@ -29,7 +29,7 @@ use Rattle.compose_cert.specs.Reading.{certificate_of}
 use Rattle.compose_cert.specs.CertificateReturns.{CertificateReturns}
 use Rattle.compose_cert.specs.declared.CertFault.{CertFault}
 use Rattle.compose_cert.specs.declared.CertFault.TheVariants as cert_faults
-use Rattle.compose_migration.specs.MigrationReturns.{TableFails}
+use Rattle.compose_migration.specs.Refused.{TableFails}
 use Rattle.compose_bundle.specs.Bundle.{Bundle, AreBytes}
 use Rattle.compose_bundle.specs.Decoded.{bundle_of}
 use Rattle.compose_bundle.specs.Written.{NotRead}

@@ -13,7 +13,7 @@ use Rattle.compose_tree.specs.declared.reading.TableFault.TheVariants as table_f
 use Rattle.compose_cert.specs.declared.CertFault.{CertFault}
 use Rattle.compose_check.specs.Conditions.{fault_of}
 use Rattle.compose_check.specs.Verdict.{verdict_of}
-use Rattle.compose_migration.specs.MigrationReturns.{TableFails}
+use Rattle.compose_migration.specs.Refused.{TableFails}
 use Rattle.compose_fresh.specs.declared.fault.CheckFault.{CheckFault}
 use Rattle.compose_check.specs.declared.verdict.Verdict.TheVariants.{Yes, No}
 use Rattle.compose_machine.specs.Machine.{ServiceState}

@@ -10,7 +10,7 @@ use Rattle.compose_tree.specs.declared.reading.TableFault.TheVariants as table_f
 use Rattle.compose_cert.specs.declared.CertFault.{CertFault}
 use Rattle.compose_cert.specs.declared.CertFault.TheVariants as cert_faults
 use Rattle.compose_check.specs.Conditions.{fault_of}
-use Rattle.compose_migration.specs.MigrationReturns.{TableFails}
+use Rattle.compose_migration.specs.Refused.{TableFails}
 use Rattle.compose_fresh.specs.declared.fault.CheckFault.{CheckFault}
 use Rattle.compose_machine.specs.Machine.{ServiceState}
 use Rattle.compose_service.specs.declared.service.StartFault.{StartFault}

@@ -1,22 +1,22 @@
--- What `load` and `session` send, and what they print for the replies (defined by this project:
+-- What `load` and `session` send, and what they print for the replies (this project's profile:
 -- docs/PROTOCOL.md).
-use Rattle.std.specs.Prelude.{◌≡◌, ◌⊎◌, ◌||◌, not, ◌<◌, ℕ, Bool, true, false, List, [], ◌∷◌, ◌++◌, map, length, Option, Some, None, option_map, if◌then◌else◌, Result, Ok, Err, string_bytes, codes}
+use Rattle.std.specs.Prelude.{◌≡◌, ◌⊎◌, ◌||◌, not, ◌<◌, ℕ, Bool, true, false, List, [], ◌∷◌, ◌++◌, map, length, take, slice_get, Option, Some, None, option_map, if◌then◌else◌, Result, Ok, Err, string_bytes, codes}
+use Rattle.std.specs.List.{list_all}
 use Rattle.keysym_core.specs.Core.{core_names}
 use Rattle.keysym_core.specs.Header.{names_of}
 use Rattle.compose_folder.specs.Content.{Entry, File, IsHeld}
 use Rattle.compose_model.specs.declared.Rule.{Rule}
 use Rattle.compose_bundle.specs.Bundle.{Bundle, BundleFits, bundle_bytes}
 use Rattle.compose_bundle.specs.Written.{max_payload}
-use Rattle.compose_migration.specs.Migration.{NamedParts}
+use Rattle.compose_migration.specs.Migration.{NamedParts, named}
 use Rattle.compose_wire.specs.declared.request.Request.{Request}
 use Rattle.compose_wire.specs.declared.reply.Reply.{Reply}
 use Rattle.compose_session.specs.AskedSession.{LoadReturns, asks, bodies_of}
 use Rattle.compose_session.specs.ReplyLine.{report_of, reported}
 use Rattle.compose_session.specs.declared.asked.AskedSession.{AskedSession}
 use Rattle.compose_session.specs.declared.reply_line.ExchangeReport.{ExchangeReport}
-use Rattle.compose_answer.specs.Parts.{given_key_names}
-use Rattle.compose_answer.specs.Refused.{IsRefused}
-use Rattle.compose_answer.specs.declared.refusal.Refusal.{Refusal}
+use Rattle.compose_migration.specs.Refused.{IsRefused}
+use Rattle.compose_migration.specs.declared.refusal.Refusal.{Refusal}
 use Rattle.compose_arguments.specs.declared.client_arguments.LoadArguments.{LoadArguments}
 use Rattle.compose_arguments.specs.declared.client_arguments.SessionArguments.{SessionArguments}
 use Rattle.compose_details.specs.Given.{IsGiven, parts_of}
@@ -36,7 +36,7 @@ use Rattle.compose_runs.specs.GivenTable.{FailsGivenTable, HasGivenTable, IsGive
 use Rattle.compose_runs.specs.WrittenKeys.{AreKeyNames}
 use Rattle.compose_runs.specs.declared.environment.Environment.{Environment}
 use Rattle.compose_runs.specs.declared.one_table.NotedTable.{NotedTable}
-use Rattle.compose_service_runs.specs.Turns.{Turn, then_turns, turns_of}
+use Rattle.compose_service_runs.specs.Turns.{Turn, goes_through, then_turns, turns_of}
 use Rattle.compose_service_runs.specs.declared.client.ClientRequests.{ClientRequests}
 use Rattle.compose_runs.specs.declared.options.Options.{Options}
 
@@ -111,11 +111,11 @@ pub record IsKeysReported (verbose are_files : Bool) (names : NameFiles) (keys :
 -- the names or the keys are refused
 abbrev pub IsKeysRefused : Bool → Bool → NameFiles → List (List ℕ) → Outcome → Type 0
 IsKeysRefused verbose are_files names keys outcome =
-    (refusal : Refusal) × IsRefused refusal (given_key_names names.lines.items keys) × IsKeysReported verbose are_files names keys refusal outcome
+    (refusal : Refusal) × IsRefused refusal (named names.lines.items keys) × IsKeysReported verbose are_files names keys refusal outcome
 
 -- the requests, by the keys with these names; or the outcome if the names or the keys are refused
 abbrev pub IsSessionBy : Bool → NameFiles → SessionArguments → List (List ℕ) → Result ClientRequests Outcome → Type 0
-IsSessionBy verbose names arguments keys (Ok sent) = (n : NamedParts) × (given_key_names names.lines.items keys ≡ Ok n) × AsksSession n arguments sent
+IsSessionBy verbose names arguments keys (Ok sent) = (n : NamedParts) × (named names.lines.items keys ≡ Ok n) × AsksSession n arguments sent
 IsSessionBy verbose names arguments keys (Err outcome) = IsKeysRefused verbose arguments.files names keys outcome
 
 -- the same by the keys as they are written: with `--files` a key may be written as its character
@@ -142,6 +142,23 @@ pub record IsExchange (sent : ClientRequests) (before after : Option (List Turn)
   pub printed : Outcome
   pub is_printed : IsExchangeOutcome report printed
   pub noted : IsNoted (string_bytes sent.notes) printed outcome
+
+-- ---- why an exchange stops
+
+-- these replies answered the first requests, and none of them is a refusal; for the next request the other side gives
+-- this fault
+pub record StopsAt {P : Type 0} (turns : P → Option (List Turn)) (gives : P → Request → Fault → Type 0) (requests : List Request) (before : P) (fault : Fault) : Type 0 where
+  pub peer : P
+  pub replies : List Reply
+  pub answered : list_all goes_through replies ≡ true
+  pub turned : turns peer ≡ then_turns (turns before) (turns_of (take (length replies) requests) replies)
+  pub request : Request
+  pub next : slice_get requests (length replies) ≡ Some request
+  pub given : gives peer request fault
+
+-- such a fault, or memory ran out
+abbrev pub FailsExchange : {P : Type 0} → (P → Option (List Turn)) → (P → Request → Fault → Type 0) → List Request → P → Fault → Type 0
+FailsExchange turns gives requests before fault = OrMemory (StopsAt turns gives requests before) fault
 
 -- ---- why nothing is sent
 

@@ -1,4 +1,4 @@
--- The table and the service with which `serve` starts (defined by this project).
+-- The table and the service with which `serve` starts (this project's profile).
 use Rattle.std.specs.Prelude.{◌≡◌, ◌⊎◌, ◌||◌, ◌&&◌, not, ℕ, Bool, true, false, List, [], ◌∷◌, ◌++◌, map, unwrap_or, Option, Some, None, Result, Ok, Err, string_bytes, codes}
 use Rattle.std.specs.declared.alloc.Global.{Global}
 use Rattle.std.specs.declared.string.String.{String}
@@ -6,11 +6,10 @@ use Rattle.compose_folder.specs.Content.{Entry, File, IsHeld}
 use Rattle.compose_model.specs.declared.Rule.TheVariants.{Longest}
 use Rattle.compose_read.specs.Lines.{Source}
 use Rattle.compose_bundle.specs.Bundle.{IsBundle}
-use Rattle.compose_migration.specs.Keys.{keys_of}
 use Rattle.compose_machine.specs.Machine.{ServiceState}
 use Rattle.compose_answer.specs.declared.answer.Answer.{Answer}
 use Rattle.compose_answer.specs.declared.answer.Answer.TheVariants as answers
-use Rattle.compose_answer.specs.declared.refusal.Refusal.{Refusal}
+use Rattle.compose_migration.specs.declared.refusal.Refusal.{Refusal}
 use Rattle.compose_arguments.specs.declared.given_tables.TypeTable.{TypeTable}
 use Rattle.compose_arguments.specs.declared.given_tables.TypeTable.TheVariants.{Manifest, File as ComposeFile}
 use Rattle.compose_arguments.specs.declared.serve_arguments.Served.{Served}
@@ -103,8 +102,8 @@ Begins files result =
 -- its loads may list only the keysyms of these names as fresh, if names are given
 abbrev pub AllowsAlone : Option (List (List ℕ)) → ServiceState → Result ServiceState BeginFault → Type 0
 AllowsAlone None begun result = result ≡ Ok begun
-AllowsAlone (Some names) begun (Ok service) = Allows begun (Ok service) (keys_of begun.names names)
-AllowsAlone (Some names) begun (Err (Refused refusal)) = Allows begun (Err refusal) (keys_of begun.names names)
+AllowsAlone (Some names) begun (Ok service) = Allows begun names (Ok service)
+AllowsAlone (Some names) begun (Err (Refused refusal)) = Allows begun names (Err refusal)
 AllowsAlone (Some names) begun (Err (Invalid fault)) = ⊥
 
 -- a service starts with these files, and allows this; or none starts

@@ -1,6 +1,6 @@
--- The requests and replies of an exchange with a service, in turn (defined by this project:
+-- The requests and replies of an exchange with a service, in turn (this project's profile:
 -- docs/PROTOCOL.md).
-use Rattle.std.specs.Prelude.{Bool, true, false, if◌then◌else◌, List, [], ◌∷◌, ◌++◌, Option, Some, None, option_map}
+use Rattle.std.specs.Prelude.{Bool, true, false, not, if◌then◌else◌, List, [], ◌∷◌, ◌++◌, Option, Some, None, option_map}
 use Rattle.compose_wire.specs.declared.request.Request.{Request}
 use Rattle.compose_wire.specs.declared.reply.ReplyBody.{ReplyBody}
 use Rattle.compose_wire.specs.declared.reply.ReplyBody.TheVariants.{Refused}
@@ -14,6 +14,10 @@ pub record Turn : Type 0 where
 abbrev pub is_refusal : ReplyBody → Bool
 is_refusal (Refused code) = true
 is_refusal answer = false
+
+-- the reply is no refusal, so the next request is sent
+abbrev pub goes_through : Reply → Bool
+goes_through reply = not (is_refusal reply.answer)
 
 -- the turns of these requests with these replies: a refused request is the last one, and so is one
 -- without a reply

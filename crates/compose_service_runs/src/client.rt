@@ -1,11 +1,9 @@
 //! `load` and `session`: what a client of a service sends, and what it prints for the replies.
 ghost use Rattle.std.specs.Prelude.{◌≡◌, ◌||◌, [], ◌∷◌, map, Ok, IfOk, IfErr, string_bytes};
 ghost use Rattle.keysym_core.specs.Core.{core_names};
-ghost use Rattle.compose_migration.specs.MigrationReturns.{named_parts};
-ghost use Rattle.compose_answer.specs.Parts.{given_key_names};
-ghost use Rattle.compose_answer.specs.Refused.{Returns};
+ghost use Rattle.compose_migration.specs.Values.{named_parts};
 ghost use Rattle.compose_session.specs.AskedSession.{LoadReturns};
-ghost use Rattle.compose_service_runs.specs.Clients.{AsksSession, FailsLoad, FailsSession, IsExchange, IsKeysReported, IsLoadRun, IsSessionBy, IsSessionOf, IsSessionRun, IsUnsendable, LoadsTable, bundle_of};
+ghost use Rattle.compose_service_runs.specs.Clients.{AsksSession, FailsExchange, FailsLoad, FailsSession, IsExchange, IsKeysReported, IsLoadRun, IsSessionBy, IsSessionOf, IsSessionRun, IsUnsendable, LoadsTable, bundle_of};
 ghost use Rattle.compose_service_runs.specs.Turns as words;
 ghost use Rattle.compose_service_runs.specs.Turns.{then_turns, turns_of};
 
@@ -166,23 +164,12 @@ fn session_by<T: ComposeTable>(
         (λ started. IsSessionBy verbose names.now arguments.now (map (λ key. key.now) keys.now)
         started) }
 {
-    match read_keys(alloc, &names.lines, keys) {
+    match Named::read(alloc, &names.lines, keys) {
         Ok(named) => Ok(Ok(requests_of(alloc, named, arguments)?)),
         Err(refusal) => {
             let are_files = arguments.files;
             Ok(Err(keys_outcome::<T>(alloc, verbose, are_files, names, keys, refusal)?))
         }
-    }
-}
-
-/// Returns the names of a header, and the keysyms of key names.
-fn read_keys(alloc: Global, header: &[u8], key_names: &[&str]) -> Result<Named, Refusal>
-    ensures { Returns (λ expected read. expected ≡ named_parts read) result
-        (given_key_names header.now (map (λ name. name.now) key_names.now)) }
-{
-    match Named::read(alloc, header, key_names) {
-        Ok(named) => Ok(named),
-        Err(fault) => Err(Refusal::from(fault)),
     }
 }
 
@@ -239,15 +226,17 @@ fn wants_lines(verbose: bool, are_files: bool) -> bool
 
 /// Sends the requests one after another, until one is refused or the other side closes. Returns
 /// what is printed for the replies, after the notes.
-/// Errors: the fault of the first request that can't be sent or whose reply is malformed;
-/// `NoMemory` if memory runs out.
+/// Errors: what the other side gives for the first request that can't be sent or whose reply is
+/// malformed; `NoMemory` if memory runs out.
 pub fn run_exchange<P: Peer>(
     alloc: Global,
     peer: &mut P,
     sent: ClientRequests,
 ) -> Result<Outcome, Fault>
-    ensures { IfOk result
+    ensures exchange { IfOk result
         (λ outcome. IsExchange sent (P.turns peer.old) (P.turns peer.new) outcome) }
+    ensures fault { IfErr result
+        (λ fault. FailsExchange P.turns P.gives sent.requests.items peer.old fault) }
 {
     let replies = replies_of(alloc, peer, &sent.requests)?;
     let report = report_replies(alloc, &sent.names, &sent.requests, &replies)?;
@@ -261,9 +250,11 @@ fn replies_of<P: Peer>(
     peer: &mut P,
     requests: &[Request],
 ) -> Result<Vec<Reply>, Fault>
-    ensures { IfOk result
+    ensures turns { IfOk result
         (λ replies. P.turns peer.new
         ≡ then_turns (P.turns peer.old) (turns_of requests.now replies.items)) }
+    ensures fault { IfErr result
+        (λ fault. FailsExchange P.turns P.gives requests.now peer.old fault) }
 {
     let mut replies = Vec::new(alloc);
     for request in requests {

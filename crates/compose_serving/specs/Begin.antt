@@ -9,11 +9,11 @@ use Rattle.compose_model.specs.declared.Rule.{Rule}
 use Rattle.compose_read.specs.Lines.{Source}
 use Rattle.compose_cert.specs.Reading.{certificate_of}
 use Rattle.compose_tree.specs.TableReturns.{NoTable, first_table}
-use Rattle.compose_migration.specs.MigrationReturns.{TableFails}
+use Rattle.compose_migration.specs.Refused.{TableFails}
 use Rattle.compose_machine.specs.Machine.{ServiceState}
 use Rattle.compose_service.specs.Start.{NoStart, without_table, without_certificate, not_valid, Begun, StartReturns, started}
-use Rattle.compose_answer.specs.declared.refusal.Refusal.{Refusal}
-use Rattle.compose_answer.specs.declared.refusal.Refusal.TheVariants as refusals
+use Rattle.compose_migration.specs.declared.refusal.Refusal.{Refusal}
+use Rattle.compose_migration.specs.declared.refusal.Refusal.TheVariants as refusals
 use Rattle.keysym_core.specs.declared.fault.NameFault.{NameFault}
 use Rattle.keysym_core.specs.declared.fault.NameFault.TheVariants as name_faults
 use Rattle.compose_cert.specs.declared.RepertoireFault.{RepertoireFault}

@@ -1,10 +1,9 @@
 //! The keysyms that the loads of a service may list as fresh.
 ghost use Rattle.std.specs.Prelude.{map};
-ghost use Rattle.compose_migration.specs.Keys.{keys_of};
 ghost use Rattle.compose_serving.specs.Fresh.{Allows};
 
 use compose_answer::Refusal;
-use compose_migration::{KeyFault, look_up_keys};
+use compose_migration::look_up_keys;
 use compose_service::Service;
 use compose_tree::ComposeTable;
 use std::alloc::Global;
@@ -19,12 +18,8 @@ pub fn allow_fresh<T: ComposeTable>(
     service: Service<T>,
     key_names: &[&str],
 ) -> Result<Service<T>, Refusal>
-    ensures { Allows service result
-        (keys_of service.names (map (λ key_name. key_name.now) key_names.now)) }
+    ensures { Allows service (map (λ key_name. key_name.now) key_names.now) result }
 {
-    match look_up_keys(alloc, service.names(), key_names) {
-        Ok(keysyms) => Ok(service.allow_fresh(keysyms)),
-        Err(KeyFault::Unknown { index }) => Err(Refusal::Key { index }),
-        Err(KeyFault::NoMemory) => Err(Refusal::NoMemory),
-    }
+    let keysyms = look_up_keys(alloc, service.names(), key_names)?;
+    Ok(service.allow_fresh(keysyms))
 }

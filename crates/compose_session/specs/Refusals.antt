@@ -1,4 +1,4 @@
--- The refusals of a service, in words (defined by this project: docs/PROTOCOL.md, "Frames").
+-- The refusals of a service, in words (this project's profile: docs/PROTOCOL.md, "Frames").
 use Rattle.std.specs.Prelude.{ℕ, ◌==◌, if◌then◌else◌, List, codes}
 
 -- the words for a code

@@ -16,7 +16,7 @@ use Rattle.compose_session.specs.Refusals.{refusal_words}
 use Rattle.compose_session.specs.declared.reply_line.End.{End}
 use Rattle.compose_session.specs.declared.reply_line.End.TheVariants.{Answered, Refused, Closed, Unexpected}
 use Rattle.compose_session.specs.declared.reply_line.ExchangeReport.{ExchangeReport}
-use Rattle.compose_session.specs.declared.reply_line.ReplyLine.{ReplyLine as MessageReported}
+use Rattle.compose_session.specs.declared.reply_line.ReplyLine.{ReplyLine as ProgramLine}
 use Rattle.compose_session.specs.declared.reply_line.ReplyLine.TheVariants as kinds
 
 -- ---- lines
@@ -96,7 +96,7 @@ reported names requests replies = reported_on names requests replies (goes_on []
 
 -- ---- the program's values
 
-abbrev pub reply_line_of : MessageReported → ReplyLine
+abbrev pub reply_line_of : ProgramLine → ReplyLine
 reply_line_of (kinds.Line text) = line (string_bytes text)
 reply_line_of (kinds.Refusal text) = refusal (string_bytes text)
 reply_line_of kinds.Unexpected = unexpected

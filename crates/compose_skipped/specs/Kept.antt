@@ -1,4 +1,4 @@
--- A table that a command reads, without its faulty lines (defined by this project).
+-- A table that a command reads, without its faulty lines (this project's profile).
 use Rattle.std.specs.Prelude.{◌≡◌, ℕ, List, [], Option, Some, None, Result, Ok, Err}
 use Rattle.keysym_core.specs.Header.{names_of}
 use Rattle.keysym_core.specs.Names.{KeysymNames}

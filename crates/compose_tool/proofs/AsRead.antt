@@ -12,8 +12,8 @@ use Rattle.compose_read.specs.Read.{definitions_of}
 use Rattle.compose_read.specs.Settle.{Overlap, settled}
 use Rattle.compose_tree.specs.Targets.{max_nodes}
 use Rattle.compose_tree.specs.TableReturns.{NoTable, too_many_nodes, bounded, settled_by, first_table}
-use Rattle.compose_migration.specs.Migration.{NamedParts, TableSources, or_because}
-use Rattle.compose_answer.specs.Parts.{NoAnswer, TypedParts, no_only_table, given_key_names, type_parts}
+use Rattle.compose_migration.specs.Migration.{NamedParts, NoAnswer, TableSources, no_only_table, or_because, named}
+use Rattle.compose_answer.specs.Parts.{TypedParts, type_parts}
 use Rattle.compose_answer.specs.declared.answer.Answer.{Answer}
 use Rattle.compose_answer.specs.declared.answer.Answer.TheVariants.{Yes, No, Invalid, FreshNotAllowed}
 use Rattle.compose_tool.specs.Typed.{typed_line}
@@ -24,8 +24,8 @@ within_bounds : (r : Result (List Definition) Overlap) (rows : List Definition) 
 within_bounds (Err overlap) rows h = cc
 within_bounds (Ok table) rows h = by (nat_le (length (nodes table)) max_nodes) h
   where
-    by : (t : Bool) → cond t (Ok table) (Err too_many_nodes) ≡ Ok rows → Ok table ≡ Ok rows
-    by true e = e
+    by : (t : Bool) → cond t (Ok table) (Err too_many_nodes) ≡ Ok rows → ◌≡◌ {A = Result (List Definition) Overlap} (Ok table) (Ok rows)
+    by true e = cc
     by false e = cc
 
 -- the table is what the definitions of the first source are settled to
@@ -37,7 +37,7 @@ settled_first names (s ∷ sources) rule read rows h e = within_bounds (settled 
 module _ (header : List ℕ) (key_names : List (List ℕ)) (given : TableSources) where
   -- the table of the parts is the first one of the sources
   table_read : (p : TypedParts) → type_parts header key_names given ≡ Ok p → first_table p.names given.sources given.rule ≡ Ok p.table
-  table_read p h = by_names (given_key_names header key_names) h
+  table_read p h = by_names (named header key_names) h
     where
       by_table : (n : NamedParts) (r : Result (List Definition) NoTable) → first_table n.names given.sources given.rule ≡ r
           → (or_because no_only_table r >>= (λ table. Ok (record { names = n.names; keys = n.keys; table = table }))) ≡ Ok p → first_table p.names given.sources given.rule ≡ Ok p.table

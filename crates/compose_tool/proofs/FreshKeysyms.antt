@@ -10,7 +10,8 @@ use Rattle.compose_fresh.specs.declared.fault.CheckFault.{CheckFault}
 use Rattle.compose_walk.specs.declared.fault.MakeFault.{MakeFault}
 use Rattle.compose_walk.specs.declared.fault.MakeFault.TheVariants.{BadFresh, TooManyFresh}
 use Rattle.compose_make.proofs.Certified as certified
-use Rattle.compose_answer.specs.Parts.{no_fresh, accepted}
+use Rattle.compose_migration.specs.Migration.{no_fresh, too_many_fresh}
+use Rattle.compose_answer.specs.Parts.{accepted}
 
 -- if a walk or a maker has an answer, they have no fault
 pub taken : {W P : Type 0} (IsAnswer : W → Type 0) (old : List Definition) (fresh : List ℕ) (parts : P) (r : Result W MakeFault) (w : W) → r ≡ Ok w
@@ -20,7 +21,7 @@ pub taken : {W P : Type 0} (IsAnswer : W → Type 0) (old : List Definition) (fr
     → (accepted fresh old parts ≡ Ok parts) × IsAnswer w
 taken IsAnswer old fresh parts r w was bad many answer =
     let ok = certified.accepted old fresh r w was bad many in (
-      ap (λ o. option_map_or (λ f. Err (no_fresh f)) (option_map_or (λ f. Some (BadFresh f)) o (cond (nat_lt 1048576 (length fresh)) (Some TooManyFresh) None)) (Ok parts)) ok.0
-          ∙ ap (λ b. option_map_or (λ f. Err (no_fresh f)) (cond b (Some TooManyFresh) None) (Ok parts)) (le-ltb 1048576 (length fresh) ok.1),
+      ap (λ o. option_map_or (λ why. Err why) (option_map_or (λ f. Some (no_fresh f)) o (cond (nat_lt 1048576 (length fresh)) (Some too_many_fresh) None)) (Ok parts)) ok.0
+          ∙ ap (λ b. option_map_or (λ why. Err why) (cond b (Some too_many_fresh) None) (Ok parts)) (le-ltb 1048576 (length fresh) ok.1),
       answer ok.0 ok.1,
     )

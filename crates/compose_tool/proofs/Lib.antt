@@ -3,3 +3,4 @@ pub mod FreshKeysyms
 pub mod Steps
 mod Untypable
 pub mod Lists
+mod AsRead

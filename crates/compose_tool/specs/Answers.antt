@@ -1,5 +1,5 @@
 -- The answer of each command on its parts.
-use Rattle.std.specs.Prelude.{◌≡◌, ◌≢◌, ◌⊎◌, ℕ, List, [], ◌∷◌, ◌++◌, length, filter, flat_map, if◌then◌else◌, Option, Some, None, Result, Ok, string_bytes, codes, true, not}
+use Rattle.std.specs.Prelude.{◌≡◌, ◌≢◌, ◌⊎◌, ℕ, List, [], ◌∷◌, ◌++◌, length, filter, flat_map, if◌then◌else◌, Option, Some, None, Result, Ok, Err, string_bytes, codes, true, not}
 use Rattle.std.specs.List.{find}
 use Rattle.std.specs.Fmt.{decimal, digits}
 use Rattle.std.specs.Ordering.{nat_cmp}
@@ -12,15 +12,19 @@ use Rattle.compose_model.specs.Follows as model
 use Rattle.compose_model.specs.Certificate as certificates
 use Rattle.compose_cert.specs.Repertoire.{repertoire_of}
 use Rattle.compose_cert.specs.Spelling.{Spells}
+use Rattle.compose_read.specs.Lines.{Source}
+use Rattle.compose_read.specs.Read.{definitions_of}
+use Rattle.compose_read.specs.declared.ReadFault.{ReadFault}
+use Rattle.compose_read.specs.declared.ReadFault.TheVariants.{MissingRoot}
 use Rattle.compose_check.specs.Input as checks
-use Rattle.compose_check.specs.Input.{no_repertoire, parts_of, verdict_on}
+use Rattle.compose_check.specs.Input.{verdict_on}
 use Rattle.compose_check.specs.declared.verdict.Verdict.TheVariants as verdicts
 use Rattle.compose_walk.specs.Evidence.{Evidence, IsLeast, AreDifferences}
 use Rattle.compose_walk.specs.Explained.{explained, all_explained}
 use Rattle.compose_make.specs.Least.{AreUntypable, IsUnreachable}
 use Rattle.compose_make.specs.IsMade.{IsMadeFor}
-use Rattle.compose_migration.specs.Migration.{Parts, or_because}
-use Rattle.compose_answer.specs.Parts.{NoAnswer, TypedParts, AllowedParts, Explainable, Needs, unread, makeable}
+use Rattle.compose_migration.specs.Migration.{NoAnswer, Parts, no_repertoire, or_because}
+use Rattle.compose_answer.specs.Parts.{TypedParts, Explainable, Needs, makeable}
 use Rattle.compose_tool.specs.Typed.{typed_lines, typed_lists}
 use Rattle.compose_answer.specs.declared.answer.Answer.{Answer}
 use Rattle.compose_answer.specs.declared.answer.Answer.TheVariants.{Yes, No, Invalid, FreshNotAllowed}
@@ -37,6 +41,15 @@ IsTyped p (Yes text) = string_bytes text ≡ typed_lines p.names p.table p.keys
 IsTyped p (No text) = ⊥
 IsTyped p (Invalid fault) = ⊥
 IsTyped p (FreshNotAllowed keysym) = ⊥
+
+-- the definitions that are read from the first source, before they are settled
+abbrev pub first_definitions : KeysymNames → List Source → Result (List Definition) ReadFault
+first_definitions names [] = Err MissingRoot
+first_definitions names (s ∷ sources) = definitions_of names (s ∷ sources) s.name
+
+-- the same names and keys over these definitions
+abbrev pub with_definitions : List Definition → TypedParts → TypedParts
+with_definitions table p = record { names = p.names; keys = p.keys; table = table }
 
 -- a line for each key of each list, and an empty line after each list
 abbrev pub AreListsTyped : List ℕ → TypedParts → Answer → Type 0
@@ -58,17 +71,11 @@ IsChecked p (FreshNotAllowed keysym) = ⊥
 abbrev pub first_not_among : List ℕ → List ℕ → Option ℕ
 first_not_among allowed keysyms = find (λ k. not (has_key allowed k)) keysyms
 
--- the parts of a check whose fresh keysyms have to be among allowed ones that are read already
-abbrev pub among_parts : List ℕ → checks.Input → Result AllowedParts NoAnswer
-among_parts allowed input = do
-  checked ← or_because unread (parts_of input)
-  Ok (record { checked = checked; allowed = allowed })
-
 -- the verdict; and if it is yes, the first fresh keysym of the certificate that is not allowed, if there is one
-abbrev pub IsCheckedFor : AllowedParts → Answer → Type 0
-IsCheckedFor p (FreshNotAllowed keysym) = (verdict_on p.checked ≡ verdicts.Yes) × (first_not_among p.allowed p.checked.certificate.fresh ≡ Some keysym)
-IsCheckedFor p (Yes text) = IsChecked p.checked (Yes text) × (first_not_among p.allowed p.checked.certificate.fresh ≡ None)
-IsCheckedFor p answer = IsChecked p.checked answer
+abbrev pub IsCheckedFor : checks.Parts → Answer → Type 0
+IsCheckedFor p (FreshNotAllowed keysym) = (verdict_on p ≡ verdicts.Yes) × (first_not_among p.keys p.certificate.fresh ≡ Some keysym)
+IsCheckedFor p (Yes text) = IsChecked p (Yes text) × (first_not_among p.keys p.certificate.fresh ≡ None)
+IsCheckedFor p answer = IsChecked p answer
 
 -- ---- explain
 
@@ -105,7 +112,7 @@ IsAllExplained e (FreshNotAllowed keysym) = ⊥
 -- the input from which a certificate is made, once the migration is read
 abbrev pub needs_of : Parts → List ℕ → Result Needs NoAnswer
 needs_of move repertoire = do
-  r ← or_because (λ why. unread (no_repertoire why)) (repertoire_of repertoire)
+  r ← or_because no_repertoire (repertoire_of repertoire)
   makeable move r (rising nat_cmp move.keys)
 
 -- the bytes are the text of a certificate that is to be made

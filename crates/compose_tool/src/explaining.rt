@@ -1,13 +1,13 @@
 //! `explain`: the keys on which two tables differ.
 ghost use Rattle.std.specs.Prelude.{◌≡◌, string_bytes, IfOk};
-ghost use Rattle.compose_migration.specs.MigrationReturns.{given_of, parts};
+ghost use Rattle.compose_migration.specs.Values.{given_of, parts};
 ghost use Rattle.compose_walk.specs.Explained.{explained, all_explained};
 ghost use Rattle.compose_answer.specs.Parts.{explainable, explain_parts};
-ghost use Rattle.compose_answer.specs.Refused.{Returns};
+ghost use Rattle.compose_migration.specs.Refused.{Returns};
 ghost use Rattle.compose_tool.specs.Answers.{IsExplained, IsAllExplained};
 
-use crate::parts::{in_rising_order, read_migration};
-use compose_answer::{Answer, Refusal};
+use crate::fresh::in_rising_order;
+use compose_answer::{Answer, Refusal, fresh_refusal};
 use compose_migration::{Migration, MigrationInput};
 use compose_tree::ComposeTable;
 use compose_walk::{Counterexample, Differences, Walk, differences, explain, explain_all, walk};
@@ -26,7 +26,7 @@ pub fn explain_migration<T: ComposeTable>(
 ) -> Result<Answer, Refusal>
     ensures { Returns IsExplained result (explain_parts (given_of input.entry.now)) }
 {
-    let migration: Migration<T> = read_migration(alloc, input)?;
+    let migration: Migration<T> = Migration::read(alloc, input)?;
     let fresh = in_rising_order(alloc, &migration.keys)?;
     explain_tables(alloc, &migration, &fresh)
 }
@@ -40,7 +40,10 @@ fn explain_tables<T: ComposeTable>(
     ensures { Returns IsExplained result (explainable (parts T.definitions migration.now) fresh.now) }
 {
     let names = &migration.names;
-    let found = walk(alloc, &migration.old, &migration.new, names, fresh)?;
+    let found = match walk(alloc, &migration.old, &migration.new, names, fresh) {
+        Ok(found) => found,
+        Err(fault) => return Err(fresh_refusal(fault)),
+    };
     match found {
         Walk::Differs(least) => Ok(Answer::No(counterexample_text(alloc, names, &least)?)),
         Walk::Follows(_pairs) => Ok(Answer::Yes(String::from_str(alloc, "follows\n")?)),
@@ -58,7 +61,7 @@ pub fn explain_all_migration<T: ComposeTable>(
 ) -> Result<Answer, Refusal>
     ensures { Returns IsAllExplained result (explain_parts (given_of input.entry.now)) }
 {
-    let migration: Migration<T> = read_migration(alloc, input)?;
+    let migration: Migration<T> = Migration::read(alloc, input)?;
     let fresh = in_rising_order(alloc, &migration.keys)?;
     explain_all_tables(alloc, &migration, &fresh)
 }
@@ -73,7 +76,10 @@ fn explain_all_tables<T: ComposeTable>(
         (explainable (parts T.definitions migration.now) fresh.now) }
 {
     let names = &migration.names;
-    let found = differences(alloc, &migration.old, &migration.new, names, fresh)?;
+    let found = match differences(alloc, &migration.old, &migration.new, names, fresh) {
+        Ok(found) => found,
+        Err(fault) => return Err(fresh_refusal(fault)),
+    };
     if found.is_empty() {
         return Ok(Answer::Yes(String::from_str(alloc, "follows\n")?));
     }

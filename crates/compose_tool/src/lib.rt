@@ -4,9 +4,9 @@
 
 mod checking;
 mod explaining;
+mod fresh;
 mod making;
 mod making_all;
-mod parts;
 mod typing;
 
 pub use checking::{check_allowed, check_migration};

@@ -2,18 +2,18 @@
 ghost use Rattle.std.specs.Prelude.{◌≡◌, ◌++◌, string_bytes, codes, true, IfOk};
 ghost use Rattle.std.specs.Fmt.{digits};
 ghost use Rattle.keysym_core.specs.Printed.{at_least_four};
-ghost use Rattle.compose_migration.specs.MigrationReturns.{given_of, parts};
+ghost use Rattle.compose_migration.specs.Values.{given_of, parts};
 ghost use Rattle.compose_cert.specs.Spelling.{Spells};
 ghost use Rattle.compose_answer.specs.Parts.{makeable, make_parts};
-ghost use Rattle.compose_answer.specs.Refused.{Returns};
+ghost use Rattle.compose_migration.specs.Refused.{Returns};
 ghost use Rattle.compose_tool.specs.Answers.{IsMadeText, needs_of, one_line};
 
 use crate::explaining::counterexample_text;
-use crate::parts::{in_rising_order, read_migration, read_repertoire};
-use compose_answer::{Answer, Refusal};
+use crate::fresh::in_rising_order;
+use compose_answer::{Answer, Refusal, fresh_refusal};
 use compose_cert::{Certificate, Repertoire};
 use compose_make::{Made, make};
-use compose_migration::{Migration, MigrationInput};
+use compose_migration::{Migration, MigrationInput, read_repertoire};
 use compose_tree::ComposeTable;
 use keysym_core::{Keysym, ShownChar};
 use std::alloc::{AllocError, Global};
@@ -33,7 +33,7 @@ pub fn make_migration<T: ComposeTable>(
 ) -> Result<Answer, Refusal>
     ensures { Returns IsMadeText result (make_parts (given_of input.entry.now) repertoire.now) }
 {
-    let migration: Migration<T> = read_migration(alloc, input)?;
+    let migration: Migration<T> = Migration::read(alloc, input)?;
     make_from(alloc, &migration, repertoire)
 }
 
@@ -61,14 +61,17 @@ fn print_made<T: ComposeTable>(
         (makeable (parts T.definitions migration.now) repertoire.now fresh.now) }
 {
     let names = &migration.names;
-    let made = make(
+    let made = match make(
         alloc,
         &migration.old,
         &migration.new,
         names,
         repertoire,
         fresh,
-    )?;
+    ) {
+        Ok(made) => made,
+        Err(fault) => return Err(fresh_refusal(fault)),
+    };
     match made {
         Made::Made(certificate) => Ok(Answer::Yes(spell(alloc, &certificate)?)),
         Made::Differs(least) => Ok(Answer::No(counterexample_text(alloc, names, &least)?)),

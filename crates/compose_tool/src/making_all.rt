@@ -1,19 +1,19 @@
 //! `make --all`: makes a certificate, or lists all characters that can't be typed.
 ghost use Rattle.std.specs.Prelude.{◌≡◌, ◌++◌, string_bytes, IfOk};
-ghost use Rattle.compose_migration.specs.MigrationReturns.{given_of, parts};
+ghost use Rattle.compose_migration.specs.Values.{given_of, parts};
 ghost use Rattle.compose_make.specs.Least.{AreUntypable};
 ghost use Rattle.compose_answer.specs.Parts.{makeable, make_parts};
-ghost use Rattle.compose_answer.specs.Refused.{Returns};
+ghost use Rattle.compose_migration.specs.Refused.{Returns};
 ghost use Rattle.compose_tool.specs.Answers as answers;
 ghost use Rattle.compose_tool.specs.Answers.{IsAllMadeText, IsUntypableText, count_alone, count_of_both, each_untypable, needs_of, tables_words, untypable_count, untypable_line};
 
 use crate::explaining::counterexample_text;
+use crate::fresh::in_rising_order;
 use crate::making::spell;
-use crate::parts::{in_rising_order, read_migration, read_repertoire};
-use compose_answer::{Answer, Refusal};
+use compose_answer::{Answer, Refusal, fresh_refusal};
 use compose_cert::Repertoire;
 use compose_make::{Made, make, untypable};
-use compose_migration::{Migration, MigrationInput};
+use compose_migration::{Migration, MigrationInput, read_repertoire};
 use compose_tree::ComposeTable;
 use keysym_core::{Keysym, Names, ShownChar};
 use std::alloc::{AllocError, Global};
@@ -32,7 +32,7 @@ pub fn make_all_migration<T: ComposeTable>(
 ) -> Result<Answer, Refusal>
     ensures { Returns IsAllMadeText result (make_parts (given_of input.entry.now) repertoire.now) }
 {
-    let migration: Migration<T> = read_migration(alloc, input)?;
+    let migration: Migration<T> = Migration::read(alloc, input)?;
     make_all_from(alloc, &migration, repertoire)
 }
 
@@ -60,14 +60,17 @@ fn print_all_made<T: ComposeTable>(
         (makeable (parts T.definitions migration.now) repertoire.now fresh.now) }
 {
     let names = &migration.names;
-    let made = make(
+    let made = match make(
         alloc,
         &migration.old,
         &migration.new,
         names,
         repertoire,
         fresh,
-    )?;
+    ) {
+        Ok(made) => made,
+        Err(fault) => return Err(fresh_refusal(fault)),
+    };
     match made {
         Made::Made(certificate) => Ok(Answer::Yes(spell(alloc, &certificate)?)),
         Made::Differs(least) => Ok(Answer::No(counterexample_text(alloc, names, &least)?)),

@@ -4,17 +4,16 @@ ghost use Rattle.compose_model.specs.Table.{Definition};
 ghost use Rattle.compose_read.specs.Read.{definitions_of};
 ghost use Rattle.compose_tree.specs.TableReturns.{table_of};
 ghost use Rattle.compose_tool.specs.TypeReturns.{TypeReturns};
-ghost use Rattle.compose_migration.specs.MigrationReturns.{table_given};
+ghost use Rattle.compose_migration.specs.Values.{table_given};
 ghost use Rattle.compose_tool.specs.Typed.{typed_lines, typed_list, typed_lists, fed_line};
-ghost use Rattle.compose_answer.specs.Parts.{type_parts};
-ghost use Rattle.compose_answer.specs.Refused.{Returns};
-ghost use Rattle.compose_tool.specs.Answers.{AreListsTyped, IsTyped};
+ghost use Rattle.compose_answer.specs.Parts.{TypedParts, type_parts};
+ghost use Rattle.compose_migration.specs.Refused.{Returns};
+ghost use Rattle.compose_tool.specs.Answers.{AreListsTyped, IsTyped, first_definitions, with_definitions};
 
-use crate::parts::{read_named, read_only_table};
 use arrayvec::ArrayString;
 use compose_answer::{Answer, Refusal};
 use compose_lex::{LexFault, quote};
-use compose_migration::TableInput;
+use compose_migration::{Named, TableInput, read_only_table};
 use compose_model::Rule;
 use compose_read::{Sources, law_settle};
 use compose_state::{ComposeState, Fed};
@@ -85,11 +84,18 @@ pub fn type_keys<T: ComposeTable>(
     key_names: &[&str],
     table: &TableInput<'_>,
 ) -> Result<Answer, Refusal>
-    ensures { Returns IsTyped result
+    ensures exact { Returns IsTyped result
         (type_parts header.now (map (λ word. word.now) key_names.now)
         (table_given table.entry.now)) }
+    ensures as_read { IfOk result
+        (λ answer. (p : TypedParts) → (read : List Definition)
+        → type_parts header.now (map (λ word. word.now) key_names.now)
+        (table_given table.entry.now) ≡ Ok p
+        → first_definitions p.names (table_given table.entry.now).sources ≡ Ok read
+        → IsTyped (with_definitions read p) answer) }
 {
-    let named = read_named(alloc, header, key_names)?;
+    law_settle();
+    let named = Named::read(alloc, header, key_names)?;
     let table: T = read_only_table(alloc, &named.names, table)?;
     let lines = lines_of_keys(alloc, &named.names, &table, &named.keys)?;
     Ok(Answer::Yes(lines))
@@ -111,7 +117,7 @@ pub fn type_lists<T: ComposeTable>(
         (type_parts header.now (map (λ word. word.now) key_names.now)
         (table_given table.entry.now)) }
 {
-    let named = read_named(alloc, header, key_names)?;
+    let named = Named::read(alloc, header, key_names)?;
     let table: T = read_only_table(alloc, &named.names, table)?;
     let lines = lines_of_lists(alloc, &named.names, &table, &named.keys, counts)?;
     Ok(Answer::Yes(lines))

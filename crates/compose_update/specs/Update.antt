@@ -10,9 +10,9 @@ use Rattle.compose_migration.specs.Migration.{GivenMigration, TableSources}
 use Rattle.compose_bundle.specs.Bundle.{Bundle, BundleFits, IsBundle, bundle_bytes}
 use Rattle.compose_bundle.specs.Written.{max_payload}
 use Rattle.compose_answer.specs.Parts.{Needs, make_parts}
-use Rattle.compose_answer.specs.Refused.{IsRefused}
+use Rattle.compose_migration.specs.Refused.{IsRefused}
 use Rattle.compose_answer.specs.declared.answer.Answer.TheVariants.{No}
-use Rattle.compose_answer.specs.declared.refusal.Refusal.{Refusal}
+use Rattle.compose_migration.specs.declared.refusal.Refusal.{Refusal}
 use Rattle.compose_tool.specs.Answers.{SpellsMade, IsMadeText}
 use Rattle.compose_update.specs.declared.deciding.UpdateInput.{UpdateInput}
 use Rattle.compose_update.specs.declared.deciding.Update.{Update}

@@ -1,7 +1,7 @@
 //! The decision of an update.
 ghost use Rattle.std.specs.Prelude.{◌≡◌, Some, None, string_bytes};
 ghost use Rattle.std.specs.Option.{option_map};
-ghost use Rattle.compose_migration.specs.MigrationReturns.{given_of};
+ghost use Rattle.compose_migration.specs.Values.{given_of};
 ghost use Rattle.compose_update.specs.Update.{Updates, StoresWith, given_update, itself, move_from};
 
 use compose_answer::{Answer, Refusal};

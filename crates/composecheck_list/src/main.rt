@@ -1,5 +1,5 @@
-//! The commands of `compose_commands` on the plain form of a table. Tests run it beside `composecheck`, and it has to answer alike;
-//! it is not installed.
+//! The commands of `compose_commands` on the plain form of a table. Tests run it beside
+//! `composecheck`, and it has to answer alike; it is not installed.
 //!
 //! ```text
 //! python3 tests/run.py crates/composecheck_list/out/composecheck_list

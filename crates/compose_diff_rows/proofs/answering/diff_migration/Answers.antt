@@ -1,8 +1,4 @@
-use Rattle.std.proofs.Common.{sym, subst}
-use Rattle.compose_migration.specs.MigrationReturns.{given_of}
-use Rattle.compose_answer.specs.Refused.{IsRefused}
-use Rattle.compose_answer.specs.declared.refusal.Refusal.{Refusal}
-use Rattle.compose_diff_rows.specs.Answers.{compared_parts}
+use Rattle.compose_migration.specs.Values.{given_of}
 use Rattle.compose_diff_rows.proofs.Joining.{unread_refused}
 use Rattle.compose_diff_rows.proofs.answering.diff_migration.Goals as goal
 
@@ -19,6 +15,4 @@ diff_tables-requires g c =
     }
 
 pub returns-in-Err : goal.returns-in-Err
-returns-in-Err g c =
-    let given = given_of c.args.input.now.tables in
-    subst (λ (r : Refusal). IsRefused r (compared_parts given)) (sym c.from.ensures) (unread_refused given c.in-Err.fault c.in-Err.ensures.parts)
+returns-in-Err g c = unread_refused (given_of c.args.input.now.tables) c.in-Err.refusal c.in-Err.ensures.parts

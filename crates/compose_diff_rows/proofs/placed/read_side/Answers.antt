@@ -1,11 +1,12 @@
 use Rattle.std.proofs.Common.{rules}
 use Rattle.compose_tree.specs.TableReturns.{first_table}
-use Rattle.compose_migration.proofs.Tables.{side_refused}
+use Rattle.compose_migration.specs.Migration.{no_table}
+use Rattle.compose_migration.proofs.Tables.{table_refused}
 use Rattle.compose_diff_rows.proofs.placed.read_side.Goals as goal
 
 pub returns-in-Err : goal.returns-in-Err
 returns-in-Err g c = record {
-  table = side_refused c.args.side c.in-Err.fault (first_table c.args.names.now c.args.input.now.sources.now c.args.input.now.rule) (search rules);
+  table = table_refused (no_table c.args.side) c.in-Err.fault (first_table c.args.names.now c.args.input.now.sources.now c.args.input.now.rule) (search rules);
   lines = tt;
   overlaps = tt;
 }

@@ -1,10 +1,11 @@
 use Rattle.std.proofs.Common.{rules, [], map, ◌∙◌, subst, Option}
 use Rattle.std.specs.Prelude.{option_copied}
-use Rattle.compose_migration.specs.MigrationReturns.{named_parts, table_given}
+use Rattle.compose_migration.specs.Values.{named_parts, table_given}
 use Rattle.compose_answer.specs.Parts.{TypedParts}
 use Rattle.compose_model.specs.Certificate.{Repertoire}
-use Rattle.compose_answer.specs.declared.refusal.Refusal.TheVariants.{NoMemory}
-use Rattle.compose_tool.proofs.Steps.{refusal_gives, named_refused, table_refused, typed_read}
+use Rattle.compose_migration.specs.declared.refusal.Refusal.TheVariants.{NoMemory}
+use Rattle.compose_migration.proofs.Steps.{refusal_gives}
+use Rattle.compose_tool.proofs.Steps.{named_refused, table_refused, typed_read}
 use Rattle.compose_listing.specs.Answers.{AreWays, how_parts, lines_of_sources}
 use Rattle.compose_listing.proofs.Parts.{typed_refused, repertoire_refused, all_read}
 use Rattle.compose_listing.proofs.how.how_to_type.Goals as goal

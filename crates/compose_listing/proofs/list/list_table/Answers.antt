@@ -1,9 +1,10 @@
 use Rattle.std.proofs.Common.{rules, ℕ, List, map, ◌∙◌, subst, string_bytes}
 use Rattle.std.specs.Prelude.{option_copied}
-use Rattle.compose_migration.specs.MigrationReturns.{named_parts, table_given}
+use Rattle.compose_migration.specs.Values.{named_parts, table_given}
 use Rattle.compose_answer.specs.Parts.{type_parts}
-use Rattle.compose_answer.specs.declared.refusal.Refusal.TheVariants.{NoMemory}
-use Rattle.compose_tool.proofs.Steps.{refusal_gives, named_refused, table_refused, typed_read}
+use Rattle.compose_migration.specs.declared.refusal.Refusal.TheVariants.{NoMemory}
+use Rattle.compose_migration.proofs.Steps.{refusal_gives}
+use Rattle.compose_tool.proofs.Steps.{named_refused, table_refused, typed_read}
 use Rattle.compose_listing.specs.Answers.{IsListed, IsListing, lines_of_sources}
 use Rattle.compose_listing.proofs.list.list_table.Goals as goal
 

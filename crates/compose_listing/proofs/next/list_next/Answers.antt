@@ -1,7 +1,8 @@
 use Rattle.std.proofs.Common.{rules, map, ◌∙◌, ap}
-use Rattle.compose_migration.specs.MigrationReturns.{named_parts, table_given}
+use Rattle.compose_migration.specs.Values.{named_parts, table_given}
 use Rattle.compose_answer.specs.Parts.{type_parts}
-use Rattle.compose_tool.proofs.Steps.{refusal_gives, named_refused, table_refused, typed_read}
+use Rattle.compose_migration.proofs.Steps.{refusal_gives}
+use Rattle.compose_tool.proofs.Steps.{named_refused, table_refused, typed_read}
 use Rattle.compose_listing.specs.Answers.{IsNext}
 use Rattle.compose_listing.specs.Next.{next_lines}
 use Rattle.compose_listing.proofs.next.list_next.Goals as goal

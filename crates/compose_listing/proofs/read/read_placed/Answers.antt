@@ -1,8 +1,7 @@
 use Rattle.std.proofs.Common.{rules, ap}
 use Rattle.compose_tree.specs.TableReturns.{first_table}
-use Rattle.compose_migration.specs.Migration.{or_because}
+use Rattle.compose_migration.specs.Migration.{or_because, no_only_table}
 use Rattle.compose_migration.proofs.Tables.{why_none}
-use Rattle.compose_answer.specs.Parts.{no_only_table}
 use Rattle.compose_listing.proofs.read.read_placed.Goals as goal
 
 pub returns-in-Err : goal.returns-in-Err

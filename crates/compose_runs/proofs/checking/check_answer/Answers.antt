@@ -1,9 +1,7 @@
 use Rattle.std.proofs.Common.{map, subst, sym, ℕ, List, Bor}
 use Rattle.std.specs.Prelude.{Option}
-use Rattle.compose_migration.specs.Migration.{or_because}
-use Rattle.compose_check.specs.Input.{parts_of}
-use Rattle.compose_answer.specs.Parts.{unread, allowed_parts}
-use Rattle.compose_answer.specs.Refused.{Returns}
+use Rattle.compose_check.specs.Input.{allowed_parts, parts_of}
+use Rattle.compose_migration.specs.Refused.{Returns}
 use Rattle.compose_tool.specs.Answers.{IsChecked, IsCheckedFor}
 use Rattle.compose_runs.specs.Checking.{AnswersCheck, allowed_names}
 use Rattle.compose_runs.proofs.checking.check_answer.Goals as goal
@@ -16,4 +14,4 @@ returns-in-Some g c =
 pub returns-in-None : goal.returns-in-None
 returns-in-None g c =
     let r = c.check_migration.result in let check = c.args.check.now in
-    subst (λ (a : Option (Bor (List (Bor (List ℕ))))). AnswersCheck (allowed_names a) r check) (sym c.in-None.is) (subst (λ i. Returns IsChecked r (or_because unread (parts_of i))) c.input-input.ensures c.check_migration.ensures)
+    subst (λ (a : Option (Bor (List (Bor (List ℕ))))). AnswersCheck (allowed_names a) r check) (sym c.in-None.is) (subst (λ i. Returns IsChecked r (parts_of i)) c.input-input.ensures c.check_migration.ensures)

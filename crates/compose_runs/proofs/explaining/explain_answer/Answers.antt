@@ -1,6 +1,6 @@
 use Rattle.std.proofs.Common.{map, subst, sym}
 use Rattle.compose_answer.specs.Parts.{explain_parts}
-use Rattle.compose_answer.specs.Refused.{Returns}
+use Rattle.compose_migration.specs.Refused.{Returns}
 use Rattle.compose_tool.specs.Answers.{IsExplained, IsAllExplained}
 use Rattle.compose_runs.specs.Explaining.{AnswersExplain}
 use Rattle.compose_runs.specs.Files.{migration_given}

@@ -1,12 +1,12 @@
 use Rattle.std.proofs.Common.{rules, map, subst, ap, ◌∙◌, ℕ, List, Bor, string_bytes, Global}
 use Rattle.std.specs.Prelude.{option_copied, option_map}
 use Rattle.std.specs.declared.string.String.{String}
-use Rattle.compose_answer.specs.Refused.{Returns}
-use Rattle.compose_answer.specs.declared.refusal.Refusal.TheVariants.{NoMemory}
+use Rattle.compose_migration.specs.Refused.{Returns}
+use Rattle.compose_migration.specs.declared.refusal.Refusal.TheVariants.{NoMemory}
 use Rattle.compose_input.specs.Tables.{sources_of}
 use Rattle.compose_listing.specs.Answers.{AreWays, how_parts}
 use Rattle.compose_listing.specs.Wanted.{wanted_text}
-use Rattle.compose_tool.proofs.Steps.{refusal_gives}
+use Rattle.compose_migration.proofs.Steps.{refusal_gives}
 use Rattle.compose_runs.specs.Listing.{form_of}
 use Rattle.compose_runs.proofs.looking_up.how_answer.Goals as goal
 

@@ -1,6 +1,6 @@
 use Rattle.std.proofs.Common.{◌∙◌, map, subst, sym, ap, ℕ, List, [], Bor}
 use Rattle.std.specs.Prelude.{Result, Err, IfOk, option_copied, unwrap_or}
-use Rattle.compose_answer.specs.declared.refusal.Refusal.{Refusal}
+use Rattle.compose_migration.specs.declared.refusal.Refusal.{Refusal}
 use Rattle.compose_listing.specs.declared.how.Ways.{Ways}
 use Rattle.compose_runs.specs.HowTo.{IsHowOutcome, IsWaysOutcome}
 use Rattle.compose_runs.specs.OneTable.{IsTableOutcome}

@@ -1,6 +1,6 @@
 use Rattle.std.proofs.Common.{map, subst, sym}
 use Rattle.compose_answer.specs.Parts.{make_parts}
-use Rattle.compose_answer.specs.Refused.{Returns}
+use Rattle.compose_migration.specs.Refused.{Returns}
 use Rattle.compose_tool.specs.Answers.{IsMadeText, IsAllMadeText}
 use Rattle.compose_runs.specs.Making.{AnswersMake}
 use Rattle.compose_runs.specs.Files.{migration_given}

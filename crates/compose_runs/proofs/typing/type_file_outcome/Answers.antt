@@ -1,9 +1,9 @@
 use Rattle.std.proofs.Common.{map, string_bytes, subst, sym, ap, [], ◌≡◌, ◌∙◌}
 use Rattle.std.specs.Prelude.{false}
 use Rattle.keysym_core.specs.Header.{names_of}
-use Rattle.compose_migration.specs.MigrationReturns.{table_given}
+use Rattle.compose_migration.specs.Values.{table_given}
 use Rattle.compose_answer.specs.Parts.{type_parts}
-use Rattle.compose_answer.specs.Refused.{Returns}
+use Rattle.compose_migration.specs.Refused.{Returns}
 use Rattle.compose_tool.specs.Answers.{IsTyped}
 use Rattle.compose_report.proofs.Results.{ok_map}
 use Rattle.compose_runs.specs.OneTable.{IsTableOutcome}
@@ -25,6 +25,6 @@ returns g c =
       answered = answered;
       is = subst (λ s. Returns IsTyped answered (type_parts lines keys s)) c.input.ensures
           (subst (λ k. Returns IsTyped answered (type_parts lines (map now_of k) (table_given c.input.result))) c.deref-4.ensures.value
-          (subst (λ h. Returns IsTyped answered (type_parts h (map now_of c.deref-4.result.now) (table_given c.input.result))) c.deref-3.ensures.value c.type_keys-answered.ensures));
+          (subst (λ h. Returns IsTyped answered (type_parts h (map now_of c.deref-4.result.now) (table_given c.input.result))) c.deref-3.ensures.value c.type_keys-answered.ensures.exact));
       reported = subst (λ k. IsTableOutcome false read (map now_of k) [] [] answered outcome) c.deref-5.ensures.value reported;
     }) c.outcome.ensures

@@ -3,8 +3,8 @@ use Rattle.std.specs.Prelude.{flat_map}
 use Rattle.std.specs.Str.Lines.{lines}
 use Rattle.keysym_core.specs.Header.{names_of}
 use Rattle.compose_answer.specs.Parts.{type_parts}
-use Rattle.compose_answer.specs.Refused.{Returns}
-use Rattle.compose_migration.specs.MigrationReturns.{table_given}
+use Rattle.compose_migration.specs.Refused.{Returns}
+use Rattle.compose_migration.specs.Values.{table_given}
 use Rattle.compose_report.proofs.Results.{ok_map}
 use Rattle.compose_tool.specs.Answers.{AreListsTyped}
 use Rattle.compose_key_lists.specs.Lists.{refused_line, words_in}

@@ -1,7 +1,7 @@
 use Rattle.std.proofs.Common.{map, subst, [], ◌∷◌}
-use Rattle.compose_migration.specs.MigrationReturns.{table_given}
+use Rattle.compose_migration.specs.Values.{table_given}
 use Rattle.compose_answer.specs.Parts.{type_parts}
-use Rattle.compose_answer.specs.Refused.{Returns}
+use Rattle.compose_migration.specs.Refused.{Returns}
 use Rattle.compose_tool.specs.Answers.{IsTyped}
 use Rattle.compose_report.specs.Outcomes.{IsReported}
 use Rattle.compose_report.proofs.Results.{ok_map}
@@ -16,7 +16,7 @@ returns g c =
     (λ outcome reported. record {
       answered = answered;
       is = subst (λ s. Returns IsTyped answered (type_parts names.lines.items keys s)) c.input.ensures
-          (subst (λ h. Returns IsTyped answered (type_parts h keys (table_given c.input.result))) c.deref.ensures.value c.type_keys-answered.ensures);
+          (subst (λ h. Returns IsTyped answered (type_parts h keys (table_given c.input.result))) c.deref.ensures.value c.type_keys-answered.ensures.exact);
       given = given;
       parts = c.of-given.ensures (table ∷ []) (c.of.ensures, tt);
       reported = reported;

@@ -1,14 +1,13 @@
-use Rattle.std.proofs.Common.{sym, subst}
-use Rattle.compose_migration.specs.Migration.{or_because}
+use Rattle.std.proofs.Common.{rules}
+use Rattle.compose_migration.specs.declared.refusal.Refusal.TheVariants.{NoMemory}
+use Rattle.compose_migration.proofs.Steps.{refusal_gives}
 use Rattle.compose_check.specs.Input.{parts_of}
 use Rattle.compose_check.specs.CheckReturns.{input_of}
-use Rattle.compose_answer.specs.Parts.{unread}
-use Rattle.compose_answer.specs.Refused.{IsRefused}
-use Rattle.compose_answer.specs.declared.refusal.Refusal.{Refusal}
-use Rattle.compose_answer.proofs.Refusals.{input_refused}
+use Rattle.compose_tool.specs.Answers.{IsChecked}
 use Rattle.compose_tool.proofs.checking.check_migration.Goals as goal
 
-pub returns-in-Err : goal.returns-in-Err
-returns-in-Err g c =
-    let expected = parts_of (input_of c.args.input.now) in
-    subst (λ (r : Refusal). IsRefused r (or_because unread expected)) (sym c.from.ensures) (input_refused c.in-Err.fault expected c.in-Err.ensures.exact)
+pub returns-in_err-parts : goal.returns-in_err-parts
+returns-in_err-parts g c = refusal_gives IsChecked c.from_residual.result c.in_err-parts.field-0.0 (parts_of (input_of c.args.input.now)) (search rules) c.in_err-parts.ensures
+
+pub returns-in_err-from_str-in-Yes : goal.returns-in_err-from_str-in-Yes
+returns-in_err-from_str-in-Yes g c = refusal_gives IsChecked c.from_residual-in_err-from_str-in-Yes.result NoMemory (parts_of (input_of c.args.input.now)) (search rules) tt

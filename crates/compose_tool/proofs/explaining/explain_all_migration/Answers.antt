@@ -1,11 +1,13 @@
 use Rattle.std.proofs.Common.{rules, sym, ◌∙◌, ap, subst, nat_cmp}
 use Rattle.std.specs.Prelude.{Result}
 use Rattle.compose_model.specs.Nodes.{rising}
-use Rattle.compose_migration.specs.MigrationReturns.{given_of, parts}
-use Rattle.compose_answer.specs.Parts.{NoAnswer, Explainable, explain_parts}
-use Rattle.compose_answer.specs.Refused.{Returns}
+use Rattle.compose_migration.specs.Values.{given_of, parts}
+use Rattle.compose_answer.specs.Parts.{Explainable, explain_parts}
+use Rattle.compose_migration.specs.Migration.{NoAnswer}
+use Rattle.compose_migration.specs.Refused.{Returns}
 use Rattle.compose_tool.specs.Answers.{IsAllExplained}
-use Rattle.compose_tool.proofs.Steps.{refusal_gives, explain_refused, explain_read}
+use Rattle.compose_migration.proofs.Steps.{refusal_gives}
+use Rattle.compose_tool.proofs.Steps.{explain_refused, explain_read}
 use Rattle.compose_tool.proofs.explaining.explain_all_migration.Goals as goal
 
 pub returns-in_err-migration : goal.returns-in_err-migration

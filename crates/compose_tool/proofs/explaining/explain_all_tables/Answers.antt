@@ -1,5 +1,5 @@
 use Rattle.std.proofs.Common.{subst, rules}
-use Rattle.compose_migration.specs.MigrationReturns.{parts}
+use Rattle.compose_migration.specs.Values.{parts}
 use Rattle.compose_walk.specs.Evidence.{AreDifferences}
 use Rattle.compose_answer.specs.Parts.{Explainable}
 use Rattle.compose_tool.proofs.FreshKeysyms.{taken}
@@ -11,7 +11,7 @@ returns-then-is_empty g c =
     let fresh = c.args.fresh.now in
     let e : Explainable = record { move = move; fresh = fresh } in
     let are = AreDifferences move.names fresh move.old move.new in
-    let ok = taken are move.old fresh e c.differences.result c.in_ok-found.found c.in_ok-found.was c.differences.ensures.bad_fresh c.differences.ensures.too_many c.in_ok-found.ensures.answer in
+    let ok = taken are move.old fresh e c.differences.result c.in-Ok.found c.in-Ok.is c.differences.ensures.bad_fresh c.differences.ensures.too_many c.in-Ok.ensures.answer in
     (e, ok.0, (subst are (c.is_empty.ensures.0 c.if-is_empty.true) ok.1, search rules))
 
 pub returns : goal.returns
@@ -20,5 +20,5 @@ returns g c =
     let fresh = c.args.fresh.now in
     let e : Explainable = record { move = move; fresh = fresh } in
     let are = AreDifferences move.names fresh move.old move.new in
-    let ok = taken are move.old fresh e c.differences.result c.in_ok-found.found c.in_ok-found.was c.differences.ensures.bad_fresh c.differences.ensures.too_many c.in_ok-found.ensures.answer in
-    (e, ok.0, record { differences = c.in_ok-found.found; are = ok.1; some = λ none. (let e = c.is_empty.ensures.1 none in let f = c.if-is_empty.false in cc); is = c.in_ok-print_differences.ensures })
+    let ok = taken are move.old fresh e c.differences.result c.in-Ok.found c.in-Ok.is c.differences.ensures.bad_fresh c.differences.ensures.too_many c.in-Ok.ensures.answer in
+    (e, ok.0, record { differences = c.in-Ok.found; are = ok.1; some = λ none. (let e = c.is_empty.ensures.1 none in let f = c.if-is_empty.false in cc); is = c.in_ok-print_differences.ensures })

@@ -1,5 +1,5 @@
 use Rattle.std.proofs.Common.{subst, rules}
-use Rattle.compose_migration.specs.MigrationReturns.{parts}
+use Rattle.compose_migration.specs.Values.{parts}
 use Rattle.compose_walk.specs.Walks.{IsWalk}
 use Rattle.compose_answer.specs.Parts.{Explainable}
 use Rattle.compose_tool.proofs.FreshKeysyms.{taken}
@@ -11,7 +11,7 @@ returns-in_ok-counterexample_text-in-Differs g c =
     let fresh = c.args.fresh.now in
     let e : Explainable = record { move = move; fresh = fresh } in
     let is_walk = IsWalk move.names fresh move.old move.new in
-    let ok = taken is_walk move.old fresh e c.walk.result c.in_ok-found.found c.in_ok-found.was c.walk.ensures.bad_fresh c.walk.ensures.too_many c.in_ok-found.ensures.answer in
+    let ok = taken is_walk move.old fresh e c.walk.result c.in-Ok.found c.in-Ok.is c.walk.ensures.bad_fresh c.walk.ensures.too_many c.in-Ok.ensures.answer in
     let least = subst is_walk c.in-Differs.is ok.1 in
     (e, ok.0, record { differs = least.0; evidence = c.in-Differs.least; least = least.1; is = c.in_ok-counterexample_text-in-Differs.ensures })
 
@@ -21,6 +21,6 @@ returns-in_ok-from_str-in-Follows g c =
     let fresh = c.args.fresh.now in
     let e : Explainable = record { move = move; fresh = fresh } in
     let is_walk = IsWalk move.names fresh move.old move.new in
-    let ok = taken is_walk move.old fresh e c.walk.result c.in_ok-found.found c.in_ok-found.was c.walk.ensures.bad_fresh c.walk.ensures.too_many c.in_ok-found.ensures.answer in
+    let ok = taken is_walk move.old fresh e c.walk.result c.in-Ok.found c.in-Ok.is c.walk.ensures.bad_fresh c.walk.ensures.too_many c.in-Ok.ensures.answer in
     let follower = subst is_walk c.in-Follows.is ok.1 in
     (e, ok.0, (follower.follows, search rules))

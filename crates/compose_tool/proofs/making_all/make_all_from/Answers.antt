@@ -1,11 +1,13 @@
 use Rattle.std.proofs.Common.{rules, sym, ◌∙◌, ap, subst, nat_cmp}
 use Rattle.std.specs.Prelude.{Result}
 use Rattle.compose_model.specs.Nodes.{rising}
-use Rattle.compose_migration.specs.MigrationReturns.{parts}
-use Rattle.compose_answer.specs.Parts.{NoAnswer, Needs}
-use Rattle.compose_answer.specs.Refused.{Returns}
+use Rattle.compose_migration.specs.Values.{parts}
+use Rattle.compose_answer.specs.Parts.{Needs}
+use Rattle.compose_migration.specs.Migration.{NoAnswer}
+use Rattle.compose_migration.specs.Refused.{Returns}
 use Rattle.compose_tool.specs.Answers.{IsAllMadeText, needs_of}
-use Rattle.compose_tool.proofs.Steps.{refusal_gives, repertoire_refused, needs_read}
+use Rattle.compose_migration.proofs.Steps.{refusal_gives}
+use Rattle.compose_tool.proofs.Steps.{repertoire_refused, needs_read}
 use Rattle.compose_tool.proofs.making_all.make_all_from.Goals as goal
 
 pub returns-in_err-repertoire : goal.returns-in_err-repertoire

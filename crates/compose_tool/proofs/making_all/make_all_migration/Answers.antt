@@ -1,10 +1,12 @@
 use Rattle.std.proofs.Common.{rules, sym, subst}
 use Rattle.std.specs.Prelude.{Result}
-use Rattle.compose_migration.specs.MigrationReturns.{given_of, parts}
-use Rattle.compose_answer.specs.Parts.{NoAnswer, Needs, make_parts}
-use Rattle.compose_answer.specs.Refused.{Returns}
+use Rattle.compose_migration.specs.Values.{given_of, parts}
+use Rattle.compose_answer.specs.Parts.{Needs, make_parts}
+use Rattle.compose_migration.specs.Migration.{NoAnswer}
+use Rattle.compose_migration.specs.Refused.{Returns}
 use Rattle.compose_tool.specs.Answers.{IsAllMadeText}
-use Rattle.compose_tool.proofs.Steps.{refusal_gives, make_refused, make_read}
+use Rattle.compose_migration.proofs.Steps.{refusal_gives}
+use Rattle.compose_tool.proofs.Steps.{make_refused, make_read}
 use Rattle.compose_tool.proofs.making_all.make_all_migration.Goals as goal
 
 pub returns-in_err-migration : goal.returns-in_err-migration

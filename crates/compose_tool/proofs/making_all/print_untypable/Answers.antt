@@ -1,4 +1,4 @@
-use Rattle.compose_migration.specs.MigrationReturns.{parts}
+use Rattle.compose_migration.specs.Values.{parts}
 use Rattle.compose_tool.proofs.Untypable.{all_reported}
 use Rattle.compose_tool.proofs.making_all.print_untypable.Goals as goal
 

@@ -1,9 +1,10 @@
 use Rattle.std.proofs.Common.{rules, map, ◌∙◌, ap}
-use Rattle.compose_migration.specs.MigrationReturns.{named_parts, table_given}
+use Rattle.compose_migration.specs.Values.{named_parts, table_given}
 use Rattle.compose_answer.specs.Parts.{type_parts}
 use Rattle.compose_tool.specs.Typed.{typed_lists}
 use Rattle.compose_tool.specs.Answers.{AreListsTyped}
-use Rattle.compose_tool.proofs.Steps.{refusal_gives, named_refused, table_refused, typed_read}
+use Rattle.compose_migration.proofs.Steps.{refusal_gives}
+use Rattle.compose_tool.proofs.Steps.{named_refused, table_refused, typed_read}
 use Rattle.compose_tool.proofs.typing.type_lists.Goals as goal
 
 pub returns-in_err-named : goal.returns-in_err-named

@@ -1,6 +1,6 @@
 use Rattle.std.proofs.Common.{map}
 use Rattle.compose_input.specs.Tables.{sources_of}
-use Rattle.compose_migration.specs.MigrationReturns.{table_given}
+use Rattle.compose_migration.specs.Values.{table_given}
 use Rattle.compose_runs.proofs.Given.{same_migration}
 use Rattle.compose_runs.proofs.files.MigrationFiles.input.Goals as goal
 

@@ -2,7 +2,7 @@ use Rattle.std.proofs.Common.{subst, List, ℕ}
 use Rattle.std.specs.List.Sorted.{IsPermutation}
 use Rattle.std.proofs.lemmas.List.Filters.{dedup_is}
 use Rattle.compose_answer.proofs.Rising.{rising_is}
-use Rattle.compose_tool.proofs.parts.in_rising_order.Goals as goal
+use Rattle.compose_tool.proofs.fresh.in_rising_order.Goals as goal
 
 pub returns : goal.returns
 returns c =

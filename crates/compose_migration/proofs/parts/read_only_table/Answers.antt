@@ -1,0 +1,9 @@
+use Rattle.std.proofs.Common.{rules}
+use Rattle.compose_tree.specs.TableReturns.{first_table}
+use Rattle.compose_migration.specs.Migration.{no_only_table}
+use Rattle.compose_migration.proofs.Tables.{table_refused}
+use Rattle.compose_migration.proofs.parts.read_only_table.Goals as goal
+
+pub returns-in-Err : goal.returns-in-Err
+returns-in-Err g c =
+    table_refused no_only_table c.in-Err.fault (first_table c.args.names.now c.args.input.now.sources.now c.args.input.now.rule) (search rules)
