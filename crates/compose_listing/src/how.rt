@@ -46,8 +46,8 @@ pub struct Ways {
 
 /// Returns the sequences of a table that give these texts, all or for each text only the first. The
 /// shortest come first, and those of the same length are in order. If a repertoire is given, only
-/// those are returned that its keys can type. O(bytes of the sources + n) for n sequences, and O(m log
-/// m) for the m of them that give one of the texts.
+/// those are returned that its keys can type. O(bytes of the sources + n) for n sequences, and O(m
+/// log m) for the m of them that give one of the texts.
 ///
 /// Errors: that of the first part that is refused, in the order names, table, repertoire, or
 /// `NoMemory` if memory runs out.

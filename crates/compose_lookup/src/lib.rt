@@ -2,8 +2,8 @@
 //!
 //! A [`TextIndex`] is built from a table once, for some texts. It then finds the leaves of all
 //! sequences that give one of them, the shortest first, and those of the same length in order: the
-//! first of them is the shortest way to type the text. [`first_longer`] returns the shortest sequence that goes on from
-//! a node.
+//! first of them is the shortest way to type the text. [`first_longer`] returns the shortest
+//! sequence that goes on from a node.
 //!
 //! ```text
 //! <Multi_key> <x> <y> : "é"     leaf 0

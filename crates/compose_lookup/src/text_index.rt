@@ -16,8 +16,8 @@ use std::marker::Model;
 /// The greatest number of keys in a sequence.
 const MAX_KEYS: u32 = 32;
 
-/// The leaves of a table that give some texts, in the order of these texts, and those of one text by
-/// the lengths of their sequences and then in order: 4 bytes per leaf.
+/// The leaves of a table that give some texts, in the order of these texts, and those of one text
+/// by the lengths of their sequences and then in order: 4 bytes per leaf.
 #[derive(Drop)]
 pub struct TextIndex {
     leaves: Vec<LeafId>,

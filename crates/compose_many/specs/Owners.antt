@@ -88,7 +88,8 @@ ClosedAtEnd false c all = ClosedNone c all
 abbrev pub EndedOwnNone : Type 0
 EndedOwnNone = (c : ℕ) (all : List NumberedEvent) → EndedWithItsSessions c all → first_own c (owners_of all) ≡ None
 
--- where each connection ended with its sessions, or nothing happened on it, no session is open but those that were open before
+-- if each connection ended with its sessions, or nothing happened on it, no session is open but those that were open
+-- before
 abbrev pub NoSessionStays : Type 0
 NoSessionStays = (reading : Reading) (first now : ServiceState) (all : List NumberedEvent) → IsHistory reading first (exchanges (map (λ (e : NumberedEvent). e.event) all)) now
     → ((c : ℕ) → EndedWithItsSessions c all ⊎ (events_of c all ≡ [])) → (n : ℕ) → IsSome (session_of now.sessions n) → IsSome (session_of first.sessions n)

@@ -108,8 +108,8 @@ is_fed (Feeding w n) = true
 is_fed (Asking w h) = true
 is_fed _ = false
 
--- the session turns out to be closed, a new connection is made (with a number for another session), the session is opened
--- there, and every request is answered
+-- the session turns out to be closed, a new connection is made (with a number for another session), the session is
+-- opened there, and every request is answered
 abbrev pub reopened : KeysymNames → List Definition → Client → ℕ → ℕ → List Event
 reopened names table c n k =
     reply (record { session = c.session; answer = refused no_session }) ∷ connect n ∷ reply (record { session = c.session; answer = opened })

@@ -216,8 +216,8 @@ timeout_outcome c = if is_idle c.stage then does c Wait else give_up_outcome c
 
 -- ---- events without a key; while a reply is waited for they change nothing
 
--- the last pending key is taken back, and the service is asked what is pending then; without a connection the next key is
--- typed after the others
+-- the last pending key is taken back, and the service is asked what is pending then; without a connection the next key
+-- is typed after the others
 abbrev pub erased_at : Stage → Client → Outcome
 erased_at Apart c = does (record c { pending = take (length c.pending - 1) c.pending; is_stale = true }) Wait
 erased_at Ready c = refreshes (record c { pending = take (length c.pending - 1) c.pending })
