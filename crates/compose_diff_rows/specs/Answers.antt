@@ -14,6 +14,7 @@ use Rattle.compose_fresh.specs.Fresh.{fresh_conditions}
 use Rattle.compose_fresh.specs.Conditions.{first_unmet}
 use Rattle.compose_places.specs.Counting.{WrittenLine, counting_line, read_lines}
 use Rattle.compose_places.specs.Overlaps.{overlap_count}
+use Rattle.compose_places.specs.Placed.{root_of}
 use Rattle.compose_answer.specs.Parts.{Explainable}
 use Rattle.compose_migration.specs.Refused.{IsRefused}
 use Rattle.compose_answer.specs.declared.answer.Answer.{Answer}
@@ -74,11 +75,6 @@ abbrev pub AreTables : Explainable → Type 0
 AreTables e = IsTrue (is_table e.move.old) × IsTrue (is_table e.move.new)
 
 -- ---- the rows
-
--- the name of the first source, which is the root; empty without sources
-abbrev pub root_of : List Source → List ℕ
-root_of [] = []
-root_of (s ∷ sources) = s.name
 
 -- the lines that count for the sequences of a table whose root is the first source
 abbrev pub lines_in : KeysymNames → List Source → List Definition → List (Option WrittenLine)

@@ -5,8 +5,10 @@ use Rattle.std.specs.declared.alloc.Global.{Global}
 use Rattle.compose_model.specs.Certificate.{keys_rise}
 use Rattle.compose_model.specs.Table.{Definition}
 use Rattle.compose_migration.specs.Migration.{Parts, migration_of}
-use Rattle.compose_places.specs.Overlaps.{overlap_count}
-use Rattle.compose_migration.specs.Values.{given_of}
+use Rattle.compose_migration.specs.Values.{given_of, parts}
+use Rattle.compose_migration.specs.declared.migration.Migration.{Migration}
+use Rattle.compose_places.specs.Placed.{HasLines}
+use Rattle.compose_places.specs.declared.placed.PlacedTable.{PlacedTable}
 use Rattle.compose_answer.specs.Parts.{Explainable}
 use Rattle.compose_migration.specs.Refused.{IsRefused}
 use Rattle.compose_answer.specs.declared.answer.Answer.{Answer}
@@ -16,9 +18,8 @@ use Rattle.compose_diff.specs.declared.accepted.AcceptFault.{AcceptFault}
 use Rattle.compose_diff.specs.declared.accepted.AcceptFault.TheVariants.{Stale, BadLine, NoMemory}
 use Rattle.compose_diff.specs.declared.overlaps.Overlaps.{Overlaps}
 use Rattle.compose_diff.specs.declared.row.DiffRow.{DiffRow}
-use Rattle.compose_diff_rows.specs.Answers.{Asked, AreTables, compared, lines_in, root_of, overlaps_in, AreRows, IsFormAnswer}
+use Rattle.compose_diff_rows.specs.Answers.{Asked, AreTables, compared, overlaps_in, AreRows, IsFormAnswer}
 use Rattle.compose_diff_rows.specs.declared.asking.Form.{Form}
-use Rattle.compose_diff_rows.specs.declared.placed.PlacedMigration.{PlacedMigration}
 use Rattle.compose_diff_rows.specs.declared.asking.DiffInput.{DiffInput}
 use Rattle.compose_diff_rows.specs.declared.asking.DiffFault.{DiffFault}
 use Rattle.compose_diff_rows.specs.declared.asking.DiffFault.TheVariants.{Input, Accept}
@@ -30,18 +31,16 @@ accept_raised (BadLine n) = Accept (BadLine n)
 accept_raised NoMemory = Input refusals.NoMemory
 
 -- what is read of a migration, as values
-abbrev pub placed_parts : {T : Type 0} → (T → List Definition) → PlacedMigration T → Parts
-placed_parts view m = record { names = m.names; keys = m.keys.items; old = view m.old.table; new = view m.new.table }
+abbrev pub placed_parts : {T : Type 0} → (T → List Definition) → Migration (PlacedTable T) → Parts
+placed_parts {T} view m = parts (λ (placed : PlacedTable T). view placed.table) m
 
 -- the migration is that of the input, with the lines that count in both tables, and the number of overlaps of each
-pub record IsPlaced {T : Type 0} (view : T → List Definition) (input : DiffInput) (m : PlacedMigration T) : Type 0 where
+pub record IsPlaced {T : Type 0} (view : T → List Definition) (input : DiffInput) (m : Migration (PlacedTable T)) : Type 0 where
   pub expected : Parts
   pub read : migration_of (given_of input.tables) ≡ Ok expected
   pub is : expected ≡ placed_parts view m
-  pub old_lines : m.old.lines.items ≡ lines_in m.names input.tables.old.sources.now (view m.old.table)
-  pub new_lines : m.new.lines.items ≡ lines_in m.names input.tables.new.sources.now (view m.new.table)
-  pub old_overlaps : m.old.overlaps ≡ overlap_count m.names input.tables.old.sources.now (root_of input.tables.old.sources.now)
-  pub new_overlaps : m.new.overlaps ≡ overlap_count m.names input.tables.new.sources.now (root_of input.tables.new.sources.now)
+  pub old : HasLines view m.names input.tables.old.sources.now m.old
+  pub new : HasLines view m.names input.tables.new.sources.now m.new
 
 -- the fresh keysyms of what is compared, in rising order; or the condition that they do not meet
 abbrev pub ReturnsFresh : Parts → Result (Vec ℕ Global) DiffFault → Type 0

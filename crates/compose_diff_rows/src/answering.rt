@@ -13,7 +13,6 @@ ghost use Rattle.compose_diff.specs.declared.overlaps.Overlaps.{Overlaps};
 ghost use Rattle.compose_diff.specs.declared.row.DiffRow.{DiffRow};
 
 use crate::asking::{DiffFault, DiffInput, Form};
-use crate::placed::PlacedMigration;
 use crate::reported::{ReportedSequence, lost_texts, reported_of_new, reported_of_old};
 use crate::rows::{add_kept_rows, reported_rows};
 use crate::written::WrittenTable;
@@ -25,7 +24,9 @@ use compose_diff::{
 };
 use compose_fresh::check_fresh;
 use compose_lookup::TextIndex;
+use compose_migration::Migration;
 use compose_page::page_text;
+use compose_places::PlacedTable;
 use compose_tree::ComposeTable;
 use keysym_core::{Keysym, Names};
 use std::alloc::{AllocError, Global};
@@ -46,7 +47,7 @@ pub fn diff_migration<T: ComposeTable>(
 ) -> Result<Answer, DiffFault>
     ensures { AnswersDiff (asked input.now) result }
 {
-    match PlacedMigration::<T>::read(alloc, &input.tables) {
+    match Migration::<PlacedTable<'_, T>>::read(alloc, &input.tables) {
         Ok(migration) => diff_tables(alloc, input, &migration),
         Err(refusal) => Err(DiffFault::Input(refusal)),
     }
@@ -56,7 +57,7 @@ pub fn diff_migration<T: ComposeTable>(
 fn diff_tables<T: ComposeTable>(
     alloc: Global,
     input: &DiffInput<'_, '_>,
-    migration: &PlacedMigration<T>,
+    migration: &Migration<PlacedTable<'_, T>>,
 ) -> Result<Answer, DiffFault>
     requires { IsPlaced T.definitions input.now migration.now }
     ensures { AnswersDiff (asked input.now) result }
@@ -70,7 +71,7 @@ fn diff_tables<T: ComposeTable>(
 /// of them.
 fn fresh_keysyms<T: ComposeTable>(
     alloc: Global,
-    migration: &PlacedMigration<T>,
+    migration: &Migration<PlacedTable<'_, T>>,
 ) -> Result<Vec<Keysym>, DiffFault>
     ensures { ReturnsFresh (placed_parts T.definitions migration.now) result }
 {
@@ -87,7 +88,7 @@ fn fresh_keysyms<T: ComposeTable>(
 fn answer_tables<T: ComposeTable>(
     alloc: Global,
     input: &DiffInput<'_, '_>,
-    migration: &PlacedMigration<T>,
+    migration: &Migration<PlacedTable<'_, T>>,
     fresh: &[Keysym],
     accepted: &Accepted<'_>,
 ) -> Result<Answer, DiffFault>

@@ -26,7 +26,6 @@ ghost use Rattle.compose_diff_rows.specs.Following.{AreMeant, IsYes};
 mod answering;
 mod asking;
 mod longer;
-mod placed;
 mod reported;
 mod rows;
 mod typing;

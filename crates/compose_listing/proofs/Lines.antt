@@ -1,18 +1,17 @@
 -- What is printed of leaves is what is printed of their sequences.
 use Rattle.std.proofs.Common.{◌≡◌, ℕ, ◌+◌, ◌<◌, arith, List, [], ◌∷◌, ◌++◌, Bool, true, false, cond, ◌&&◌, length, get_or, map, take, refl, sym, ◌∙◌, ap, ap₂, subst, Option, Some, None, lt-ltb}
-use Rattle.std.specs.Prelude.{nat_lt, flat_map, filter, unwrap_or, slice_get, option_map}
+use Rattle.std.specs.Prelude.{nat_lt, flat_map, filter, unwrap_or}
 use Rattle.std.specs.List.{All}
 use Rattle.std.specs.Option.{option_map_or, option_and_then}
 use Rattle.std.proofs.lemmas.List.{get_or-map, append-nil, take_more, map-append, length-map}
 use Rattle.std.proofs.lemmas.Grind.{flat_map-append}
 use Rattle.std.proofs.lemmas.List.FromFn.{filter_of_map_range_with_len_more}
-use Rattle.std.proofs.lemmas.Option.{same_Some}
 use Rattle.std.proofs.lemmas.List.Elements.{All-head, All-tail, All-take, All-filter, filter_more}
 use Rattle.keysym_core.specs.Names.{KeysymNames}
 use Rattle.compose_model.specs.Table.{Definition, text_at}
 use Rattle.compose_model.specs.Certificate.{Repertoire}
 use Rattle.compose_model.specs.Nodes.{leaves}
-use Rattle.compose_read.specs.Lines.{Source, Visit}
+use Rattle.compose_read.specs.Lines.{Visit}
 use Rattle.compose_read.specs.Settle.{IsSettled}
 use Rattle.compose_tree.specs.Targets.{leaf_text}
 use Rattle.compose_tree.specs.declared.table.LeafId.{LeafId}
@@ -23,7 +22,7 @@ use Rattle.compose_lookup.proofs.Order.{numbered, all_leaves, text_given}
 use Rattle.compose_listing.specs.Chosen.{begins_with, gives_asked, chosen, is_typable}
 use Rattle.compose_listing.specs.Listing.{line_of, sequence_line, listing}
 use Rattle.compose_listing.specs.Leaves.{leaf_line, has_asked, is_chosen, typable_leaves}
-use Rattle.compose_listing.specs.Answers.{root_of, ways, shown_of, typed_by}
+use Rattle.compose_listing.specs.Answers.{ways, shown_of, typed_by}
 use Rattle.compose_listing.specs.declared.form.ListForm.{ListForm}
 
 pub tested : (a b : ℕ) → a < b → nat_lt a b ≡ true
@@ -37,11 +36,6 @@ first_of_map f true (x ∷ xs) = refl
 all_shown : {X : Type 0} (P : X → Type 0) (first : Bool) (xs : List X) → All P xs → All P (shown_of first xs)
 all_shown P false xs h = h
 all_shown P true xs h = All-take P 1 xs h
-
--- the root has the name of the first source
-pub first_root : (sources : List Source) (root : List ℕ) → Some root ≡ option_map (λ (s : Source). s.name) (slice_get sources 0) → root ≡ root_of sources
-first_root [] root h = cc
-first_root (s ∷ sources) root h = same_Some root s.name h
 
 -- one more leaf, of those that pass a test
 numbered_more : (f : LeafId → Bool) (i : ℕ) (b : Bool) → f (leaf_id i) ≡ b → filter f (leaf_ids (i + 1)) ≡ filter f (leaf_ids i) ++ cond b (leaf_id i ∷ []) []

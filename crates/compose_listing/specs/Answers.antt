@@ -7,6 +7,7 @@ use Rattle.compose_model.specs.Certificate.{Repertoire}
 use Rattle.compose_cert.specs.Repertoire.{repertoire_of}
 use Rattle.compose_read.specs.Lines.{Source, Visit}
 use Rattle.compose_places.specs.Counting.{read_lines}
+use Rattle.compose_places.specs.Placed.{root_of}
 use Rattle.compose_migration.specs.Migration.{TableSources, or_because, NoAnswer, no_repertoire}
 use Rattle.compose_answer.specs.Parts.{TypedParts, type_parts}
 use Rattle.compose_answer.specs.declared.answer.Answer.{Answer}
@@ -18,11 +19,6 @@ use Rattle.compose_listing.specs.Next.{next_lines}
 use Rattle.compose_listing.specs.declared.form.ListForm.{ListForm}
 use Rattle.compose_listing.specs.declared.form.ListOrder.{ListOrder}
 use Rattle.compose_listing.specs.declared.how.Ways.{Ways}
-
--- the name of the first source, which is the root; empty without sources
-abbrev pub root_of : List Source → List ℕ
-root_of [] = []
-root_of (s ∷ sources) = s.name
 
 -- the lines that are read from sources; the first of them is the root
 abbrev pub lines_of_sources : List Source → List Visit

@@ -12,11 +12,10 @@ ghost use Rattle.compose_listing.specs.Answers.{AreWays, given_repertoire, how_p
 use crate::chosen::typable_leaves;
 use crate::form::ListForm;
 use crate::listed::{ListedTable, push_leaves};
-use crate::read::read_placed;
 use compose_answer::Refusal;
 use compose_cert::Repertoire;
 use compose_lookup::TextIndex;
-use compose_migration::{Named, TableInput, read_repertoire};
+use compose_migration::{Named, TableInput, read_only_table, read_repertoire};
 use compose_places::PlacedTable;
 use compose_tree::{ComposeTable, LeafId};
 use std::alloc::{AllocError, Global};
@@ -66,7 +65,7 @@ pub fn how_to_type<T: ComposeTable>(
         (option_copied wanted.entry.repertoire)) }
 {
     let named = Named::read(alloc, header, &[])?;
-    let placed: PlacedTable<'_, T> = read_placed(alloc, &named.names, table)?;
+    let placed: PlacedTable<'_, T> = read_only_table(alloc, &named.names, table)?;
     let repertoire = read_given(alloc, wanted.repertoire)?;
     let index = TextIndex::of_texts(alloc, &placed.table, wanted.texts)?;
     let listed = ListedTable {

@@ -35,7 +35,6 @@ mod list;
 mod listed;
 mod next;
 mod order;
-mod read;
 mod wanted;
 
 pub use form::{ListForm, ListOrder};

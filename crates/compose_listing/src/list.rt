@@ -12,9 +12,8 @@ use crate::chosen::chosen_leaves;
 use crate::form::{ListForm, ListOrder};
 use crate::listed::{ListedTable, push_leaves};
 use crate::order::put_in_order;
-use crate::read::read_placed;
 use compose_answer::{Answer, Refusal};
-use compose_migration::{Named, TableInput};
+use compose_migration::{Named, TableInput, read_only_table};
 use compose_places::PlacedTable;
 use compose_tree::ComposeTable;
 use keysym_core::Keysym;
@@ -54,7 +53,7 @@ pub fn list_table<T: ComposeTable>(
         (table_given table.entry.now)) }
 {
     let named = Named::read(alloc, header, wanted.prefix)?;
-    let placed: PlacedTable<'_, T> = read_placed(alloc, &named.names, table)?;
+    let placed: PlacedTable<'_, T> = read_only_table(alloc, &named.names, table)?;
     let listed = ListedTable {
         names: &named.names,
         table: &placed.table,

@@ -12,10 +12,9 @@ ghost use Rattle.compose_listing.specs.Next as words;
 use crate::form::ListForm;
 use crate::json::push_json_string;
 use crate::line::push_result;
-use crate::read::read_placed;
 use compose_answer::{Answer, Refusal};
 use compose_lookup::{sequences_after, text_of};
-use compose_migration::{Named, TableInput};
+use compose_migration::{Named, TableInput, read_only_table};
 use compose_places::PlacedTable;
 use compose_tree::{ComposeTable, NodeId, Target};
 use keysym_core::{Keysym, Names};
@@ -39,7 +38,7 @@ pub fn list_next<T: ComposeTable>(
         (type_parts header.now (map (λ key. key.now) prefix.now) (table_given table.entry.now)) }
 {
     let named = Named::read(alloc, header, prefix)?;
-    let placed: PlacedTable<'_, T> = read_placed(alloc, &named.names, table)?;
+    let placed: PlacedTable<'_, T> = read_only_table(alloc, &named.names, table)?;
     let lines = next_lines(alloc, &named.names, &placed.table, &named.keys, form)?;
     Ok(Answer::Yes(lines))
 }

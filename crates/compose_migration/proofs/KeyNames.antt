@@ -1,6 +1,6 @@
 -- Looking up the keysyms of key names, one by one.
-use Rattle.std.proofs.Common.{◌≡◌, ◌≤◌, ℕ, suc, ◌+◌, ◌<◌, List, [], ◌∷◌, ◌++◌, true, false, length, get_or, drop, map, refl, sym, ◌∙◌, ap, subst, arith, Bor, cond}
-use Rattle.std.specs.Prelude.{Option, Some, None, is_none, position, Result, Ok, Err, nat_lt}
+use Rattle.std.proofs.Common.{◌≡◌, ◌≤◌, ℕ, suc, ◌+◌, ◌<◌, List, [], ◌∷◌, ◌++◌, true, length, get_or, drop, map, refl, sym, ◌∙◌, ap, subst, arith, Bor, cond}
+use Rattle.std.specs.Prelude.{Option, Some, None, is_none, position, Ok, Err, nat_lt}
 use Rattle.std.specs.Option.{option_map_or, option_to_list}
 use Rattle.std.specs.List.{flat_map, position_or_len}
 use Rattle.std.proofs.lemmas.Bool.{lt-ltb, le-ltb}

@@ -5,7 +5,7 @@ use Rattle.compose_model.specs.Table.{Definition}
 use Rattle.compose_read.specs.declared.ReadFault.{ReadFault}
 use Rattle.compose_read.specs.declared.ReadFault.TheVariants as read_faults
 use Rattle.compose_read.specs.declared.settling.SettleFault.TheVariants as settle_faults
-use Rattle.compose_tree.specs.TableReturns.{NoTable, IsReadFault, TableReturns}
+use Rattle.compose_tree.specs.TableReturns.{NoTable, IsReadFault}
 use Rattle.compose_tree.specs.declared.reading.TableFault.{TableFault}
 use Rattle.compose_tree.specs.declared.reading.TableFault.TheVariants as table_faults
 use Rattle.compose_tree.specs.declared.table.BuildFault.TheVariants as build_faults

@@ -13,9 +13,11 @@
 mod keys;
 mod migration;
 mod parts;
+mod read_table;
 mod refusal;
 
 pub use keys::look_up_keys;
 pub use migration::{Migration, MigrationInput, Named, TableInput};
 pub use parts::{read_certificate, read_only_table, read_repertoire};
+pub use read_table::ReadTable;
 pub use refusal::{Refusal, Side};

@@ -1,5 +1,5 @@
 //! A migration: keysym names, keysyms, and an old and a new table.
-ghost use Rattle.std.specs.Prelude.{◌≡◌, map};
+ghost use Rattle.std.specs.Prelude.{◌≡◌, map, IfOk};
 ghost use Rattle.keysym_core.specs.Header.{names_of};
 ghost use Rattle.compose_tree.specs.TableReturns.{first_table};
 ghost use Rattle.compose_migration.specs.Migration.{no_names, no_table, or_because, named, migration_of};
@@ -7,10 +7,11 @@ ghost use Rattle.compose_migration.specs.Refused.{Returns};
 ghost use Rattle.compose_migration.specs.Values.{given_of, named_parts, parts};
 
 use crate::keys::look_up_keys;
+use crate::read_table::ReadTable;
 use crate::refusal::{Refusal, Side};
 use compose_model::Rule;
 use compose_read::Sources;
-use compose_tree::{ComposeTable, TableFault, read_first_table};
+use compose_tree::TableFault;
 use keysym_core::{Keysym, NameFault, Names};
 use std::alloc::Global;
 
@@ -63,7 +64,7 @@ impl Named {
 
 /// A move from an old table to a new one, both read with the same keysym names.
 #[derive(Drop)]
-pub struct Migration<T: ComposeTable> {
+pub struct Migration<T> {
     /// The keysym names with which both tables were read.
     pub names: Names,
     /// The keysyms of the key names, in their order.
@@ -74,15 +75,21 @@ pub struct Migration<T: ComposeTable> {
     pub new: T,
 }
 
-impl<T: ComposeTable> Migration<T> {
+impl<T> Migration<T> {
     /// Reads the names, the keysyms of the key names, the old table and the new one, in this order.
     /// O(b + n log n) in the bytes of everything and the definitions of a table.
     ///
     /// Errors: the first of `Names`, `Key`, and `Side` for the old and then the new table; or
     /// `NoMemory`.
-    pub fn read(alloc: Global, input: &MigrationInput<'_, '_>) -> Result<Migration<T>, Refusal>
-        ensures { Returns (λ expected read. expected ≡ parts T.definitions read) result
+    pub fn read<'a>(alloc: Global, input: &MigrationInput<'a, '_>) -> Result<Migration<T>, Refusal>
+    where
+        T: ReadTable<'a>,
+        ensures parts { Returns (λ expected read. expected ≡ parts T.definitions read) result
             (migration_of (given_of input.entry.now)) }
+        ensures old { IfOk result
+            (λ read. T.is_read read.names input.entry.now.old.sources.now read.old) }
+        ensures new { IfOk result
+            (λ read. T.is_read read.names input.entry.now.new.sources.now read.new) }
     {
         let named = Named::read(alloc, input.header, input.key_names)?;
         let old = read_side(alloc, &named.names, Side::Old, &input.old)?;
@@ -109,17 +116,18 @@ fn read_names(alloc: Global, header: &[u8]) -> Result<Names, Refusal>
 }
 
 /// Reads the table of a side.
-fn read_side<T: ComposeTable>(
+fn read_side<'a, T: ReadTable<'a>>(
     alloc: Global,
     names: &Names,
     side: Side,
-    input: &TableInput<'_>,
+    input: &TableInput<'a>,
 ) -> Result<T, Refusal>
-    ensures { Returns (λ expected table. expected ≡ T.definitions table) result
+    ensures table { Returns (λ expected table. expected ≡ T.definitions table) result
         (or_because (no_table side)
         (first_table names.now input.entry.now.sources.now input.entry.now.rule)) }
+    ensures read { IfOk result (T.is_read names.now input.entry.now.sources.now) }
 {
-    match read_first_table(alloc, names, input.sources, input.rule) {
+    match T::read_first(alloc, names, input.sources, input.rule) {
         Ok(table) => Ok(table),
         Err(TableFault::NoMemory) => Err(Refusal::NoMemory),
         Err(fault) => Err(Refusal::Side { side, fault }),

@@ -1,5 +1,5 @@
 //! The other parts of a command's input: an only table, a repertoire, a certificate.
-ghost use Rattle.std.specs.Prelude.{◌≡◌};
+ghost use Rattle.std.specs.Prelude.{◌≡◌, IfOk};
 ghost use Rattle.compose_cert.specs.Reading.{certificate_of};
 ghost use Rattle.compose_cert.specs.Repertoire.{repertoire_of};
 ghost use Rattle.compose_tree.specs.TableReturns.{first_table};
@@ -7,25 +7,27 @@ ghost use Rattle.compose_migration.specs.Migration.{no_certificate, no_only_tabl
 ghost use Rattle.compose_migration.specs.Refused.{Returns};
 
 use crate::migration::TableInput;
+use crate::read_table::ReadTable;
 use crate::refusal::Refusal;
 use compose_cert::{CertFault, Certificate, Repertoire, RepertoireFault};
-use compose_tree::{ComposeTable, TableFault, read_first_table};
+use compose_tree::TableFault;
 use keysym_core::Names;
 use std::alloc::Global;
 
-/// Reads the only table. It costs what `read_first_table` does.
+/// Reads the only table. It costs what `T::read_first` does.
 ///
 /// Errors: `Table` if the table is refused, or `NoMemory`.
-pub fn read_only_table<T: ComposeTable>(
+pub fn read_only_table<'a, T: ReadTable<'a>>(
     alloc: Global,
     names: &Names,
-    input: &TableInput<'_>,
+    input: &TableInput<'a>,
 ) -> Result<T, Refusal>
-    ensures { Returns (λ expected table. expected ≡ T.definitions table) result
+    ensures table { Returns (λ expected table. expected ≡ T.definitions table) result
         (or_because no_only_table
         (first_table names.now input.entry.now.sources.now input.entry.now.rule)) }
+    ensures read { IfOk result (T.is_read names.now input.entry.now.sources.now) }
 {
-    match read_first_table(alloc, names, input.sources, input.rule) {
+    match T::read_first(alloc, names, input.sources, input.rule) {
         Ok(table) => Ok(table),
         Err(TableFault::NoMemory) => Err(Refusal::NoMemory),
         Err(fault) => Err(Refusal::Table(fault)),

@@ -1,5 +1,5 @@
 -- The counting line of each sequence, after one more of the lines that define them.
-use Rattle.std.proofs.Common.{◌≡◌, ℕ, ◌+◌, ◌<◌, List, [], ◌∷◌, ◌++◌, map, set, take, length, get_or, true, false, sym, ◌∙◌, ap, subst}
+use Rattle.std.proofs.Common.{◌≡◌, ℕ, zero, suc, ◌+◌, ◌<◌, List, [], ◌∷◌, ◌++◌, map, set, take, drop, length, get_or, true, false, refl, sym, ◌∙◌, ap, subst}
 use Rattle.std.specs.Prelude.{Option, Some, option_map, slice_get}
 use Rattle.std.proofs.lemmas.List.{take_more, length-map}
 use Rattle.std.proofs.lemmas.Option.{slice_get-map, slice_get-get_or, slice_get_within, same_Some}
@@ -47,7 +47,15 @@ module _ (names : KeysymNames) (table : List Definition) (visits : List Visit) (
   other_line h = sym (one_more ∙ defines_other names table (take index visits) visit s defines_it h)
 
   -- a line that defines a sequence of the table
-  pub one_line : is_sequence table s ≡ true → (lines : List WrittenLine) → lines ≡ map written_line visits → set before (leaf_number table s) (slice_get lines index) ≡ after
-  one_line h lines written =
-      ap (set before (leaf_number table s)) (ap (λ ls. slice_get ls index) written ∙ slice_get-map written_line visits index ∙ ap (option_map written_line) here)
+  pub one_line : is_sequence table s ≡ true → set before (leaf_number table s) (slice_get (map written_line visits) index) ≡ after
+  one_line h =
+      ap (set before (leaf_number table s)) (slice_get-map written_line visits index ∙ ap (option_map written_line) here)
       ∙ sym (one_more ∙ defines_one names table (take index visits) visit s defines_it h)
+
+-- ---- the lines that are left
+
+-- the first of them
+pub first_left : (visits : List Visit) (index : ℕ) → slice_get (map written_line (drop index visits)) 0 ≡ slice_get (map written_line visits) index
+first_left visits zero = refl
+first_left [] (suc index) = refl
+first_left (v ∷ visits) (suc index) = first_left visits index

@@ -1,8 +1,7 @@
 -- The sequences that a settled table doesn't have are the prefixes of longer ones.
 use Rattle.std.proofs.Common.{◌≡◌, ℕ, List, Bool, true, false, not, ◌&&◌, map, refl, sym, ◌∙◌, ap, ap₂, nat_cmp}
-use Rattle.std.specs.Prelude.{filter, is_some, None, Option, Ok, Result}
+use Rattle.std.specs.Prelude.{filter, is_some, Ok}
 use Rattle.std.specs.List.{list_any}
-use Rattle.std.specs.List.Sorted.{IsStrictlySortedBy}
 use Rattle.std.specs.Cmp.Lexicographic.{slice_cmp}
 use Rattle.std.proofs.lemmas.Cmp.{nat_list_cmp_total}
 use Rattle.std.proofs.lemmas.List.Kept.{IsStrictlySortedBy-filter}

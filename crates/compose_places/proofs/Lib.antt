@@ -1,4 +1,5 @@
 pub mod Decided
+pub mod BegunLeft
 pub mod FlatSequences
 pub mod LastOnes
 pub mod Walks
@@ -9,6 +10,7 @@ pub mod CountingSoFar
 pub mod BegunLines
 pub mod LastLines
 pub mod CountingLaw
+pub mod FirstRead
 pub mod Distinct
 pub mod LeftOut
 pub mod Others

@@ -4,3 +4,4 @@ pub mod Events
 pub mod SequenceList
 pub mod Counting
 pub mod Overlaps
+pub mod Placed

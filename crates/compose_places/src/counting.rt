@@ -1,14 +1,12 @@
 //! For each sequence of a table, the line that counts, and its keys as written there.
-ghost use Rattle.std.specs.Prelude.{◌≡◌, ◌≤◌, ◌++◌, ℕ, List, not, None, Some, map, length, filter, take, replicate, slice_get, true, false, MatchOption, IfOk};
+ghost use Rattle.std.specs.Prelude.{◌≡◌, ◌≤◌, ◌++◌, ℕ, List, not, None, Some, map, length, filter, replicate, true, false, MatchOption, IfOk};
 ghost use Rattle.std.specs.Option.{option_map};
 ghost use Rattle.keysym_core.specs.Names.{KeysymNames};
 ghost use Rattle.compose_model.specs.Table.{is_sequence};
 ghost use Rattle.compose_model.specs.Nodes.{leaves};
-ghost use Rattle.compose_read.specs.Lines.{Visit};
-ghost use Rattle.compose_read.specs.Read.{max_lines};
 ghost use Rattle.compose_tree.specs.Targets.{leaf_number};
 ghost use Rattle.compose_places.specs.Counting as words;
-ghost use Rattle.compose_places.specs.Counting.{begun_lines, counting_line, defined_sequence, written_line};
+ghost use Rattle.compose_places.specs.Counting.{counting_line, defined_sequence};
 
 use crate::events::{Events, line_events};
 use crate::last::leaf_of;
@@ -63,55 +61,63 @@ impl<'a> CountingLine<'a> {
     }
 }
 
-/// Returns the lines that begin like definitions, among the first 1,000,000 lines that are read
-/// from the root. If a table is read without a fault, these are the lines of its definitions. It
-/// asks for room for `capacity` lines at once. O(bytes of the lines that are read).
-pub(crate) fn begun_lines<'a>(
-    alloc: Global,
-    capacity: usize,
-    sources: &'a Sources,
-    root: &str,
-) -> Result<Vec<CountingLine<'a>>, AllocError>
-    ensures { IfOk result
-        (λ lines. lines.items ≡ map written_line (begun_lines sources.now root.now)) }
-{
-    match sources.visits(root) {
-        Some(visits) => begun_in(alloc, capacity, visits),
-        None => Ok(Vec::new(alloc)),
-    }
+/// The lines that begin like definitions, among the first 1,000,000 lines that are read from a
+/// root. If a table is read without a fault, these are the lines of its definitions.
+#[derive(Drop)]
+pub(crate) struct BegunLines<'a> {
+    visits: Visits<'a>,
+    /// How many lines may still be read.
+    left: usize,
 }
 
-/// Returns the lines that begin like definitions, among the first 1,000,000 of these. It asks for
-/// room for `capacity` lines at once.
-fn begun_in<'a>(
-    alloc: Global,
-    capacity: usize,
-    mut visits: Visits<'a>,
-) -> Result<Vec<CountingLine<'a>>, AllocError>
-    ensures { IfOk result
-        (λ begun. begun.items
-        ≡ map written_line
-        (filter (λ v. words.begins_definition v.bytes) (take max_lines visits.entry))) }
-{
-    let mut begun = Vec::with_capacity(alloc, capacity)?;
-    let mut lines = 0;
-    while lines < MAX_LINES {
-        let Some(line) = visits.next() else {
-            return Ok(begun);
-        };
-        lines += 1;
-        if begins_definition(line.bytes) {
-            let place = DefinitionPlace {
-                source: line.source,
-                line: line.line,
-            };
-            begun.push(CountingLine {
-                place,
-                bytes: line.bytes,
-            })?;
-        }
+impl<'a> Model for BegunLines<'a> {
+    ghost use Rattle.std.specs.Prelude.{List, filter, take};
+    ghost use Rattle.compose_read.specs.Lines.{Visit};
+    ghost use Rattle.compose_places.specs.Counting as words;
+
+    ghost Value = { List Visit };
+
+    ghost view = { λ l. filter (λ v. words.begins_definition v.bytes) (take l.left l.visits) };
+}
+
+impl<'a> BegunLines<'a> {
+    ghost use Rattle.std.specs.Prelude.{◌≡◌, Some, None, map, drop, length, nat_lt, if◌then◌else◌, slice_get};
+    ghost use Rattle.compose_read.specs.Lines.{source_named};
+    ghost use Rattle.compose_places.specs.Counting as words;
+
+    /// Returns these lines of the sources; `None` if no source has the root's name. O(1).
+    pub(crate) fn new(sources: &'a Sources, root: &str) -> Option<BegunLines<'a>>
+        ensures { result
+            ≡ (if nat_lt (source_named sources.now root.now) (length sources.now) then Some
+            (words.begun_lines sources.now root.now) else None) }
+    {
+        let visits = sources.visits(root)?;
+        Some(BegunLines {
+            visits,
+            left: MAX_LINES,
+        })
     }
-    Ok(begun)
+
+    /// Returns the next line. O(bytes of the lines up to it).
+    fn next(&mut self) -> Option<CountingLine<'a>>
+        ensures line { result ≡ slice_get (map words.written_line self.old) 0 }
+        ensures rest { self.new ≡ drop 1 self.old }
+    {
+        while self.left > 0 {
+            let line = self.visits.next()?;
+            self.left -= 1;
+            if begins_definition(line.bytes) {
+                return Some(CountingLine {
+                    place: DefinitionPlace {
+                        source: line.source,
+                        line: line.line,
+                    },
+                    bytes: line.bytes,
+                });
+            }
+        }
+        None
+    }
 }
 
 /// Whether the line begins like a definition. O(blanks).
@@ -121,12 +127,13 @@ fn begins_definition(line: &[u8]) -> bool
     line[blank_len(line)..].starts_with(b"<")
 }
 
-/// Returns for each leaf of the table, by its number, the line that counts. The line with index i
-/// defines the sequence with index i, and the last line of a leaf's sequence counts. The sequences
-/// that the table doesn't have are appended to `others`. O(keysyms × log edges of a node).
+/// Returns for each leaf of the table, by its number, the line that counts. The next of the lines
+/// defines the first sequence, and so on, and the last line of a leaf's sequence counts. The
+/// sequences that the table doesn't have are appended to `others`. O(bytes of the lines + keysyms ×
+/// log edges of a node).
 pub(crate) fn last_lines<'a, 's, T: ComposeTable>(
     alloc: Global,
-    lines: &[CountingLine<'a>],
+    mut lines: BegunLines<'a>,
     sequences: &'s SequenceList,
     table: &T,
     others: &mut Vec<&'s [Keysym]>,
@@ -135,33 +142,24 @@ pub(crate) fn last_lines<'a, 's, T: ComposeTable>(
         (λ _. map (λ s. s.now) others.new.items
         ≡ map (λ s. s.now) others.old.items
         ++ filter (λ s. not (is_sequence (T.definitions table.now) s)) sequences.now) }
-    ensures lines { (names : KeysymNames) (visits : List Visit) → lines.now ≡ map written_line visits
-        → map Some sequences.now ≡ map (λ v. defined_sequence names v.bytes) visits
+    ensures lines { (names : KeysymNames)
+        → map Some sequences.now ≡ map (λ v. defined_sequence names v.bytes) lines.entry
         → IfOk result
-        (λ kept. kept.items ≡ map (counting_line names visits) (leaves (T.definitions table.now))) }
+        (λ kept. kept.items
+        ≡ map (counting_line names lines.entry) (leaves (T.definitions table.now))) }
 {
     // The contract of this call says that the table is settled.
     let _ = table.node_count();
     let mut kept = no_lines(alloc, table.leaf_count())?;
     for index in 0..sequences.len() {
         let sequence = sequences.sequence(index);
+        let line = lines.next();
         match leaf_of(table, sequence) {
-            Some(leaf) => kept[leaf.0 as usize] = line_at(lines, index),
+            Some(leaf) => kept[leaf.0 as usize] = line,
             None => others.push(sequence)?,
         }
     }
     Ok(kept)
-}
-
-/// Returns the line at this index, if there is one.
-fn line_at<'a>(lines: &[CountingLine<'a>], index: usize) -> Option<CountingLine<'a>>
-    ensures { result ≡ slice_get lines.now index }
-{
-    let line = lines.get(index)?;
-    Some(CountingLine {
-        place: line.place,
-        bytes: line.bytes,
-    })
 }
 
 /// Returns `None` for each of this number of leaves.

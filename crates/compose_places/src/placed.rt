@@ -5,11 +5,12 @@ ghost use Rattle.compose_places.specs.Counting.{counting_line, read_lines};
 ghost use Rattle.compose_places.specs.Overlaps.{overlap_count};
 ghost use Rattle.compose_tree.specs.TableReturns.{TableReturns, table_of};
 
-use crate::counting::{CountingLine, begun_lines, last_lines};
+use crate::counting::{BegunLines, CountingLine, last_lines};
 use crate::overlaps::count_distinct;
 use crate::sequence_list::sequences_of;
+use compose_migration::ReadTable;
 use compose_model::Rule;
-use compose_read::{Sources, read_definitions, settle};
+use compose_read::{ReadFault, Sources, read_definitions, settle};
 use compose_tree::{ComposeTable, TableFault};
 use keysym_core::Names;
 use std::alloc::Global;
@@ -48,17 +49,17 @@ pub fn read_placed_table<'a, T: ComposeTable>(
     ensures overlaps { IfOk result
         (λ placed. placed.overlaps ≡ overlap_count names.now sources.now root.now) }
 {
-    let definitions = read_definitions(alloc, names, sources, root)?;
-    let Ok(begun) = begun_lines(alloc, definitions.len(), sources, root) else {
-        return Err(TableFault::NoMemory);
+    let Some(begun) = BegunLines::new(sources, root) else {
+        return Err(TableFault::Read(ReadFault::MissingRoot));
     };
+    let definitions = read_definitions(alloc, names, sources, root)?;
     let Ok(read) = sequences_of(alloc, &definitions) else {
         return Err(TableFault::NoMemory);
     };
     let sequences = settle(alloc, definitions, rule)?;
     let table = T::build(alloc, sequences)?;
     let mut others = Vec::new(alloc);
-    let Ok(lines) = last_lines(alloc, &begun, &read, &table, &mut others) else {
+    let Ok(lines) = last_lines(alloc, begun, &read, &table, &mut others) else {
         return Err(TableFault::NoMemory);
     };
     let Ok(overlaps) = count_distinct(others) else {
@@ -69,4 +70,24 @@ pub fn read_placed_table<'a, T: ComposeTable>(
         lines,
         overlaps,
     })
+}
+
+impl<'a, T: ComposeTable> ReadTable<'a> for PlacedTable<'a, T> {
+    ghost use Rattle.compose_places.specs.Placed.{HasLines};
+
+    ghost definitions = { λ placed. T.definitions placed.table };
+
+    ghost is_read = { HasLines T.definitions };
+
+    fn read_first(
+        alloc: Global,
+        names: &Names,
+        sources: &'a Sources,
+        rule: Rule,
+    ) -> Result<PlacedTable<'a, T>, TableFault> {
+        let Some(root) = sources.name(0) else {
+            return Err(TableFault::Read(ReadFault::MissingRoot));
+        };
+        read_placed_table(alloc, names, sources, root, rule)
+    }
 }

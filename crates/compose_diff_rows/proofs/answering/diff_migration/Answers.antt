@@ -8,10 +8,8 @@ diff_tables-requires g c =
       expected = read.0;
       read = read.1;
       is = read.2;
-      old_lines = c.in-Ok.ensures.old_lines;
-      new_lines = c.in-Ok.ensures.new_lines;
-      old_overlaps = c.in-Ok.ensures.old_overlaps;
-      new_overlaps = c.in-Ok.ensures.new_overlaps;
+      old = c.in-Ok.ensures.old;
+      new = c.in-Ok.ensures.new;
     }
 
 pub returns-in-Err : goal.returns-in-Err

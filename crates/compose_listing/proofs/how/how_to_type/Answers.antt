@@ -72,7 +72,7 @@ returns g c =
           AreWays given.sources (map (λ path. path.now) c.args.paths.now) (map (λ text. text.now) wanted.texts.now) wanted.first wanted.form (record { typed = typed; repertoire = r }) c.in_ok-ways_of.field-0)
           c.as_ref.ensures.value
           (record {
-            lines = c.in_ok-ways_of.ensures.lines (lines_of_sources given.sources) (c.deref.ensures.value ∙ c.in_ok-placed.ensures.lines);
+            lines = c.in_ok-ways_of.ensures.lines (lines_of_sources given.sources) (c.deref.ensures.value ∙ c.in_ok-placed.ensures.read.lines);
             found = c.in_ok-ways_of.ensures.found;
           }),
     )

@@ -46,5 +46,5 @@ returns g c =
       _,
       typed_read header keys given n c.in_ok-named.ensures table c.in_ok-placed.ensures.table,
       subst (λ (ks : List ℕ). IsListing n.names visits (map (λ path. path.now) c.args.paths.now) table ks (option_copied wanted.text) wanted.order wanted.form (string_bytes c.in_ok-lines_of.field-0))
-          c.deref-2.ensures.value (c.in_ok-lines_of.ensures visits (c.deref.ensures.value ∙ c.in_ok-placed.ensures.lines)),
+          c.deref-2.ensures.value (c.in_ok-lines_of.ensures visits (c.deref.ensures.value ∙ c.in_ok-placed.ensures.read.lines)),
     )

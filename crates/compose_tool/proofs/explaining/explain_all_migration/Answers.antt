@@ -14,7 +14,7 @@ pub returns-in_err-migration : goal.returns-in_err-migration
 returns-in_err-migration g c =
     let given = given_of c.args.input.now in
     refusal_gives IsAllExplained c.from_residual.result c.in_err-migration.field-0.0 (explain_parts given) (search rules)
-    (explain_refused given c.in_err-migration.field-0.0 c.in_err-migration.ensures)
+    (explain_refused given c.in_err-migration.field-0.0 c.in_err-migration.ensures.parts)
 
 pub returns : goal.returns
 returns g c =
@@ -22,5 +22,5 @@ returns g c =
     let move = parts g.T.ComposeTable.definitions c.in_ok-migration.migration in
     subst (λ (s : Result Explainable NoAnswer). Returns IsAllExplained c.explain_all_tables.result s)
     (sym
-    (explain_read given move c.in_ok-migration.ensures c.deref-2.result.now
+    (explain_read given move c.in_ok-migration.ensures.parts c.deref-2.result.now
     (c.deref-2.ensures.value ∙ c.in_ok-fresh.ensures ∙ ap (rising nat_cmp) c.deref.ensures.value))) c.explain_all_tables.ensures

@@ -13,10 +13,10 @@ pub returns-in_err-migration : goal.returns-in_err-migration
 returns-in_err-migration g c =
     let given = given_of c.args.input.now in
     refusal_gives IsMadeText c.from_residual.result c.in_err-migration.field-0.0 (make_parts given c.args.repertoire.now) (search rules)
-    (make_refused given c.args.repertoire.now c.in_err-migration.field-0.0 c.in_err-migration.ensures)
+    (make_refused given c.args.repertoire.now c.in_err-migration.field-0.0 c.in_err-migration.ensures.parts)
 
 pub returns : goal.returns
 returns g c =
     let move = parts g.T.ComposeTable.definitions c.in_ok-migration.migration in
     subst (λ (s : Result Needs NoAnswer). Returns IsMadeText c.make_from.result s)
-    (sym (make_read (given_of c.args.input.now) move c.in_ok-migration.ensures c.args.repertoire.now)) c.make_from.ensures
+    (sym (make_read (given_of c.args.input.now) move c.in_ok-migration.ensures.parts c.args.repertoire.now)) c.make_from.ensures

@@ -24,7 +24,7 @@ returns-in_err-table-clause-exact g c =
     let given = table_given c.args.table.now in
     let n = named_parts c.in_ok-named.named in
     refusal_gives IsTyped c.from_residual-in_err-table.result c.in_err-table.field-0.0 (type_parts header key_names given) (search rules)
-    (table_refused header key_names given n c.in_ok-named.ensures c.in_err-table.field-0.0 c.in_err-table.ensures)
+    (table_refused header key_names given n c.in_ok-named.ensures c.in_err-table.field-0.0 c.in_err-table.ensures.table)
 
 pub returns-clause-exact : goal.returns-clause-exact
 returns-clause-exact g c =
@@ -33,7 +33,7 @@ returns-clause-exact g c =
     let given = table_given c.args.table.now in
     let n = named_parts c.in_ok-named.named in
     let table = g.T.ComposeTable.definitions c.in_ok-table.table in
-    (_, typed_read header key_names given n c.in_ok-named.ensures table c.in_ok-table.ensures, c.in_ok-lines.ensures ∙ ap (typed_lines n.names table) c.deref.ensures.value)
+    (_, typed_read header key_names given n c.in_ok-named.ensures table c.in_ok-table.ensures.table, c.in_ok-lines.ensures ∙ ap (typed_lines n.names table) c.deref.ensures.value)
 
 pub returns-clause-as_read : goal.returns-clause-as_read
 returns-clause-as_read g c =
@@ -42,5 +42,5 @@ returns-clause-as_read g c =
     let given = table_given c.args.table.now in
     let n = named_parts c.in_ok-named.named in
     let table = g.T.ComposeTable.definitions c.in_ok-table.table in
-    typed_as_read c.law_settle.ensures.runs header key_names given _ (typed_read header key_names given n c.in_ok-named.ensures table c.in_ok-table.ensures) (Yes c.in_ok-lines.lines)
+    typed_as_read c.law_settle.ensures.runs header key_names given _ (typed_read header key_names given n c.in_ok-named.ensures table c.in_ok-table.ensures.table) (Yes c.in_ok-lines.lines)
     (c.in_ok-lines.ensures ∙ ap (typed_lines n.names table) c.deref.ensures.value)

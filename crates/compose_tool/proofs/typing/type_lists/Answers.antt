@@ -22,7 +22,7 @@ returns-in_err-table g c =
     let given = table_given c.args.table.now in
     let n = named_parts c.in_ok-named.named in
     refusal_gives (AreListsTyped c.args.counts.now) c.from_residual-in_err-table.result c.in_err-table.field-0.0 (type_parts header key_names given) (search rules)
-    (table_refused header key_names given n c.in_ok-named.ensures c.in_err-table.field-0.0 c.in_err-table.ensures)
+    (table_refused header key_names given n c.in_ok-named.ensures c.in_err-table.field-0.0 c.in_err-table.ensures.table)
 
 pub returns : goal.returns
 returns g c =
@@ -31,4 +31,4 @@ returns g c =
     let given = table_given c.args.table.now in
     let n = named_parts c.in_ok-named.named in
     let table = g.T.ComposeTable.definitions c.in_ok-table.table in
-    (_, typed_read header key_names given n c.in_ok-named.ensures table c.in_ok-table.ensures, c.in_ok-lines.ensures ∙ ap (λ ks. typed_lists n.names table ks c.args.counts.now) c.deref.ensures.value)
+    (_, typed_read header key_names given n c.in_ok-named.ensures table c.in_ok-table.ensures.table, c.in_ok-lines.ensures ∙ ap (λ ks. typed_lists n.names table ks c.args.counts.now) c.deref.ensures.value)
