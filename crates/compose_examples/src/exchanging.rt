@@ -27,10 +27,11 @@ const ALL: &str =
 const NOTES: &str = "note: of the table\n";
 
 /// A service whose replies are written out, the last one first; and the requests that it received,
-/// as they are printed.
+/// as they are printed. After the last reply it closes the connection, or the connection fails.
 #[derive(Drop)]
 struct Script {
     replies: Vec<Reply>,
+    fails: bool,
     asked: String,
 }
 
@@ -41,7 +42,11 @@ impl Peer for Script {
 
     fn ask(&mut self, _alloc: Global, request: &Request) -> Result<Option<Reply>, Fault> {
         push_request(&mut self.asked, request)?;
-        Ok(self.replies.pop())
+        let reply = self.replies.pop();
+        if reply.is_none() && self.fails {
+            return Err(Fault::Word);
+        }
+        Ok(reply)
     }
 }
 
@@ -93,20 +98,25 @@ fn expect(
     printed: &str,
 ) -> Result<(), Fail> {
     let alloc = rt.alloc();
-    let sent = ClientRequests {
-        notes: String::from_str(alloc, NOTES)?,
-        names: core(alloc)?,
-        requests: requests(alloc)?,
-    };
     let mut script = Script {
         replies,
+        fails: false,
         asked: String::new(alloc),
     };
     let printed = format!(in alloc; "{NOTES}{printed}")?;
-    let text = run(alloc, &mut script, sent)?;
+    let text = run(alloc, &mut script, sent_requests(alloc)?)?;
     expect_text(rt, row, &script.asked, asked);
     expect_text(rt, row, text.as_deref().unwrap_or("a fault"), &printed);
     Ok(())
+}
+
+/// Returns what the client sends: the three requests, after the notes.
+fn sent_requests(alloc: Global) -> Result<ClientRequests, AllocError> {
+    Ok(ClientRequests {
+        notes: String::from_str(alloc, NOTES)?,
+        names: core(alloc)?,
+        requests: requests(alloc)?,
+    })
 }
 
 /// Returns a reply in session 7.
@@ -139,4 +149,20 @@ fn nothing_is_sent_after_the_end(rt: HostRuntime) -> Result<(), Fail> {
     replies.push(reply(ReplyBody::Opened))?;
     let printed = "refused: connection: closed before the reply\n";
     expect(&rt, "closed", replies, OPEN_AND_KEY, printed)
+}
+
+#[test]
+fn nothing_is_printed_after_a_fault(rt: HostRuntime) -> Result<(), Fail> {
+    let alloc = rt.alloc();
+    let mut replies = Vec::new(alloc);
+    replies.push(reply(ReplyBody::Opened))?;
+    let mut script = Script {
+        replies,
+        fails: true,
+        asked: String::new(alloc),
+    };
+    let text = run(alloc, &mut script, sent_requests(alloc)?)?;
+    expect_text(&rt, "fault", &script.asked, OPEN_AND_KEY);
+    expect_text(&rt, "fault", text.as_deref().unwrap_or("a fault"), "a fault");
+    Ok(())
 }

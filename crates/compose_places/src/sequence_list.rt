@@ -9,11 +9,11 @@ use std::marker::Model;
 /// The place of a sequence's keysyms in the array.
 #[derive(Clone, Copy)]
 pub(crate) struct KeysymSpan {
-    pub(crate) first: usize,
-    pub(crate) count: usize,
+    pub(crate) first: u32,
+    pub(crate) count: u32,
 }
 
-/// Sequences: 16 bytes for each, and four for each of its keysyms.
+/// Sequences: eight bytes for each, and four for each of its keysyms.
 #[derive(Drop)]
 pub(crate) struct SequenceList {
     keysyms: Vec<Keysym>,
@@ -57,20 +57,32 @@ impl SequenceList {
         ensures { slice_get self.now index ≡ Some result.now }
     {
         let span = self.spans[index];
-        &self.keysyms[span.first..][..span.count]
+        &self.keysyms[span.first as usize..][..span.count as usize]
     }
 
     /// Appends a sequence. O(keysyms).
+    /// Errors: `AllocError` if memory runs out, or if a number doesn't fit into 32 bits, which none of
+    /// a table does: it has at most 3,200,000 keysyms.
     fn push(&mut self, sequence: &[Keysym]) -> Result<(), AllocError>
         ensures { OnOk result (self.new ≡ self.old ++ sequence.now ∷ []) }
     {
         let span = KeysymSpan {
-            first: self.keysyms.len(),
-            count: sequence.len(),
+            first: short(self.keysyms.len())?,
+            count: short(sequence.len())?,
         };
         self.keysyms.extend_from_slice(sequence)?;
         self.spans.push(span)?;
         Ok(())
+    }
+}
+
+/// Returns the number in 32 bits; an error if it doesn't fit.
+fn short(number: usize) -> Result<u32, AllocError>
+    ensures { IfOk result (λ short. short ≡ number) }
+{
+    match u32::try_from(number) {
+        Ok(short) => Ok(short),
+        Err(_) => Err(AllocError),
     }
 }
 

@@ -8,7 +8,8 @@ returns c =
     let keysyms = c.self.inside.keysyms.items in
     let sequence = c.args.sequence.now in
     let spans = c.self.inside.spans.items in
-    let first : c.len.result ≡ length keysyms = omega (arith, c.len.ensures) in
+    let first : c.in_ok-short.field-0 ≡ length keysyms = omega (arith, c.in_ok-short.ensures, c.len.ensures) in
+    let count : c.in_ok-short-2.field-0 ≡ length sequence = c.in_ok-short-2.ensures in
     ap₂ sequences_at c.in_ok-extend_from_slice.ensures.items
-    (c.in_ok-push.ensures.items ∙ ap (λ n. spans ++ record { first = n; count = length sequence } ∷ []) first)
+    (c.in_ok-push.ensures.items ∙ ap₂ (λ n m. spans ++ record { first = n; count = m } ∷ []) first count)
     ∙ pushed keysyms sequence spans c.self.invariant ∙ ap (λ ss. ss ++ sequence ∷ []) c.self.view_is
