@@ -263,15 +263,30 @@ def measure_differences(program, folder, aims):
 
 
 def measure_lint(program, folder, aims):
-    """`lint` on each UTF-8 table of the system beside `list` on the same, which reads it and prints it, in turns."""
-    sums = {"lint": 0, "list": 0}
+    """`lint` on each UTF-8 table of the system beside `type` of one key, which reads the table and does nothing else, and beside `list`, in turns."""
+    sums = {"lint": 0, "type": 0, "list": 0}
     for table in sorted(glob.glob(TABLES)):
-        times = least_processes({name: [program, name, table] for name in sums}, folder, 9)
+        times = least_processes({"lint": [program, "lint", table], "type": type_one(program, table), "list": [program, "list", table]}, folder, 9)
         sums = {name: sums[name] + times[name] for name in sums}
-    print(f"lint of all tables: {sums['lint'] * 1000:.2f} ms; list of them {sums['list'] * 1000:.2f}; ratio {sums['lint'] / sums['list']:.2f}")
-    aims.add("lint, of list", "time", 1.5, sums["lint"] / sums["list"])
-    counted = [instructions([program, name, ENGLISH], folder) for name in sums]
-    aims.add("lint, of list", "instructions", 1.5, ratio(*counted))
+    print(f"lint of all tables: {sums['lint'] * 1000:.2f} ms; type of a key by each {sums['type'] * 1000:.2f}; list of them {sums['list'] * 1000:.2f}")
+    linted = instructions([program, "lint", ENGLISH], folder)
+    for name, command in {"type": type_one(program, ENGLISH), "list": [program, "list", ENGLISH]}.items():
+        aims.add(f"lint, of {name}", "time", 1.5, sums["lint"] / sums[name])
+        aims.add(f"lint, of {name}", "instructions", 1.5, ratio(linted, instructions(command, folder)))
+
+
+def type_one(program, table):
+    """The command that types one key by a table."""
+    return [program, "type", "--files", table, "a"]
+
+
+def measure_how(program, folder, aims):
+    """`how` of one character beside `type` of one key by the same table, in turns."""
+    commands = {"how": [program, "how", "--from", ENGLISH, "é"], "type": type_one(program, ENGLISH)}
+    times = least_processes(commands, folder, 60)
+    print(f"how of a character: {times['how'] * 1000:.2f} ms; type of a key {times['type'] * 1000:.2f}; ratio {times['how'] / times['type']:.2f}")
+    aims.add("how, of type", "time", 1, times["how"] / times["type"])
+    aims.add("how, of type", "instructions", 1, ratio(*(instructions(it, folder) for it in commands.values())))
 
 
 def main():
@@ -287,6 +302,7 @@ def main():
         measure_service(program, trials, folder, aims)
         measure_differences(program, folder, aims)
         measure_lint(program, folder, aims)
+        measure_how(program, folder, aims)
         measure_limits(program, trials, folder)
     print(aims.table())
 
