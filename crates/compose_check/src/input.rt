@@ -128,7 +128,7 @@ fn read_migration<T: ComposeTable>(
             rule: input.new_rule,
         },
     };
-    Migration::read(alloc, &given)
+    Migration::read(alloc, given)
 }
 
 /// Reads the repertoire and the certificate, once the migration is read.

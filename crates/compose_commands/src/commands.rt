@@ -1,9 +1,8 @@
 //! The commands. Each command that reads files and answers is a function over values
-//! (`compose_program`), whose outcome is printed here; a service and its clients
-//! (`compose_service_runs`) do more.
+//! (`compose_program`); a service and its clients (`compose_service_runs`) do more. Nothing is
+//! printed here but the lines of a service.
 use crate::client::{load_files, session_files};
 use crate::environment::read_environment;
-use crate::output::{put, put_outcome};
 use crate::serving::serve_files;
 use crate::updating::update_files;
 use compose_answer::Ended;
@@ -11,14 +10,24 @@ use compose_arguments::{CommandLine, CommandRequest};
 use compose_folder::{Folder, ReadOnce};
 use compose_input::Fault;
 use compose_program::{FaultForm, run_question};
+use compose_report::Outcome;
 use compose_runs::Options;
 use compose_tree::ComposeTable;
 use std::fs::File;
 use std::net::Net;
 use std::rt::{Clock, Env, Files};
 
-/// Runs the command, and returns how the run ends.
-/// Errors: why the input can't be read or is refused. What is printed here about a fault has the
+/// What a command comes to.
+#[derive(Drop)]
+pub enum Answered {
+    /// This is printed.
+    Outcome(Outcome),
+    /// A service has printed its lines, and ended so.
+    Served(Ended),
+}
+
+/// Runs the command, and returns what it comes to.
+/// Errors: why the input can't be read or is refused. What an outcome says about a fault has the
 /// form `form`.
 pub fn answer<T: ComposeTable, F: Folder>(
     rt: &(impl Clock + Env + Files<File = File> + Net + Print + Eprint + AllocGlobal),
@@ -27,30 +36,24 @@ pub fn answer<T: ComposeTable, F: Folder>(
     is_terminal: bool,
     form: FaultForm,
     asked: &CommandLine<'_>,
-) -> Result<Ended, Fault> {
+) -> Result<Answered, Fault> {
     let options = Options {
         names: &asked.names,
         verbose: asked.verbose,
     };
     let environment = read_environment(rt, is_terminal)?;
-    match &asked.request {
+    let outcome = match &asked.request {
         CommandRequest::Answer(question) => {
-            let outcome = run_question::<T, F>(
-                rt.alloc(),
-                files,
-                &environment,
-                options,
-                form,
-                question,
-            )?;
-            Ok(put_outcome(rt, form, &outcome))
+            run_question::<T, F>(rt.alloc(), files, &environment, options, form, question)?
         }
         CommandRequest::Update { arguments, fresh } => {
-            update_files::<T, F>(rt, files, form, arguments, fresh)
+            update_files::<T, F>(rt, files, form, arguments, fresh)?
         }
+        CommandRequest::Load(arguments) => load_files(rt, files, &environment, arguments)?,
+        CommandRequest::Session(arguments) => session_files::<T, F>(rt, files, options, arguments)?,
         CommandRequest::Serve { arguments, fresh } => {
             let allowed = fresh.as_deref();
-            serve_files::<T, F>(
+            return serve_files::<T, F>(
                 rt,
                 files,
                 &environment,
@@ -58,17 +61,8 @@ pub fn answer<T: ComposeTable, F: Folder>(
                 process_id,
                 arguments,
                 allowed,
-            )
+            );
         }
-        CommandRequest::Load(arguments) => {
-            put(rt, form, load_files(rt, files, &environment, arguments))
-        }
-        CommandRequest::Session(arguments) => {
-            put(
-                rt,
-                form,
-                session_files::<T, F>(rt, files, options, arguments),
-            )
-        }
-    }
+    };
+    Ok(Answered::Outcome(outcome))
 }

@@ -1,15 +1,15 @@
-//! A run of the program.
+//! A run of the program. What a command comes to is printed here.
 ghost use Rattle.std.specs.Prelude.{◌≤◌};
 ghost use Rattle.std.specs.Process.{exit_status};
 
-use crate::commands::answer;
-use crate::output::put_fault;
+use crate::commands::{Answered, answer};
+use crate::output::write_whole;
 use compose_answer::Ended;
 use compose_arguments::{CommandLine, read_command_line};
 use compose_folder::{Disk, ReadOnce};
 use compose_input::Fault;
-use compose_program::{FaultForm, fault_form};
-use compose_report::{Outcome, arguments_outcome, exit_code, no_memory, print};
+use compose_program::{FaultForm, fault_form, fault_in_form};
+use compose_report::{Outcome, arguments_outcome, exit_code, no_memory, print, print_beside_file};
 use compose_tree::ComposeTable;
 use std::alloc::{AllocError, Global};
 use std::fs::File;
@@ -71,8 +71,34 @@ fn answer_command<T: ComposeTable>(
     let mut files = ReadOnce::new(rt.alloc(), Disk::new(rt));
     let form = fault_form(asked.verbose, &asked.request);
     match answer::<T, _>(rt, &mut files, process_id, is_terminal, form, asked) {
-        Ok(ended) => ended,
+        Ok(Answered::Outcome(outcome)) => put_outcome(rt, form, &outcome),
+        Ok(Answered::Served(ended)) => ended,
         Err(fault) => put_fault(rt, form, &fault),
+    }
+}
+
+/// Prints an outcome, or writes its output to its file, whole or not at all. Returns how the run
+/// ends.
+fn put_outcome(
+    rt: &(impl Files + Print + Eprint + AllocGlobal),
+    form: FaultForm,
+    outcome: &Outcome,
+) -> Ended {
+    let Some(path) = &outcome.file else {
+        return print(rt, outcome);
+    };
+    match write_whole(rt, path, &outcome.output) {
+        Ok(()) => print_beside_file(rt, outcome),
+        Err(fault) => put_fault(rt, form, &fault),
+    }
+}
+
+/// Prints, in this form, why the input of a command can't be read or is refused. Returns how the
+/// run ends.
+fn put_fault(rt: &(impl Print + Eprint + AllocGlobal), form: FaultForm, fault: &Fault) -> Ended {
+    match fault_in_form(rt.alloc(), form, fault) {
+        Ok(outcome) => print(rt, &outcome),
+        Err(_) => no_memory(rt),
     }
 }
 

@@ -1,15 +1,14 @@
 //! `serve`: a service on a socket, which prints a line when it starts and one for each connection.
 //! A function returns an error if its input can't be read or is refused, or if memory runs out.
 use crate::at_once::serve_many;
+use crate::commands::Answered;
 use crate::connection_ends::{EndLines, print_text};
 use crate::next_connection::next_connection;
-use crate::output::put;
 use compose_answer::Ended;
 use compose_arguments::ServeArguments;
 use compose_folder::{Folder, ReadOnce};
 use compose_hub::ConnectionEnd;
 use compose_input::Fault;
-use compose_program::FaultForm;
 use compose_runs::{Environment, Options};
 use compose_serve::{Device, serve};
 use compose_service::Service;
@@ -24,7 +23,7 @@ use std::os::unix::net::UnixListener;
 use std::rt::{Clock, Env, Files};
 
 /// Serves typing sessions on a socket, one connection after another or several at once. Returns how
-/// the run ends.
+/// the run ends, or what is printed if the service can't start.
 /// Errors: the fault of the first file that can't be read or is refused; `Word` if a variable of
 /// the environment that is needed is not UTF-8; a fault of the socket; `NoMemory` if memory runs
 /// out.
@@ -36,14 +35,15 @@ pub fn serve_files<T: ComposeTable, F: Folder>(
     process_id: u32,
     arguments: &ServeArguments<'_>,
     allowed: Option<&[&str]>,
-) -> Result<Ended, Fault> {
+) -> Result<Answered, Fault> {
     let alloc = rt.alloc();
     match start_service::<T, F>(alloc, files, environment, options, arguments, allowed)? {
         Ok((mut service, notes)) => {
             let _ = eprint!(rt; "{notes}");
-            serve_on_socket(rt, process_id, &mut service, arguments)
+            let ended = serve_on_socket(rt, process_id, &mut service, arguments)?;
+            Ok(Answered::Served(ended))
         }
-        Err(outcome) => put(rt, FaultForm::Line, Ok(outcome)),
+        Err(outcome) => Ok(Answered::Outcome(outcome)),
     }
 }
 

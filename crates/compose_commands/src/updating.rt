@@ -3,105 +3,140 @@
 //! or if memory runs out.
 use crate::client::load_outcome;
 use crate::environment::{read_environment, variable_text};
-use crate::output::put;
 use crate::state_folder::StateFolder;
 use compose_answer::Ended;
 use compose_arguments::UpdateArguments;
 use compose_folder::{Folder, ReadOnce};
 use compose_input::Fault;
-use compose_program::FaultForm;
+use compose_program::{FaultForm, fault_in_form};
 use compose_report::Outcome;
 use compose_runs::{UpdateFiles, UpdateRun, run_update};
 use compose_tree::ComposeTable;
+use std::alloc::Global;
 use std::fs::File;
 use std::net::Net;
 use std::os::unix::net::UnixStream;
 use std::rt::{Clock, Env, Files};
 
-/// Takes a Compose file into use, while no other update is running. Returns how the run ends.
+/// Takes a Compose file into use, while no other update is running. Returns what is printed.
 /// Errors: the fault of the first file that can't be read or is refused; `Word` if a variable of
-/// the environment that is needed is not UTF-8; a fault of the folder, the socket or the
-/// connection; `NoMemory` if memory runs out.
+/// the environment that is needed is not UTF-8; `NoMemory` if memory runs out. A fault of the
+/// folder, the socket or the connection is printed in this form, after the notes of the files.
 pub fn update_files<T: ComposeTable, F: Folder>(
-    rt: &(impl Clock + Env + Files<File = File> + Net + Print + Eprint + AllocGlobal),
+    rt: &(impl Clock + Env + Files<File = File> + Net + AllocGlobal),
     files: &mut ReadOnce<F>,
     form: FaultForm,
     arguments: &UpdateArguments<'_>,
     fresh: &[&str],
-) -> Result<Ended, Fault> {
+) -> Result<Outcome, Fault> {
     let folder = state_folder(rt, arguments.state)?;
     let socket = socket_path(rt, arguments.socket)?;
     let environment = read_environment(rt, false)?;
     let read = UpdateFiles::read(rt.alloc(), files, &environment, arguments)?;
-    let _ = eprint!(rt; "{}", read.new.note);
-    update_read::<T>(rt, form, &folder, socket.as_deref(), &read, fresh)
+    let updated = update_read::<T>(rt, form, &folder, socket.as_deref(), &read, fresh);
+    let outcome = outcome_of(rt.alloc(), form, updated)?;
+    let notes = format!(in rt.alloc(); "{}{}", read.new.note, outcome.notes)?;
+    Ok(outcome.with_notes(notes))
+}
+
+/// Returns the outcome, or what is printed of the fault.
+fn outcome_of(
+    alloc: Global,
+    form: FaultForm,
+    outcome: Result<Outcome, Fault>,
+) -> Result<Outcome, Fault> {
+    match outcome {
+        Ok(outcome) => Ok(outcome),
+        Err(fault) => Ok(fault_in_form(alloc, form, &fault)?),
+    }
 }
 
 /// Takes the table of these files into use.
 fn update_read<T: ComposeTable>(
-    rt: &(impl Files<File = File> + Net + Print + Eprint + AllocGlobal),
+    rt: &(impl Files<File = File> + Net + AllocGlobal),
     form: FaultForm,
     folder: &StateFolder,
     socket: Option<&str>,
     read: &UpdateFiles,
     fresh: &[&str],
-) -> Result<Ended, Fault> {
+) -> Result<Outcome, Fault> {
     let _lock = folder.lock(rt)?;
     let stored = folder.read(rt)?;
     match run_update::<T>(rt.alloc(), read, fresh, stored.as_deref())? {
         UpdateRun::Replaced {
             stored,
             certificate,
-        } => {
-            let loaded = load_running(rt, form, socket, read, certificate.as_deref())?;
-            match loaded {
-                Ended::Yes => keep(rt, form, folder, &stored, ""),
-                ended => Ok(ended),
-            }
-        }
+        } => match load_running(rt, socket, read, certificate.as_deref())? {
+            Some(loaded) => keep_loaded(rt, form, folder, &stored, loaded),
+            None => keep(rt, folder, &stored, ""),
+        },
         UpdateRun::Meant { stored } => keep(
             rt,
-            form,
             folder,
             &stored,
             "note: typing changes as it is meant to; a running service keeps its table until it starts again\n",
         ),
-        UpdateRun::Refused(outcome) => put(rt, form, Ok(outcome)),
+        UpdateRun::Refused(outcome) => Ok(outcome),
     }
 }
 
 /// Loads the table with its certificate into the running service. Does nothing if no service is
 /// running, or if there is no certificate, as no table was in use.
 fn load_running(
-    rt: &(impl Files + Net + Print + Eprint + AllocGlobal),
-    form: FaultForm,
+    rt: &(impl Net + AllocGlobal),
     socket: Option<&str>,
     read: &UpdateFiles,
     certificate: Option<&str>,
-) -> Result<Ended, Fault> {
+) -> Result<Option<Outcome>, Fault> {
     let (Some(socket), Some(certificate)) = (socket, certificate) else {
-        return Ok(Ended::Yes);
+        return Ok(None);
     };
     if UnixStream::connect(rt, socket).is_err() {
-        return Ok(Ended::Yes);
+        return Ok(None);
     }
-    let outcome = load_outcome(rt, socket, &read.new, certificate.as_bytes());
-    put(rt, form, outcome)
+    let loaded = load_outcome(rt, socket, &read.new, certificate.as_bytes())?;
+    Ok(Some(loaded))
+}
+
+/// Keeps the bytes of a table that was loaded with this outcome, if the service accepted it.
+fn keep_loaded(
+    rt: &(impl Files<File = File> + AllocGlobal),
+    form: FaultForm,
+    folder: &StateFolder,
+    stored: &[u8],
+    loaded: Outcome,
+) -> Result<Outcome, Fault> {
+    match loaded.ended {
+        Ended::Yes => {
+            let kept = outcome_of(rt.alloc(), form, keep(rt, folder, stored, ""))?;
+            one_after_another(rt.alloc(), &loaded, &kept)
+        }
+        _ => Ok(loaded),
+    }
+}
+
+/// Returns what is printed if both outcomes are, and ends as the second one does.
+fn one_after_another(alloc: Global, first: &Outcome, second: &Outcome) -> Result<Outcome, Fault> {
+    Ok(Outcome {
+        notes: format!(in alloc; "{}{}", first.notes, second.notes)?,
+        output: format!(in alloc; "{}{}", first.output, second.output)?,
+        errors: format!(in alloc; "{}{}", first.errors, second.errors)?,
+        file: None,
+        ended: second.ended,
+    })
 }
 
 /// Keeps the bytes of the table for the next start of the service. The note may be empty.
 fn keep(
-    rt: &(impl Files<File = File> + Print + Eprint + AllocGlobal),
-    form: FaultForm,
+    rt: &(impl Files<File = File> + AllocGlobal),
     folder: &StateFolder,
     stored: &[u8],
     note: &str,
-) -> Result<Ended, Fault> {
+) -> Result<Outcome, Fault> {
     folder.replace(rt, stored)?;
     let text = String::from_str(rt.alloc(), "stored\n")?;
     let notes = String::from_str(rt.alloc(), note)?;
-    let outcome = Outcome::of_output(rt.alloc(), text, Ended::Yes).with_notes(notes);
-    put(rt, form, Ok(outcome))
+    Ok(Outcome::of_output(rt.alloc(), text, Ended::Yes).with_notes(notes))
 }
 
 /// Returns the folder of the table in use: the argument, or otherwise that of the environment.

@@ -100,7 +100,7 @@ fn push_moved<T: ComposeTable>(
         old: old.input,
         new: new.input,
     };
-    match Migration::<T>::read(alloc, &input) {
+    match Migration::<T>::read(alloc, input) {
         Ok(migration) => push_migration(alloc, text, given, old, new, &migration, pair),
         Err(Refusal::NoMemory) => Err(AllocError),
         Err(_) => Ok(()),

@@ -47,7 +47,7 @@ pub fn diff_migration<T: ComposeTable>(
 ) -> Result<Answer, DiffFault>
     ensures { AnswersDiff (asked input.now) result }
 {
-    match Migration::<PlacedTable<'_, T>>::read(alloc, &input.tables) {
+    match Migration::<PlacedTable<'_, T>>::read(alloc, input.tables) {
         Ok(migration) => diff_tables(alloc, input, &migration),
         Err(refusal) => Err(DiffFault::Input(refusal)),
     }

@@ -65,7 +65,7 @@ pub fn how_to_type<T: ComposeTable>(
         (option_copied wanted.entry.repertoire)) }
 {
     let named = Named::read(alloc, header, &[])?;
-    let placed: PlacedTable<'_, T> = read_only_table(alloc, &named.names, table)?;
+    let placed: PlacedTable<'_, T> = read_only_table(alloc, &named.names, *table)?;
     let repertoire = read_given(alloc, wanted.repertoire)?;
     let index = TextIndex::of_texts(alloc, &placed.table, wanted.texts)?;
     let listed = ListedTable {

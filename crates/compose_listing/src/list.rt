@@ -53,7 +53,7 @@ pub fn list_table<T: ComposeTable>(
         (table_given table.entry.now)) }
 {
     let named = Named::read(alloc, header, wanted.prefix)?;
-    let placed: PlacedTable<'_, T> = read_only_table(alloc, &named.names, table)?;
+    let placed: PlacedTable<'_, T> = read_only_table(alloc, &named.names, *table)?;
     let listed = ListedTable {
         names: &named.names,
         table: &placed.table,

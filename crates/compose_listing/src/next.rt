@@ -38,7 +38,7 @@ pub fn list_next<T: ComposeTable>(
         (type_parts header.now (map (λ key. key.now) prefix.now) (table_given table.entry.now)) }
 {
     let named = Named::read(alloc, header, prefix)?;
-    let placed: PlacedTable<'_, T> = read_only_table(alloc, &named.names, table)?;
+    let placed: PlacedTable<'_, T> = read_only_table(alloc, &named.names, *table)?;
     let lines = next_lines(alloc, &named.names, &placed.table, &named.keys, form)?;
     Ok(Answer::Yes(lines))
 }

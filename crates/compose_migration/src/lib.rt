@@ -5,7 +5,7 @@
 //! names the first part that is refused.
 //!
 //! ```text
-//! let migration: Migration<PackedTable> = Migration::read(alloc, &input)?;
+//! let migration: Migration<PackedTable> = Migration::read(alloc, input)?;
 //! walk(alloc, &migration.old, &migration.new, &migration.names, &migration.keys)
 //! ```
 #![tactic(auto)]

@@ -81,19 +81,19 @@ impl<T> Migration<T> {
     ///
     /// Errors: the first of `Names`, `Key`, and `Side` for the old and then the new table; or
     /// `NoMemory`.
-    pub fn read<'a>(alloc: Global, input: &MigrationInput<'a, '_>) -> Result<Migration<T>, Refusal>
+    pub fn read<'a>(alloc: Global, input: MigrationInput<'a, '_>) -> Result<Migration<T>, Refusal>
     where
         T: ReadTable<'a>,
         ensures parts { Returns (λ expected read. expected ≡ parts T.definitions read) result
-            (migration_of (given_of input.entry.now)) }
+            (migration_of (given_of input.entry)) }
         ensures old { IfOk result
-            (λ read. T.is_read read.names input.entry.now.old.sources.now read.old) }
+            (λ read. T.is_read read.names input.entry.old.sources.now read.old) }
         ensures new { IfOk result
-            (λ read. T.is_read read.names input.entry.now.new.sources.now read.new) }
+            (λ read. T.is_read read.names input.entry.new.sources.now read.new) }
     {
         let named = Named::read(alloc, input.header, input.key_names)?;
-        let old = read_side(alloc, &named.names, Side::Old, &input.old)?;
-        let new = read_side(alloc, &named.names, Side::New, &input.new)?;
+        let old = read_side(alloc, &named.names, Side::Old, input.old)?;
+        let new = read_side(alloc, &named.names, Side::New, input.new)?;
         Ok(Migration {
             names: named.names,
             keys: named.keys,
@@ -120,12 +120,12 @@ fn read_side<'a, T: ReadTable<'a>>(
     alloc: Global,
     names: &Names,
     side: Side,
-    input: &TableInput<'a>,
+    input: TableInput<'a>,
 ) -> Result<T, Refusal>
     ensures table { Returns (λ expected table. expected ≡ T.definitions table) result
         (or_because (no_table side)
-        (first_table names.now input.entry.now.sources.now input.entry.now.rule)) }
-    ensures read { IfOk result (T.is_read names.now input.entry.now.sources.now) }
+        (first_table names.now input.entry.sources.now input.entry.rule)) }
+    ensures read { IfOk result (T.is_read names.now input.entry.sources.now) }
 {
     match T::read_first(alloc, names, input.sources, input.rule) {
         Ok(table) => Ok(table),

@@ -20,12 +20,12 @@ use std::alloc::Global;
 pub fn read_only_table<'a, T: ReadTable<'a>>(
     alloc: Global,
     names: &Names,
-    input: &TableInput<'a>,
+    input: TableInput<'a>,
 ) -> Result<T, Refusal>
     ensures table { Returns (λ expected table. expected ≡ T.definitions table) result
         (or_because no_only_table
-        (first_table names.now input.entry.now.sources.now input.entry.now.rule)) }
-    ensures read { IfOk result (T.is_read names.now input.entry.now.sources.now) }
+        (first_table names.now input.entry.sources.now input.entry.rule)) }
+    ensures read { IfOk result (T.is_read names.now input.entry.sources.now) }
 {
     match T::read_first(alloc, names, input.sources, input.rule) {
         Ok(table) => Ok(table),

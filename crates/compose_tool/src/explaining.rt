@@ -26,7 +26,7 @@ pub fn explain_migration<T: ComposeTable>(
 ) -> Result<Answer, Refusal>
     ensures { Returns IsExplained result (explain_parts (given_of input.entry.now)) }
 {
-    let migration: Migration<T> = Migration::read(alloc, input)?;
+    let migration: Migration<T> = Migration::read(alloc, *input)?;
     let fresh = in_rising_order(alloc, &migration.keys)?;
     explain_tables(alloc, &migration, &fresh)
 }
@@ -61,7 +61,7 @@ pub fn explain_all_migration<T: ComposeTable>(
 ) -> Result<Answer, Refusal>
     ensures { Returns IsAllExplained result (explain_parts (given_of input.entry.now)) }
 {
-    let migration: Migration<T> = Migration::read(alloc, input)?;
+    let migration: Migration<T> = Migration::read(alloc, *input)?;
     let fresh = in_rising_order(alloc, &migration.keys)?;
     explain_all_tables(alloc, &migration, &fresh)
 }

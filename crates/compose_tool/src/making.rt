@@ -33,7 +33,7 @@ pub fn make_migration<T: ComposeTable>(
 ) -> Result<Answer, Refusal>
     ensures { Returns IsMadeText result (make_parts (given_of input.entry.now) repertoire.now) }
 {
-    let migration: Migration<T> = Migration::read(alloc, input)?;
+    let migration: Migration<T> = Migration::read(alloc, *input)?;
     make_from(alloc, &migration, repertoire)
 }
 

@@ -32,7 +32,7 @@ pub fn make_all_migration<T: ComposeTable>(
 ) -> Result<Answer, Refusal>
     ensures { Returns IsAllMadeText result (make_parts (given_of input.entry.now) repertoire.now) }
 {
-    let migration: Migration<T> = Migration::read(alloc, input)?;
+    let migration: Migration<T> = Migration::read(alloc, *input)?;
     make_all_from(alloc, &migration, repertoire)
 }
 

@@ -96,7 +96,7 @@ pub fn type_keys<T: ComposeTable>(
 {
     law_settle();
     let named = Named::read(alloc, header, key_names)?;
-    let table: T = read_only_table(alloc, &named.names, table)?;
+    let table: T = read_only_table(alloc, &named.names, *table)?;
     let lines = lines_of_keys(alloc, &named.names, &table, &named.keys)?;
     Ok(Answer::Yes(lines))
 }
@@ -118,7 +118,7 @@ pub fn type_lists<T: ComposeTable>(
         (table_given table.entry.now)) }
 {
     let named = Named::read(alloc, header, key_names)?;
-    let table: T = read_only_table(alloc, &named.names, table)?;
+    let table: T = read_only_table(alloc, &named.names, *table)?;
     let lines = lines_of_lists(alloc, &named.names, &table, &named.keys, counts)?;
     Ok(Answer::Yes(lines))
 }

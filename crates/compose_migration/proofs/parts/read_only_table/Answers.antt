@@ -6,4 +6,4 @@ use Rattle.compose_migration.proofs.parts.read_only_table.Goals as goal
 
 pub returns-in-Err-clause-table : goal.returns-in-Err-clause-table
 returns-in-Err-clause-table g c =
-    table_refused no_only_table c.in-Err.fault (first_table c.args.names.now c.args.input.now.sources.now c.args.input.now.rule) (search rules)
+    table_refused no_only_table c.in-Err.fault (first_table c.args.names.now c.args.input.sources.now c.args.input.rule) (search rules)

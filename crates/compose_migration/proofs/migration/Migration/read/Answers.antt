@@ -6,14 +6,14 @@ use Rattle.compose_migration.proofs.migration.Migration.read.Goals as goal
 
 pub returns-in_err-old-clause-parts : goal.returns-in_err-old-clause-parts
 returns-in_err-old-clause-parts g c =
-    let given = given_of c.args.input.now in
+    let given = given_of c.args.input in
     let n = named_parts c.in_ok-named.named in
     refusal_gives (λ expected read. expected ≡ parts g.T.ReadTable.definitions read) c.from_residual-in_err-old.result c.in_err-old.field-0.0 (migration_of given) (search rules)
     (old_refused given n c.in_ok-named.ensures c.in_err-old.field-0.0 c.in_err-old.ensures.table)
 
 pub returns-in_err-new-clause-parts : goal.returns-in_err-new-clause-parts
 returns-in_err-new-clause-parts g c =
-    let given = given_of c.args.input.now in
+    let given = given_of c.args.input in
     let n = named_parts c.in_ok-named.named in
     let old = g.T.ReadTable.definitions c.in_ok-old.old in
     refusal_gives (λ expected read. expected ≡ parts g.T.ReadTable.definitions read) c.from_residual-in_err-new.result c.in_err-new.field-0.0 (migration_of given) (search rules)
@@ -21,7 +21,7 @@ returns-in_err-new-clause-parts g c =
 
 pub returns-clause-parts : goal.returns-clause-parts
 returns-clause-parts g c =
-    let given = given_of c.args.input.now in
+    let given = given_of c.args.input in
     let n = named_parts c.in_ok-named.named in
     let old = g.T.ReadTable.definitions c.in_ok-old.old in
     let new = g.T.ReadTable.definitions c.in_ok-new.new in
