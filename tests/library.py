@@ -107,6 +107,7 @@ def random_keys(results, library):
                 pending, status = reading.loaded(pending, status)
             key = chance.choice(KEYS + IGNORED)
             wrong += list(state.following(table)) != reading.following(pending, status)
+            wrong += list(table.following(pending)) != reading.following(pending, status)
             text = state.feed(table, key)
             pending, status, wanted = reading.fed(pending, status, key)
             wrong += (text, state.status, tuple(state.pending)) != (wanted, status, pending)

@@ -14,6 +14,7 @@ STATUSES = ("nothing", "composing", "composed", "cancelled")
 PARTS = ("", "names", "bundle", "source", "overlap", "nodes", "memory", "repertoire", "certificate", "condition", "search")
 DONE, REFUSED, TOO_SMALL, WANTED = range(4)
 SYSTEM = "/usr/share/X11/locale"
+LIBRARY = "libcomposecheck.so.1"
 MOST_TEXT, MOST_PENDING = 255, 31
 
 
@@ -91,7 +92,14 @@ def _load(path):
     return library
 
 
-_library = _load(os.environ.get("COMPOSECHECK_LIBRARY", "libcomposecheck.so.1"))
+def _path():
+    """Where the library is: below the prefix of this file, in its source tree, or where the system looks."""
+    above = os.path.dirname(os.path.dirname(os.path.dirname(os.path.realpath(__file__))))
+    places = [os.path.join(above, *it, LIBRARY) for it in (("lib",), ("build", "lib"))]
+    return os.environ.get("COMPOSECHECK_LIBRARY") or next(filter(os.path.exists, places), LIBRARY)
+
+
+_library = _load(_path())
 
 
 def _bytes(it):
@@ -211,6 +219,14 @@ class Table:
         fault = Fault()
         if not _library.composecheck_table_check(self._table, new._table, _input({}, header, True, certificate, repertoire), fault):
             raise Refused(fault, "")
+
+    def following(self, keysyms):
+        """Yields what may follow these keysyms from rest, as `State.following` does; nothing where no sequence goes on after them."""
+        state = State()
+        for it in keysyms:
+            state.feed(self, it)
+        if state.pending == list(keysyms):
+            yield from state.following(self)
 
     def is_table(self):
         """Returns whether the arrays are a table still: 1, 0, or 2 where memory is wanting."""
