@@ -5,9 +5,12 @@ import subprocess
 import sys
 
 TOP = os.path.dirname(os.path.dirname(os.path.abspath(__file__)))
-# The library of clients, on which the engines stand, also in a copy of the tree; and the proved static library that it is built of.
+# The library of clients, on which the engines stand, also in a copy of the tree; that of tables, by which they list what can follow; and the proved
+# static libraries that they are built of.
 PROVED_CLIENT = os.path.join("crates", "compose_typing_c", "out", "libcompose_typing_c.a")
+PROVED = os.path.join("crates", "compose_c", "out", "libcompose_c.a")
 CLIENT_LIBRARY = os.path.join(TOP, "build", "lib", "libcomposecheck-client.so.0")
+LIBRARY = os.path.join(TOP, "build", "lib", "libcomposecheck.so.1")
 os.environ.setdefault("COMPOSECHECK_CLIENT_LIBRARY", CLIENT_LIBRARY)
 COUNTS = re.compile(r"(\d+) passed, (\d+) failed(?:; .*)?\n?")
 
@@ -40,11 +43,13 @@ def write(folder, files):
             file.write(text)
 
 
-def build_client_library():
-    """Builds the library of clients from the proved static library, which is proved and built first if it isn't there."""
+def build_libraries():
+    """Builds the library of clients from the proved static library, which is proved and built first if it isn't there; and that of tables, if its own
+    one is there."""
     if not os.path.exists(os.path.join(TOP, PROVED_CLIENT)):
         subprocess.run([sys.executable, os.path.join("tools", "build.py"), "compose_typing_c"], cwd=TOP, check=True, stdout=sys.stderr)
-    subprocess.run([sys.executable, os.path.join("lib", "build_library.py"), "--client", os.path.dirname(CLIENT_LIBRARY)], cwd=TOP, check=True)
+    which = [] if os.path.exists(os.path.join(TOP, PROVED)) else ["--client"]
+    subprocess.run([sys.executable, os.path.join("lib", "build_library.py"), *which, os.path.dirname(CLIENT_LIBRARY)], cwd=TOP, check=True)
 
 
 def follow(command, is_quiet=False):

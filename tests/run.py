@@ -12,7 +12,7 @@ import os
 import re
 import sys
 
-from harness import PROVED_CLIENT, TOP, build_client_library, follow
+from harness import PROVED_CLIENT, TOP, build_libraries, follow
 
 # The head of a script: its name, what it takes, and what it does.
 HEAD = re.compile(r"(\w+)\.py((?: (?:PROGRAM|TRIALS|\[[^\]]*\]))*): (.*?)(?:[.:;](?:\s|$)|$)", re.S)
@@ -95,7 +95,7 @@ def main():
         if not given.quick and not os.path.isfile(path):
             sys.exit(f"run.py: there is no {path}: `make` builds the programs, tools/unproved.py unproved ones, and --program and --trials name others")
     if any(it.name in WITH_CLIENT for it in chosen):
-        build_client_library()
+        build_libraries()
     elif given.quick:
         print(f"run.py: {', '.join(sorted(WITH_CLIENT))} are left out: they need the proved library that `make lib-client` builds")
     counts = run_all(chosen, paths, given.quick)

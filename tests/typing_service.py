@@ -1,9 +1,13 @@
 """A service to type with, in a folder of its own: its tables, its certificates, loads, restarts, and a stop."""
 import os
+import re
+import shlex
 import shutil
 import signal
 import subprocess
 import tempfile
+
+UNIT = os.path.join(os.path.dirname(os.path.dirname(os.path.abspath(__file__))), "share", "composecheck", "composecheck.service")
 
 # `old` has a detour that `new` drops: dead_grave before dead_acute changes nothing.
 # The texts "ⓔ" and "ⓐ" are in no table of a toolkit.
@@ -19,13 +23,19 @@ NEW = OLD + """<Multi_key> <apostrophe> <a> : "ⓐ"
 REPERTOIRE = "keys 0x20 0x7e\nkeys 0xfe50 0xfe51\nkeys 0xff20 0xff20\nU+00E9\n"
 
 
+def settings_of_the_unit():
+    """The settings of the unit of systemd."""
+    with open(UNIT, encoding="utf-8") as file:
+        return dict(re.findall(r"^(\w+)=(.*)$", file.read(), re.M))
+
+
 class TypingService:
     """A service that types with one of the tables `old` and `new`, which is started again and loaded as a test wants it."""
 
     def __init__(self, program):
         self.program = os.path.realpath(program)
         self.folder = tempfile.mkdtemp(prefix="typing-")
-        self.socket = self.path("composecheck.socket")
+        self.socket, self.states = self.path("composecheck.socket"), self.path(".local/state")
         self.process = None
 
     def __enter__(self):
@@ -59,11 +69,31 @@ class TypingService:
         """Makes the certificate old-new."""
         self.run("make", "--names", "builtin", "-o", f"{old}-{new}", f"{old}.manifest", f"{new}.manifest", "repertoire")
 
+    def store(self, name):
+        """Has `update` store the table of a Compose file, which the service takes if it runs, and returns what is printed."""
+        return self.run("update", "--state", os.path.join(self.states, "composecheck"), "--socket", self.socket, f"{name}.compose")
+
+    def store_anew(self, name):
+        """Has `update` store a table in the place of any other, and returns the path of what it stored. The service ends."""
+        self.end()
+        shutil.rmtree(self.states, ignore_errors=True)
+        self.store(name)
+        return os.path.join(self.states, "composecheck", "table")
+
+    def unit_command(self):
+        """The command of the unit of systemd, for the table that is stored."""
+        words = settings_of_the_unit()["ExecStart"].replace("%t", self.folder).replace("%h", self.folder)
+        return [self.program, *shlex.split(words)[1:]]
+
     def start(self, table):
         """Starts the service on a table, in the place of the one that runs."""
-        self.end()
         words = ["serve", "--names", "builtin", "--at-once", "16", "--replace", f"{table}.manifest", "repertoire", f"{table}-{table}", self.socket, "65535"]
-        self.process = subprocess.Popen([self.program, *words], cwd=self.folder, stdout=subprocess.PIPE, text=True)
+        self.start_by([self.program, *words])
+
+    def start_by(self, command):
+        """Starts a service by a command, in the place of the one that runs."""
+        self.end()
+        self.process = subprocess.Popen(command, cwd=self.folder, stdout=subprocess.PIPE, text=True)
         if self.process.stdout.readline() != "listening\n":
             raise ChildProcessError("the service doesn't start")
 

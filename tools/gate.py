@@ -34,7 +34,7 @@ import measured
 
 TOP = measured.TOP
 sys.path.append(os.path.join(TOP, "tests"))
-from harness import build_client_library, follow
+from harness import build_libraries, follow
 
 PROGRAM = os.path.join(TOP, "composecheck")
 # What a check and the rest of the machine need, in bytes.
@@ -96,7 +96,7 @@ def use_all_processors(rt):
 def commands():
     """Returns the commands that run the built programs, the slowest first, once `composecheck` itself is at PROGRAM."""
     shutil.copy(built("composecheck"), PROGRAM)
-    build_client_library()
+    build_libraries()
     plain, trials = built("composecheck_list"), built("compose_trials")
     runs = [(it, PROGRAM) for it in ("refusals.py", "diff.py", "how.py", "lint.py")]
     runs += [(it, program) for it in ("cases.py", "service.py", "limits.py") for program in (PROGRAM, plain)]
