@@ -1,6 +1,6 @@
 // An addon of fcitx5 that types by the Compose table of a running composecheck service, under every keyboard layout and before every input
 // method: so nobody has to choose it, and it is on as soon as it is installed.
-#include "keys.h"
+#include "following.h"
 
 #include <cstdlib>
 #include <fcitx-config/configuration.h>
@@ -11,6 +11,7 @@
 #include <fcitx/addonfactory.h>
 #include <fcitx/addoninstance.h>
 #include <fcitx/addonmanager.h>
+#include <fcitx/candidatelist.h>
 #include <fcitx/event.h>
 #include <fcitx/inputcontext.h>
 #include <fcitx/inputcontextmanager.h>
@@ -20,7 +21,10 @@
 
 namespace {
 
+using composecheck::Following;
 using composecheck::Keys;
+using composecheck::Listing;
+using composecheck::Row;
 using composecheck::Service;
 using composecheck::Settings;
 
@@ -31,16 +35,44 @@ constexpr const char *ConfigurationFile = "conf/composecheck.conf";
 FCITX_CONFIGURATION(
     Configuration,
     fcitx::Option<bool> keepAccents{this, "KeepAccents", "Keep the accents of a cancelled sequence", true};
-    fcitx::Option<bool> commitPlain{this, "CommitPlain", "Keep quick keys and texts in order in text fields", true};);
+    fcitx::Option<bool> commitPlain{this, "CommitPlain", "Keep quick keys and texts in order in text fields", true};
+    fcitx::Option<bool> listFollowing{this, "ListFollowing", "List the keys that can follow what is pending", false};
+    fcitx::KeyListOption listKey{
+        this, "ListKey", "Show or hide the list, while keys are pending", {fcitx::Key(FcitxKey_F1)},
+        fcitx::KeyListConstrain({fcitx::KeyConstrainFlag::AllowModifierLess})};);
 
 std::string characterOf(uint32_t keysym) { return fcitx::Key::keySymToUTF8(static_cast<fcitx::KeySym>(keysym)); }
 
-// The keys of an input context.
+std::string nameOf(uint32_t keysym) { return fcitx::Key::keySymToString(static_cast<fcitx::KeySym>(keysym)); }
+
+// The keys of an input context, and those that can follow.
 class Place : public fcitx::InputContextProperty {
 public:
-    explicit Place(Service &service) : keys(service, characterOf) {}
+    Place(Service &service, Following &following) : keys(service, characterOf), listing(following) {}
     Keys keys;
+    Listing listing;
 };
+
+// A key that can follow, which is shown and can't be chosen.
+class Candidate : public fcitx::DisplayOnlyCandidateWord {
+public:
+    explicit Candidate(const Row &row) : DisplayOnlyCandidateWord(fcitx::Text(row.gives)) { setCustomLabel(fcitx::Text(row.key + " ")); }
+};
+
+// The page of the list; null where nothing is listed.
+std::unique_ptr<fcitx::CandidateList> candidates(const Listing &listing) {
+    auto rows = listing.rows();
+    if (rows.empty()) {
+        return nullptr;
+    }
+    auto list = std::make_unique<fcitx::CommonCandidateList>();
+    list->setPageSize(static_cast<int>(rows.size()));
+    list->setLayoutHint(fcitx::CandidateLayoutHint::Vertical);
+    for (const auto &it : rows) {
+        list->append<Candidate>(it);
+    }
+    return list;
+}
 
 std::string socketPath() {
     const char *path = std::getenv("COMPOSECHECK_SOCKET");
@@ -69,7 +101,8 @@ class Composecheck : public fcitx::AddonInstance {
 public:
     explicit Composecheck(fcitx::Instance *instance)
         : service_(socketPath(), log),
-          places_([this](fcitx::InputContext &) { return new Place(service_); }) {
+          following_(composecheck::storedPath(), characterOf, nameOf, [](const std::string &why) { log(true, "the keys that can follow are not listed: " + why); }),
+          places_([this](fcitx::InputContext &) { return new Place(service_, following_); }) {
         reloadConfig();
         instance->inputContextManager().registerProperty("composecheckPlace", &places_);
         watchers_.push_back(instance->watchEvent(fcitx::EventType::InputContextKeyEvent, fcitx::EventWatcherPhase::PreInputMethod, [this](fcitx::Event &event) {
@@ -93,37 +126,61 @@ private:
     void press(fcitx::KeyEvent &event) {
         // With one of these held down a key is a command, and none of a sequence. (AltGr is Mod5.)
         static const fcitx::KeyStates commands{fcitx::KeyState::Ctrl, fcitx::KeyState::Alt, fcitx::KeyState::Super, fcitx::KeyState::Hyper, fcitx::KeyState::Meta};
-        auto key = event.rawKey();
-        if (event.isRelease() || key.states().testAny(commands)) {
+        if (event.isRelease()) {
             return;
         }
         auto &context = *event.inputContext();
-        auto &keys = context.propertyFor(&places_)->keys;
-        bool wasPending = keys.isPending();
-        auto answer = keys.press(key.sym(), Settings{*configuration_.keepAccents, *configuration_.commitPlain}, isTextField(context));
+        auto &place = *context.propertyFor(&places_);
+        bool wasPending = place.keys.isPending();
+        if (wasPending && isForList(event.key(), place)) {
+            event.filterAndAccept();
+            show(context, place);
+            return;
+        }
+        auto key = event.rawKey();
+        if (key.states().testAny(commands)) {
+            return;
+        }
+        auto answer = place.keys.press(key.sym(), Settings{*configuration_.keepAccents, *configuration_.commitPlain}, isTextField(context));
         if (answer.isTaken) {
             event.filterAndAccept();
         }
-        if (wasPending || keys.isPending()) {
-            show(context, keys);
+        if (wasPending || place.keys.isPending()) {
+            lookUp(place);
+            show(context, place);
         }
         if (!answer.text.empty()) {
             context.commitString(answer.text);
         }
     }
 
+    // Whether the key shows or hides the list of keys that can follow, or turns its page; that is done then.
+    bool isForList(const fcitx::Key &key, Place &place) {
+        if (!key.checkKeyList(*configuration_.listKey)) {
+            return place.listing.turn(key.sym());
+        }
+        configuration_.listFollowing.setValue(!*configuration_.listFollowing);
+        fcitx::safeSaveAsIni(configuration_, ConfigurationFile);
+        lookUp(place);
+        return true;
+    }
+
     void drop(fcitx::InputContext &context) {
-        auto &keys = context.propertyFor(&places_)->keys;
-        if (keys.isPending()) {
-            keys.drop();
-            show(context, keys);
+        auto &place = *context.propertyFor(&places_);
+        if (place.keys.isPending()) {
+            place.keys.drop();
+            lookUp(place);
+            show(context, place);
         }
     }
 
-    // Shows what is pending, underlined, where the next text will stand.
-    static void show(fcitx::InputContext &context, const Keys &keys) {
+    // Looks up the keys that can follow, if they are to be listed.
+    void lookUp(Place &place) const { place.listing.lookUp(*configuration_.listFollowing ? place.keys.pending() : std::vector<uint32_t>{}); }
+
+    // Shows what is pending, underlined, where the next text will stand, and the list.
+    static void show(fcitx::InputContext &context, const Place &place) {
         // (where the focus leaves, it is dropped: fcitx5 would commit it)
-        fcitx::Text text(keys.shown(), {fcitx::TextFormatFlag::Underline, fcitx::TextFormatFlag::DontCommit});
+        fcitx::Text text(place.keys.shown(), {fcitx::TextFormatFlag::Underline, fcitx::TextFormatFlag::DontCommit});
         text.setCursor(static_cast<int>(text.textLength()));
         auto &panel = context.inputPanel();
         panel.reset();
@@ -132,12 +189,15 @@ private:
         } else {
             panel.setPreedit(text);
         }
+        panel.setCandidateList(candidates(place.listing));
+        panel.setAuxDown(fcitx::Text(place.listing.place()));
         context.updatePreedit();
         context.updateUserInterface(fcitx::UserInterfaceComponent::InputPanel);
     }
 
     Configuration configuration_;
     Service service_;
+    Following following_;
     fcitx::LambdaInputContextPropertyFactory<Place> places_;
     std::vector<std::unique_ptr<fcitx::HandlerTableEntry<fcitx::EventHandler>>> watchers_;
 };

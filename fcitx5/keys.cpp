@@ -8,8 +8,7 @@ namespace {
 
 constexpr uint32_t MultiKey = 0xff20, BackSpace = 0xff08, Escape = 0xff1b;
 constexpr uint32_t FirstDeadKey = 0xfe50, LastDeadKey = 0xfe93;
-// What is shown for Multi_key, and for a key that has no character.
-constexpr const char *ComposeSign = "·", *Other = "•";
+constexpr const char *ComposeSign = "·";
 // The dead keys from the first to the last. (A mark that has no form of its own stands on a no-break space.)
 constexpr const char *Accents[] = {
     "`", "´", "^", "~", "¯", "˘", "˙", "¨", "˚", "˝", "ˇ", "¸", "˛", "ͺ", "゛", "゜",
@@ -24,7 +23,8 @@ bool isDeadKey(uint32_t keysym) { return FirstDeadKey <= keysym && keysym <= Las
 
 std::string accent(uint32_t keysym) { return isDeadKey(keysym) ? Accents[keysym - FirstDeadKey] : ""; }
 
-// Whether a text stands for itself: it is there, and has no control characters.
+} // namespace
+
 bool isPrinted(const std::string &text) {
     for (size_t at = 0; at < text.size(); at++) {
         auto byte = static_cast<uint8_t>(text[at]);
@@ -36,7 +36,11 @@ bool isPrinted(const std::string &text) {
     return !text.empty();
 }
 
-} // namespace
+std::string signOf(uint32_t keysym, const CharacterOf &characterOf) {
+    auto sign = keysym == MultiKey ? ComposeSign : accent(keysym);
+    auto character = sign.empty() ? characterOf(keysym) : sign;
+    return isPrinted(character) ? character : Other;
+}
 
 Answer Keys::press(uint32_t keysym, const Settings &settings, bool isTextField) {
     auto end = typing_.deadline();
@@ -77,10 +81,8 @@ Answer Keys::press(uint32_t keysym, const Settings &settings, bool isTextField) 
 
 std::string Keys::shown() const {
     std::string text;
-    for (auto it : typing_.pending()) {
-        auto sign = it == MultiKey ? ComposeSign : accent(it);
-        auto character = sign.empty() ? characterOf_(it) : sign;
-        text += isPrinted(character) ? character : Other;
+    for (auto it : pending()) {
+        text += signOf(it, characterOf_);
     }
     return text;
 }

@@ -23,6 +23,13 @@ struct Answer {
 // The character of a keysym, in UTF-8, or nothing.
 using CharacterOf = std::function<std::string(uint32_t)>;
 
+// What is shown for a key that has no character.
+constexpr const char *Other = "•";
+// What is shown for a key.
+std::string signOf(uint32_t keysym, const CharacterOf &characterOf);
+// Whether a text stands for itself: it is there, and has no control characters.
+bool isPrinted(const std::string &text);
+
 // The keys of a place where somebody types.
 class Keys {
 public:
@@ -32,7 +39,8 @@ public:
     Answer press(uint32_t keysym, const Settings &settings, bool isTextField);
     // The pending keys, as the person at the keyboard sees them.
     std::string shown() const;
-    bool isPending() const { return !typing_.pending().empty(); }
+    std::vector<uint32_t> pending() const { return typing_.pending(); }
+    bool isPending() const { return !pending().empty(); }
     // Forgets the pending keys: the focus has left, or the application wants it.
     void drop() { typing_.reset(); }
 

@@ -1,7 +1,8 @@
 #!/usr/bin/env python3
 """engine.py PROGRAM: what the input methods do with keys, without a desktop: several requests in one write (composecheck_client.py), a session
-that survives a lost connection (composecheck_typing.py), what is taken, passed, committed and shown (share/ibus/composecheck_keys.py), and the
-same of the addon of fcitx5, compiled here where there is a compiler, on random keys. PROGRAM serves. The last line is `N passed, M failed`."""
+that survives a lost connection (composecheck_typing.py), what is taken, passed, committed and shown (share/ibus/composecheck_keys.py), what can
+follow (share/ibus/composecheck_following.py), and the same of the addon of fcitx5, compiled here where there is a compiler, on random keys.
+PROGRAM serves. The last line is `N passed, M failed`."""
 import contextlib
 import logging
 import os
@@ -16,12 +17,13 @@ import tempfile
 import threading
 import time
 
-from harness import CLIENT_LIBRARY, Results
+from harness import CLIENT_LIBRARY, LIBRARY, Results
 from typing_service import TypingService
 
 TOP = os.path.dirname(os.path.dirname(os.path.abspath(__file__)))
 sys.path[:0] = [os.path.join(TOP, "share", "composecheck"), os.path.join(TOP, "share", "ibus")]
 from composecheck_client import Client, Fed, NoSession, Request, SessionTaken, State, TimedOut, UnexpectedReply
+from composecheck_following import PAGE_DOWN, PAGE_UP, Following, Listing, Row, stored_path
 from composecheck_journal import Journal
 from composecheck_keys import ACCENTS, Answer, Keys, Settings
 from composecheck_typing import Service, Typed, Typing
@@ -231,10 +233,17 @@ class Lines(logging.Handler):
         self.lines.append((record.levelname, record.getMessage()))
 
 
-def check_log(service, results):
+@contextlib.contextmanager
+def logged():
+    """What is logged meanwhile."""
     log, lines = logging.getLogger("composecheck"), Lines()
     log.addHandler(lines)
-    with session(service, patience=PATIENCE) as (_, typing):
+    yield lines.lines
+    log.removeHandler(lines)
+
+
+def check_log(service, results):
+    with logged() as lines, session(service, patience=PATIENCE) as (_, typing):
         typing.key(ACUTE)
         service.end()
         for _ in range(3):
@@ -244,9 +253,8 @@ def check_log(service, results):
         service.stop()
         typing.key(E)
         typing.key(E)
-    log.removeHandler(lines)
-    results.expect("the levels of what is logged, once while it lasts", [level for level, _ in lines.lines], ["WARNING", "INFO", "WARNING"])
-    results.expect("what is logged", [text.split(service.socket)[0] for _, text in lines.lines], ["nobody listens on ", "", "no reply from "])
+    results.expect("the levels of what is logged, once while it lasts", [level for level, _ in lines], ["WARNING", "INFO", "WARNING"])
+    results.expect("what is logged", [text.split(service.socket)[0] for _, text in lines], ["nobody listens on ", "", "no reply from "])
 
 
 def check_journal(_, results):
@@ -317,11 +325,107 @@ def check_patience(service, results):
             results.expect(f"{what} waits no longer than the patience", time.monotonic() - began < 2 * PATIENCE, True)
 
 
+# ---- what can follow
+
+# What is listed, and said of it, where there is no library.
+WITHOUT = """
+import logging
+from composecheck_following import Following
+logging.basicConfig()
+following = Following("table")
+print(following.rows((0xFE51,)), following.rows((0xFE51,)))
+"""
+# Keysyms of tables: with signs, of which some look alike, and with names alone.
+FOLLOWED = {"a": A, "e": E, "slash": 0x2F, "space": 0x20, "dead_acute": ACUTE, "dead_stroke": 0xFE63, "Multi_key": MULTI, "Left": 0xFF51, "KP_1": 0xFFB1,
+            "eacute": 0xE9, "U0101": 0x1000101, **{it: ord(it) for it in "bcdfghij"}}
+SIGNS = {ACUTE: "´", 0xFE63: "/", MULTI: "·"}
+
+
+def check_following(service, results):
+    none = service.path("none")
+    with logged() as lines:
+        following = Following(none)
+        results.expect("without a table nothing follows", (following.rows((ACUTE,)), following.rows((GRAVE,))), ([], []))
+    results.expect("and that is logged once", [(level, none in text) for level, text in lines], [("WARNING", True)])
+    path = service.store_anew("old")
+    following = Following(path)
+    for pending, wanted in {
+        (MULTI,): [("'", "…")], (MULTI, APOSTROPHE): [("-", "…"), ("e", "ⓔ")], (GRAVE,): [("a", "à"), ("´", "…")], (X,): [], (MULTI, X): [], (ACUTE, E): [],
+    }.items():
+        results.expect(f"what follows {pending}", following.rows(pending), [Row(*it) for it in wanted])
+    service.store_anew("new")
+    results.expect("the table is read again", following.rows((ACUTE,)), [Row("a", "á"), Row("e", "é")])
+    service.write("shown.compose", '<a> <space> : "x"\n<a> <Left> : "y"\n<a> <1> : "1"\n<a> <KP_1> : "1"\n<a> <b> : "\\n"\n')
+    service.store_anew("shown")
+    shown = Following(path, lambda it: "1" if it == 0xFFB1 else chr(it) if it < 0x100 else "", {0x20: "space", 0xFF51: "Left"}.get)
+    wanted = [Row("1", "1"), Row("b", "•"), Row("space", "x"), Row("Left", "y")]
+    results.expect("a key without a sign has its name, behind the others", shown.rows((A,)), wanted)
+    with open(path, "wb") as file:
+        file.write(b"compose")
+    with logged() as lines:
+        results.expect("what is no table", (following.rows((A,)), len(lines)), ([], 1))
+
+
+def check_pages(service, results):
+    service.write("pages.compose", "".join(f'<Multi_key> <{it}> : "{it}"\n' for it in "abcdefghijklmnopqrstuvwxy"))
+    listing = Listing(Following(service.store_anew("pages")))
+    seen = lambda: ("".join(it.key for it in listing.rows), listing.place)
+    listing.look_up((MULTI,))
+    results.expect("the first page", seen(), ("abcdefghij", "1–10 / 25"))
+    results.expect("another key doesn't turn it", (listing.turn(X), seen()), (False, ("abcdefghij", "1–10 / 25")))
+    results.expect("the next page", (listing.turn(PAGE_DOWN), seen()), (True, ("klmnopqrst", "11–20 / 25")))
+    results.expect("the last page", (listing.turn(PAGE_DOWN), seen()), (True, ("uvwxy", "21–25 / 25")))
+    results.expect("the first one again", (listing.turn(PAGE_DOWN), seen()), (True, ("abcdefghij", "1–10 / 25")))
+    results.expect("backwards", (listing.turn(PAGE_UP), seen()), (True, ("uvwxy", "21–25 / 25")))
+    listing.look_up(())
+    results.expect("of no keys nothing is listed", (seen(), listing.turn(PAGE_DOWN)), (("", ""), False))
+
+
+def check_without_library(_, results):
+    given = {**os.environ, "COMPOSECHECK_LIBRARY": "/nowhere.so", "PYTHONPATH": os.pathsep.join(sys.path[:2])}
+    ran = subprocess.run([sys.executable, "-B", "-c", WITHOUT], capture_output=True, text=True, timeout=60, env=given)
+    said = ran.stdout, ran.stderr.count("/nowhere.so"), ran.stderr.count("\n")
+    results.expect("without the library nothing follows, which is logged once", said, ("[] []\n", 1, 1))
+
+
+def check_state_folder(_, results):
+    """Where a table is looked for: as `update` does."""
+    before = dict(os.environ)
+    for changes, wanted in (({"XDG_STATE_HOME": "/s"}, "/s/composecheck/table"), ({"XDG_STATE_HOME": "", "HOME": "/h"}, "/h/.local/state/composecheck/table")):
+        os.environ.update(changes)
+        results.expect(f"the stored table with {changes}", stored_path(), wanted)
+    os.environ.clear()
+    os.environ.update(before)
+
+
+def random_table(chance):
+    """Random sequences by their keysyms, each with its text; and the Compose file of them."""
+    drawn = [[chance.choice(list(FOLLOWED)) for _ in range(chance.randrange(1, 5))] for _ in range(300)]
+    lines = {tuple(FOLLOWED[it] for it in names): (names, chance.choice("xyz")) for names in drawn}
+    text = "".join("".join(f"<{it}> " for it in names) + f': "{text}"\n' for names, text in lines.values())
+    return {keysyms: text for keysyms, (_, text) in lines.items()}, text
+
+
+def rows_after(table, pending):
+    """What follows these keysyms, by a second reading."""
+    size = len(pending) + 1
+    gives = {it[-1]: text for it, text in table.items() if it[:-1] == pending}
+    gives.update((it[size - 1], "…") for it in table if len(it) > size and it[:size - 1] == pending)
+    return [Row(SIGNS.get(it, hex(it)), gives[it]) for it in sorted(gives, key=lambda it: (it not in SIGNS, it))]
+
+
+def check_random_following(service, results):
+    table, text = random_table(random.Random(6))
+    service.write("random.compose", text)
+    following = Following(service.store_anew("random"), lambda _: "")
+    every = sorted({it[:size] for it in table for size in range(1, 5)})
+    results.expect("what follows each beginning of random sequences", [following.rows(it) for it in every], [rows_after(table, it) for it in every])
+
+
 # ---- the addon of fcitx5
 
 PROBE = os.path.join(TOP, "fcitx5", "probe.cpp")
-SOURCES = [os.path.join(TOP, "fcitx5", it) for it in ("client.cpp", "typing.cpp", "keys.cpp")]
-LIBRARY = [f"-I{TOP}/lib", CLIENT_LIBRARY, f"-Wl,-rpath,{os.path.dirname(CLIENT_LIBRARY)}"]
+SOURCES = [os.path.join(TOP, "fcitx5", it) for it in ("client.cpp", "typing.cpp", "keys.cpp", "following.cpp")]
 PROBED = [GRAVE, ACUTE, CARON, MULTI, APOSTROPHE, MINUS, A, B, E, X, SHIFT, BACKSPACE, ESCAPE, RETURN, 0xE9, 0x1000101, 0xFE60]
 
 
@@ -332,19 +436,32 @@ def press_all(keys, presses):
         yield f"{int(answer.taken)} {answer.text.encode().hex()} {keys.shown.encode().hex()}"
 
 
+def compiled(folder, results):
+    """The addon's part without fcitx5, which looks for its libraries in its folder; or None where it isn't compiled."""
+    probe, words = os.path.join(folder, "probe"), ["-std=c++17", "-Wall", "-Wextra", "-Werror", f"-I{TOP}/lib", f"-Wl,-rpath,{folder}"]
+    for it in (CLIENT_LIBRARY, LIBRARY):
+        os.symlink(it, os.path.join(folder, os.path.basename(it)))
+    made = subprocess.run(["c++", *words, "-o", probe, PROBE, *SOURCES, CLIENT_LIBRARY], capture_output=True, text=True)
+    results.expect("the addon's keys are compiled", (made.returncode, made.stderr), (0, ""))
+    return None if made.returncode else probe
+
+
 def check_fcitx5(service, results):
-    compiler = shutil.which("c++")
-    if not compiler:
+    if not shutil.which("c++"):
         print("no c++ here: the addon of fcitx5 is not tried")
         return
+    with tempfile.TemporaryDirectory(prefix="engine-") as folder:
+        probe = compiled(folder, results)
+        if probe:
+            check_addon_keys(probe, service, results)
+        if probe and os.path.exists(LIBRARY):
+            check_addon_list(probe, service, results)
+
+
+def check_addon_keys(probe, service, results):
     chance = random.Random(5)
     presses = [(chance.choice(PROBED), *(chance.randrange(2) for _ in range(3))) for _ in range(4000)]
-    with session(service) as (_, typing), tempfile.TemporaryDirectory(prefix="engine-") as folder:
-        probe = os.path.join(folder, "probe")
-        made = subprocess.run([compiler, "-std=c++17", "-Wall", "-Wextra", "-Werror", "-o", probe, PROBE, *SOURCES, *LIBRARY], capture_output=True, text=True)
-        results.expect("the addon's keys are compiled", (made.returncode, made.stderr), (0, ""))
-        if made.returncode:
-            return
+    with session(service) as (_, typing):
         sent = "".join(" ".join(map(str, it)) + "\n" for it in [*presses, (0, 0, 0, 0), (E, 1, 1, 1)])
         ran = subprocess.run([probe, service.socket, str(AMPLE * 1000)], input=sent, capture_output=True, text=True, timeout=300)
         results.expect("the probe's status", (ran.returncode, ran.stderr), (0, ""))
@@ -357,13 +474,51 @@ def check_fcitx5(service, results):
         service.go_on()
 
 
+def list_all(listing, asked):
+    """What the engine of IBus lists, in the form of the probe."""
+    for turns, *pending in asked:
+        listing.look_up(pending)
+        for _ in range(abs(turns)):
+            listing.turn(PAGE_DOWN if turns > 0 else PAGE_UP)
+        yield " ".join([listing.place.encode().hex(), *(f"{it.key.encode().hex()}={it.gives.encode().hex()}" for it in listing.rows)])
+
+
+def told(probe, table, asked):
+    """What the addon's part prints of lists, and what it logs."""
+    ran = subprocess.run([probe, table], input=asked, capture_output=True, text=True, timeout=300)
+    return ran.stdout, ran.stderr
+
+
+def check_addon_list(probe, service, results):
+    chance = random.Random(7)
+    table, text = random_table(chance)
+    service.write("random.compose", text)
+    path = service.store_anew("random")
+    begun = [(*chance.choice(list(table))[: chance.randrange(4)], *chance.choices(list(FOLLOWED.values()), k=chance.randrange(2))) for _ in range(1000)]
+    asked = [(chance.randrange(-3, 4), *it) for it in begun]
+    got = told(probe, path, "".join(" ".join(map(str, it)) + "\n" for it in asked))
+    results.expect("1,000 random lists, as those of the engine of IBus", (got[0].splitlines(), got[1]), ([*list_all(Listing(Following(path)), asked)], ""))
+    got = told(probe, f"{path}.none", f"0 {ACUTE}\n" * 2)
+    results.expect("without a table nothing follows, which the addon says once", got, ("\n\n", f"there is no table in {path}.none\n"))
+    library = os.path.join(os.path.dirname(probe), os.path.basename(LIBRARY))
+    os.remove(library)
+    with open(library, "wb"):
+        got = told(probe, path, f"0 {ACUTE}\n" * 2)
+    results.expect("nor without the library", got, ("\n\n", "there is no libcomposecheck.so.1\n"))
+
+
 def main():
     logging.getLogger("composecheck").addHandler(logging.NullHandler())
     logging.getLogger("composecheck").setLevel(logging.INFO)
     results = Results()
+    checks = [check_exchange, check_document, check_deadline, check_session, check_loads, check_lost_connections, check_silence, check_full, check_others, check_log,
+              check_journal, check_keys, check_patience, check_without_library, check_state_folder, check_fcitx5]
+    if os.path.exists(LIBRARY):
+        checks += [check_following, check_pages, check_random_following]
+    else:
+        print("no libcomposecheck here: what can follow is not tried")
     with TypingService(sys.argv[1]) as service:
-        for check in (check_exchange, check_document, check_deadline, check_session, check_loads, check_lost_connections, check_silence, check_full, check_others, check_log,
-                      check_journal, check_keys, check_patience, check_fcitx5):
+        for check in checks:
             check(service, results)
     return results.end()
 

@@ -6,7 +6,7 @@
 
 Keys that are held down with Control, Alt or the like are commands, and none of them comes here; neither does a release of a key.
 """
-from typing import Callable, Iterable, NamedTuple
+from typing import Callable, Iterable, NamedTuple, Tuple
 
 from composecheck_typing import Typing
 
@@ -54,9 +54,13 @@ class Keys:
         self._typing, self._character_of = typing, character_of
 
     @property
+    def pending(self) -> Tuple[int, ...]:
+        return self._typing.pending
+
+    @property
     def shown(self) -> str:
         """The pending keys, as the person at the keyboard sees them."""
-        return "".join(map(self._sign_of, self._typing.pending))
+        return "".join(sign_of(it, self._character_of) for it in self.pending)
 
     def press(self, keysym: int, settings: Settings = Settings(), is_text_field: bool = True) -> Answer:
         """Answers a key. It takes no longer than the patience of the service."""
@@ -73,14 +77,14 @@ class Keys:
             typed = self._typing.key(keysym, end)
         elif typed:
             accents = ""
-        if not typed and accents and _is_printed(self._character_of(keysym)):
+        if not typed and accents and is_printed(self._character_of(keysym)):
             # (no service is reached: an accent that is committed and a key that passes might change places)
             return Answer(True, accents + self._character_of(keysym))
         if not typed or not typed.accepted:
             return Answer(False, accents)
         if typed.status != "nothing":
             return Answer(True, accents + typed.text)
-        if _is_printed(typed.text) and (accents or (settings.commit_plain and is_text_field)):
+        if is_printed(typed.text) and (accents or (settings.commit_plain and is_text_field)):
             return Answer(True, accents + typed.text)
         # (a toolkit that gets a dead key begins a sequence of its own table with it: then two tables would type at once)
         return Answer(not typed.text and _begins_sequences(keysym), accents)
@@ -93,11 +97,13 @@ class Keys:
         """Ends the session: nobody types here any more."""
         self._typing.close()
 
-    def _sign_of(self, keysym: int) -> str:
-        if keysym == MULTI_KEY:
-            return COMPOSE_SIGN
-        character = self._character_of(keysym)
-        return ACCENTS.get(keysym) or (character if _is_printed(character) else OTHER)
+
+def sign_of(keysym: int, character_of: Callable[[int], str]) -> str:
+    """What is shown for a key."""
+    if keysym == MULTI_KEY:
+        return COMPOSE_SIGN
+    character = character_of(keysym)
+    return ACCENTS.get(keysym) or (character if is_printed(character) else OTHER)
 
 
 def _accents(keysyms: Iterable[int]) -> str:
@@ -105,7 +111,7 @@ def _accents(keysyms: Iterable[int]) -> str:
     return "".join(ACCENTS.get(it, "") for it in keysyms)
 
 
-def _is_printed(text: str) -> bool:
+def is_printed(text: str) -> bool:
     """Whether a key's text stands for itself. (Return and Tab may have one that doesn't.)"""
     return bool(text) and not any(it < " " or "\x7f" <= it < "\xa0" for it in text)
 

@@ -1,0 +1,147 @@
+#include "following.h"
+
+#include <algorithm>
+#include <cstdlib>
+#include <dlfcn.h>
+#include <fstream>
+#include <iterator>
+#include <set>
+#include <sys/stat.h>
+
+namespace composecheck {
+
+namespace {
+
+constexpr const char *LibraryName = "libcomposecheck.so.1";
+// What is shown in the place of a text where the sequence goes on; how many keys are listed at most, and how many a page has.
+constexpr const char *GoesOn = "…";
+constexpr size_t Most = 1000, PageSize = 10;
+constexpr uint32_t PageUp = 0xff55, PageDown = 0xff56;
+
+// What is called of libcomposecheck.
+struct Library {
+    decltype(&composecheck_table_new) newTable;
+    decltype(&composecheck_table_free) freeTable;
+    decltype(&composecheck_table_feed) feed;
+    decltype(&composecheck_pending) pending;
+    decltype(&composecheck_table_following) following;
+};
+
+template <typename Function>
+bool find(void *opened, const char *name, Function &function) {
+    function = reinterpret_cast<Function>(dlsym(opened, name));
+    return function != nullptr;
+}
+
+// The library, which stays open; null where it isn't installed. (So the addon types without it.)
+const Library *library() {
+    static Library found;
+    static void *opened = dlopen(LibraryName, RTLD_NOW | RTLD_LOCAL);
+    static bool isFound = opened && find(opened, "composecheck_table_new", found.newTable) && find(opened, "composecheck_table_free", found.freeTable) &&
+                          find(opened, "composecheck_table_feed", found.feed) && find(opened, "composecheck_pending", found.pending) &&
+                          find(opened, "composecheck_table_following", found.following);
+    return isFound ? &found : nullptr;
+}
+
+// Types keys from rest. Nothing: they aren't pending then, since no sequence goes on after them.
+std::optional<composecheck_state> typed(const composecheck_table *table, const std::vector<uint32_t> &keysyms) {
+    composecheck_state state{};
+    uint8_t text[COMPOSECHECK_MOST_TEXT];
+    uint32_t length, pending[COMPOSECHECK_MOST_PENDING];
+    for (auto it : keysyms) {
+        library()->feed(table, &state, it, text, &length);
+    }
+    bool isPending = std::equal(keysyms.begin(), keysyms.end(), pending, pending + library()->pending(&state, pending));
+    return isPending ? std::optional(state) : std::nullopt;
+}
+
+// Leaves out those that look like one before. (A digit of the keypad looks like the other one.)
+std::vector<Row> distinct(const std::vector<Row> &rows) {
+    std::set<std::pair<std::string, std::string>> met;
+    std::vector<Row> kept;
+    std::copy_if(rows.begin(), rows.end(), std::back_inserter(kept), [&met](const Row &it) { return met.emplace(it.key, it.gives).second; });
+    return kept;
+}
+
+} // namespace
+
+std::string storedPath() {
+    const char *states = std::getenv("XDG_STATE_HOME"), *home = std::getenv("HOME");
+    std::string folder = states && *states ? states : std::string(home ? home : "") + "/.local/state";
+    return folder + "/composecheck/table";
+}
+
+std::vector<Row> Following::rows(const std::vector<uint32_t> &pending) {
+    struct stat found {};
+    stat(path_.c_str(), &found);
+    std::array<int64_t, 3> seen{static_cast<int64_t>(found.st_ino), found.st_mtim.tv_sec, found.st_mtim.tv_nsec};
+    if (seen_ != seen) {
+        seen_ = seen;
+        table_ = read();
+    }
+    auto state = table_ ? typed(table_.get(), pending) : std::nullopt;
+    std::vector<Row> signs, names;
+    uint8_t text[COMPOSECHECK_MOST_TEXT];
+    uint32_t keysym, status, length;
+    for (uint32_t at = 0; state && at < Most && library()->following(table_.get(), &*state, at, &keysym, &status, text, &length); at++) {
+        std::string shown = sign(keysym), given(text, text + length);
+        std::string gives = status == COMPOSECHECK_COMPOSING ? GoesOn : isPrinted(given) ? given : Other;
+        (shown.empty() ? names : signs).push_back({shown.empty() ? nameOf_(keysym) : shown, gives});
+    }
+    signs.insert(signs.end(), names.begin(), names.end());
+    return distinct(signs);
+}
+
+std::shared_ptr<composecheck_table> Following::read() const {
+    if (!library()) {
+        log_(std::string("there is no ") + LibraryName);
+        return nullptr;
+    }
+    std::ifstream file(path_, std::ios::binary);
+    std::string bytes{std::istreambuf_iterator<char>(file), {}};
+    composecheck_input input{};
+    input.bundle = bytes.data();
+    input.bundle_length = bytes.size();
+    input.longest = true;
+    composecheck_fault fault{};
+    std::shared_ptr<composecheck_table> table(library()->newTable(&input, &fault), library()->freeTable);
+    if (!table) {
+        log_("there is no table in " + path_);
+    }
+    return table;
+}
+
+// What is shown for a key, or nothing where that can't be told apart.
+std::string Following::sign(uint32_t keysym) const {
+    auto sign = signOf(keysym, characterOf_);
+    return sign == Other || sign == " " || sign == "\u00a0" ? "" : sign;
+}
+
+void Listing::lookUp(const std::vector<uint32_t> &pending) {
+    rows_ = pending.empty() ? std::vector<Row>{} : following_.rows(pending);
+    page_ = 0;
+}
+
+bool Listing::turn(uint32_t keysym) {
+    if ((keysym != PageUp && keysym != PageDown) || rows_.size() <= PageSize) {
+        return false;
+    }
+    size_t pages = (rows_.size() + PageSize - 1) / PageSize;
+    page_ = (page_ + (keysym == PageDown ? 1 : pages - 1)) % pages;
+    return true;
+}
+
+std::vector<Row> Listing::rows() const {
+    auto first = rows_.begin() + static_cast<ptrdiff_t>(std::min(page_ * PageSize, rows_.size()));
+    return {first, first + std::min<ptrdiff_t>(PageSize, rows_.end() - first)};
+}
+
+std::string Listing::place() const {
+    if (rows_.size() <= PageSize) {
+        return "";
+    }
+    size_t first = page_ * PageSize;
+    return std::to_string(first + 1) + "–" + std::to_string(first + rows().size()) + " / " + std::to_string(rows_.size());
+}
+
+} // namespace composecheck
