@@ -107,7 +107,7 @@ install: composecheck install-lib install-ibus
 
 install-ibus: composecheck install-client
 	install -D -t $(DESTDIR)$(PREFIX)/share/ibus-composecheck share/ibus/ibus-engine-composecheck share/ibus/ibus-setup-composecheck
-	install -D -m 644 -t $(DESTDIR)$(PREFIX)/share/ibus-composecheck share/ibus/composecheck_journal.py share/ibus/composecheck_keys.py
+	install -D -m 644 -t $(DESTDIR)$(PREFIX)/share/ibus-composecheck $(wildcard share/ibus/composecheck_*.py)
 	install -D -m 644 share/ibus/composecheck.xml.in $(DESTDIR)$(PREFIX)/share/ibus/component/composecheck.xml
 	sed -i "s|@PREFIX@|$(PREFIX)|; s|@VERSION@|$$(./composecheck --version | cut -d ' ' -f 2)|" $(DESTDIR)$(PREFIX)/share/ibus/component/composecheck.xml
 	install -D -m 644 share/ibus/ibus-composecheck.svg $(DESTDIR)$(PREFIX)/share/icons/hicolor/scalable/apps/ibus-composecheck.svg

@@ -9,7 +9,8 @@
   package.py library PROGRAM FOLDER  libcomposecheck1_VERSION_ARCH.deb, libcomposecheck-client0_VERSION_ARCH.deb and
                                     libcomposecheck-dev_VERSION_ARCH.deb: the C libraries, and what programs are built with
 
-The engines of IBus and fcitx5 need libcomposecheck-client0. The proved static libraries have to be there for all but the first two: `make lib`.
+The engines of IBus and fcitx5 need libcomposecheck-client0, and recommend libcomposecheck1. The proved static libraries have to be there for all but
+the first two: `make lib`.
 
 The first two hold the same files in the same places, the first below a prefix of one's own (the files name /usr/local), the second below
 /usr. All are the same to the byte when they are made from the same program and sources. Their files are as old as the last commit, or as
@@ -42,6 +43,7 @@ IBUS_ID = "org.freedesktop.ibus.engine.composecheck"
 IBUS_FILES = {
     "share/ibus-composecheck/ibus-engine-composecheck": "ibus-engine-composecheck",
     "share/ibus-composecheck/ibus-setup-composecheck": "ibus-setup-composecheck",
+    "share/ibus-composecheck/composecheck_following.py": "composecheck_following.py",
     "share/ibus-composecheck/composecheck_journal.py": "composecheck_journal.py",
     "share/ibus-composecheck/composecheck_keys.py": "composecheck_keys.py",
     "share/icons/hicolor/scalable/apps/ibus-composecheck.svg": "ibus-composecheck.svg",
@@ -61,6 +63,7 @@ class Package(NamedTuple):
     architecture: str
     depends: str
     description: str
+    recommends: str = ""
 
 
 THE_PROGRAM = Package("composecheck", "x11", "any", "libc6", """checks migrations between X11 Compose tables, and serves typing
@@ -85,14 +88,15 @@ LIBRARY_DEV = Package("libcomposecheck-dev", "libdevel", "any", "libcomposecheck
 IBUS = Package("composecheck-ibus", "utils", "all", "composecheck (= VERSION), gir1.2-gtk-3.0, gir1.2-ibus-1.0, ibus, libcomposecheck-client0 (= VERSION), python3 (>= 3.9), python3-gi", """Compose sequences of a composecheck service, for IBus
  An engine of IBus that types by the Compose table of a running service. The
  table can be replaced while people type, also in the middle of a sequence.
- What is pending is shown where it will stand.
-""")
+ What is pending is shown where it will stand, and with libcomposecheck1 the
+ keys that can follow can be listed.
+""", "libcomposecheck1 (= VERSION)")
 FCITX5 = Package("fcitx5-composecheck", "utils", "any", "composecheck (= VERSION), fcitx5, libc6, libcomposecheck-client0 (= VERSION), libfcitx5config6, libfcitx5core7, libfcitx5utils2, libstdc++6", """Compose sequences of a composecheck service, for fcitx5
  An addon of fcitx5 that types by the Compose table of a running service, under
  every keyboard layout and before every input method. The table can be replaced
  while people type, also in the middle of a sequence. It is on as soon as it is
- installed.
-""")
+ installed. With libcomposecheck1 the keys that can follow can be listed.
+""", "libcomposecheck1 (= VERSION)")
 
 
 def text_of(*command):
@@ -221,13 +225,14 @@ def architecture_of(package):
 
 def control_of(package, files, version):
     size = sum(len(it) for it in files.values()) // 1024 + 1
+    recommended = f"Recommends: {package.recommends.replace('VERSION', version)}\n" if package.recommends else ""
     return f"""Package: {package.name}
 Version: {version}
 Section: {package.section}
 Priority: optional
 Architecture: {architecture_of(package)}
 Depends: {package.depends.replace("VERSION", version)}
-Installed-Size: {size}
+{recommended}Installed-Size: {size}
 Maintainer: Mewarogun maintainers <maintainers@users.noreply.mewarogun.example>
 Description: {package.description}"""
 

@@ -6,7 +6,6 @@ import hashlib
 import os
 import re
 import resource
-import shlex
 import shutil
 import subprocess
 import sys
@@ -15,14 +14,14 @@ import xml.etree.ElementTree
 
 from packages import check_sums, files_below, packed, read, run
 from harness import Results
-from typing_service import TypingService
+from typing_service import TypingService, settings_of_the_unit
 
 TOP = os.path.dirname(os.path.dirname(os.path.abspath(__file__)))
 sys.path.insert(0, os.path.join(TOP, "share", "composecheck"))
 from composecheck_client import Client, TimedOut
 
 IMPORTED = "import composecheck_client, composecheck_typing; print(composecheck_client.__file__)"
-KEYS = "from composecheck_keys import Keys; from composecheck_typing import Service, Typing; print(Keys(Typing(Service('none'))).press(0x61))"
+KEYS = "import composecheck_following; from composecheck_keys import Keys; from composecheck_typing import Service, Typing; print(Keys(Typing(Service('none'))).press(0x61))"
 
 
 def python(code, *folders):
@@ -37,14 +36,15 @@ class Tree:
 
     def __init__(self, program, folder):
         self.top = os.path.join(folder, "top")
-        for it in ("docs", "fcitx5", "share"):
+        for it in ("docs", "fcitx5", "lib", "share"):
             shutil.copytree(os.path.join(TOP, it), os.path.join(self.top, it), ignore=shutil.ignore_patterns("__pycache__"))
         shutil.copy(os.path.join(TOP, "Makefile"), self.top)
         shutil.copy(program, os.path.join(self.top, "composecheck"))
         os.mkdir(os.path.join(self.top, "crates"))
 
     def make(self, *words):
-        return run("make", "-s", "-o", "composecheck", "-o", "install-lib", "-o", "install-client", *words, cwd=self.top, timeout=600)
+        old = [word for it in ("composecheck", "lib-client", "install-lib", "install-client") for word in ("-o", it)]
+        return run("make", "-s", *old, *words, cwd=self.top, timeout=600)
 
 
 def check_install(program, folder, results):
@@ -111,6 +111,7 @@ def check_package(path, version, folder, results):
     depends = run("dpkg-deb", "-f", path, "Depends").stdout.rstrip("\n")
     needed = [f"{it} (= {version})" in depends.split(", ") for it in ("composecheck", "libcomposecheck-client0")]
     results.expect(f"{name} needs the program and the library of clients of its version", needed, [True, True])
+    results.expect(f"{name} recommends the library of tables", run("dpkg-deb", "-f", path, "Recommends").stdout, f"libcomposecheck1 (= {version})\n")
     return os.path.join(place, "usr")
 
 
@@ -132,33 +133,17 @@ def check_packages(program, folder, results):
 
 # ---- the unit
 
-def settings_of_the_unit():
-    with open(os.path.join(TOP, "share", "composecheck", "composecheck.service"), encoding="utf-8") as file:
-        return dict(re.findall(r"^(\w+)=(.*)$", file.read(), re.M))
-
-
-def command(program, settings, folder):
-    """The unit's command, with its specifiers written out."""
-    return [program, *shlex.split(settings["ExecStart"].replace("%t", folder).replace("%h", folder))[1:]]
-
-
-def store(service, name):
-    """Has `update` store the table of a Compose file where the unit looks for it, while no service runs."""
-    state = service.path(".local/state/composecheck")
-    return service.run("update", "--state", state, "--socket", service.path("none"), f"{name}.compose")
-
-
 def check_unit(program, _, results):
     """The unit's command serves as many connections at once as it says with as many open files as the unit allows; and where it refuses to start,
     systemd doesn't start it again."""
     settings = settings_of_the_unit()
     at_once, files = int(re.search(r"--at-once (\d+)", settings["ExecStart"])[1]), int(settings["LimitNOFILE"])
     with TypingService(program) as service:
-        words = command(service.program, settings, service.folder)
+        words = service.unit_command()
         never_again = {int(it) for it in settings["RestartPreventExitStatus"].split()}
         refused = subprocess.run(words, cwd=service.folder, capture_output=True, text=True, timeout=60)
         results.expect("a start where nothing was stored is refused", refused.returncode in never_again, True)
-        store(service, "old")
+        service.store("old")
         limit = lambda: resource.setrlimit(resource.RLIMIT_NOFILE, (files, files))
         with subprocess.Popen(words, cwd=service.folder, stdout=subprocess.PIPE, text=True, preexec_fn=limit) as serving:
             results.expect("the unit's command", serving.stdout.readline(), "listening\n")
