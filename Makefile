@@ -147,7 +147,7 @@ test-packages: composecheck
 	python3 tests/packages.py ./composecheck
 	python3 tests/installed.py ./composecheck
 
-desk: composecheck
+desk: composecheck lib
 	python3 tests/desk/run.py ./composecheck
 
 HEADERS = /usr/include/X11/keysymdef.h /usr/include/X11/XF86keysym.h

@@ -12,12 +12,15 @@ import time
 
 HERE = os.path.dirname(os.path.realpath(__file__))
 sys.path.insert(0, os.path.dirname(HERE))
+from harness import LIBRARY  # noqa: E402
 from installed import Tree  # noqa: E402
 from typing_service import TypingService  # noqa: E402
 
 # (the one that Debian's python3-gi is for)
 PYTHON = "/usr/bin/python3"
 SCHEMA = "org.freedesktop.ibus.engine.composecheck"
+# Whether ibus-daemon has the process that shows lists.
+HAS_PANEL = "import gi; gi.require_version('IBus', '1.0'); from gi.repository import IBus; IBus.init(); print(IBus.Bus().name_has_owner('org.freedesktop.IBus.Panel'))"
 
 
 def wait_for(what, condition, seconds=20.0):
@@ -40,7 +43,7 @@ class Desk:
         self.environment = dict(os.environ)
         self.environment.pop("WAYLAND_DISPLAY", None)
         self.environment.update(
-            HOME=self.folder, XDG_RUNTIME_DIR=self.folder, XDG_CONFIG_HOME=self.path("config"), XDG_CACHE_HOME=self.path("cache"),
+            HOME=self.folder, XDG_RUNTIME_DIR=self.folder, XDG_STATE_HOME=self.service.states, XDG_CONFIG_HOME=self.path("config"), XDG_CACHE_HOME=self.path("cache"),
             XDG_DATA_DIRS=f"{self.prefix}/share:/usr/share", COMPOSECHECK_SOCKET=self.service.socket, IBUS_COMPONENT_PATH=self.path("component"),
             NO_AT_BRIDGE="1", GTK_A11Y="none", GSETTINGS_BACKEND="keyfile", LANG="C.UTF-8", LC_ALL="C.UTF-8", GSK_RENDERER="cairo", PYTHONDONTWRITEBYTECODE="1",
         )
@@ -74,7 +77,10 @@ class Desk:
         return subprocess.run(command, env=self.environment, capture_output=True, text=True, check=False).stdout.strip()
 
     def install(self, target):
-        """Has `make` install what is tried."""
+        """Has `make` install what is tried, beside the C libraries, which are built already."""
+        built = os.path.dirname(LIBRARY)
+        os.symlink(os.path.dirname(built), os.path.join(self.tree.top, "build"))
+        shutil.copytree(built, f"{self.prefix}/lib", symlinks=True)
         made = self.tree.make(target, f"PREFIX={self.prefix}", f"PYTHON={PYTHON}")
         if made.returncode:
             raise ChildProcessError(made.stderr)
@@ -84,7 +90,7 @@ class Desk:
     def start_display(self):
         """An X server without a screen, with a layout that has dead keys and Multi_key. (A key that a slow machine holds down is not repeated.)"""
         reading, writing = os.pipe()
-        self.start("Xvfb", "-displayfd", str(writing), "-screen", "0", "640x200x24", "-nolisten", "tcp", "-noreset", "-r", pass_fds=[writing])
+        self.start("Xvfb", "-displayfd", str(writing), "-screen", "0", "640x320x24", "-nolisten", "tcp", "-noreset", "-r", pass_fds=[writing])
         os.close(writing)
         with open(reading, encoding="ascii") as told:
             self.environment.update(DISPLAY=":" + told.readline().strip(), GDK_BACKEND="x11")
@@ -120,10 +126,13 @@ class Desk:
         self.install("install-ibus")
         self.install_client()
         shutil.copy(f"{self.prefix}/share/ibus/component/composecheck.xml", self.path("component"))
-        shutil.copy("/usr/share/ibus/component/simple.xml", self.path("component"))
+        for name in ("simple.xml", "gtkpanel.xml"):
+            shutil.copy(f"/usr/share/ibus/component/{name}", self.path("component"))
         self.environment["GTK_IM_MODULE"] = "ibus"
-        self.start("ibus-daemon", "--panel", "disable", "--config", "disable", "--emoji-extension", "disable", "--cache", "none", "--verbose")
+        self.start("ibus-daemon", "--config", "disable", "--emoji-extension", "disable", "--cache", "none", "--verbose")
         wait_for("ibus-daemon", lambda: self.told("ibus", "address").startswith("unix:"))
+        # (as it comes, it ends what is pending)
+        wait_for("the panel", lambda: self.told(PYTHON, "-c", HAS_PANEL) == "True")
         self.choose(engine)
 
     def install_client(self):
@@ -155,7 +164,9 @@ class Desk:
         self.environment["FCITX_ADDON_DIRS"] = f"{self.prefix}/lib/fcitx5:{addons}"
         if not self.is_wayland:
             self.environment["GTK_IM_MODULE"] = "fcitx"
-        self.start("fcitx5", "--disable", "notificationitem,notifications,classicui,kimpanel", "--verbose", "default=4")
+        # (an application under X11 may show lists by itself, as listed.py does)
+        self.environment["FCITX_X11_USE_CLIENT_SIDE_UI"] = "True"
+        self.start("fcitx5", "--disable", "notificationitem,notifications,kimpanel", "--verbose", "default=4")
         # (fcitx5-remote would have the bus start another fcitx5, without the addon)
         wait_for("fcitx5", lambda: "true" in self.told(
             "dbus-send", "--print-reply", "--dest=org.freedesktop.DBus", "/", "org.freedesktop.DBus.NameHasOwner", "string:org.fcitx.Fcitx5"))
@@ -196,9 +207,9 @@ class Desk:
         """Begins to press and release keys under Wayland, and returns at once; a number is a pause in milliseconds.
 
         All keys of a trial come from one process of wtype, since each brings a keyboard with another layout: the focus leaves for a moment, and
-        that ends a sequence. So the first key waits, too."""
+        that ends a sequence. So the first key waits, too. And sway 1.7 may end when a keyboard comes after another one has gone: so none goes."""
         command = ["wtype", "-d", "12", "-s", "1000"]
-        for it in keys:
+        for it in (*keys, 600_000):
             command += ["-s", str(it)] if isinstance(it, int) else ["-k", it]
         self.start(*command)
 

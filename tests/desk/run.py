@@ -16,7 +16,8 @@ NEEDED = (
     "gir1.2-ibus-1.0", "grim", "ibus", "ibus-gtk3", "ibus-gtk4", "imagemagick", "libfcitx5core-dev", "libglib2.0-bin", "pkg-config", "python3-gi", "sway",
     "wtype", "x11-xkb-utils", "xdotool", "xvfb",
 )
-TRIALS = (("trial.py",), ("trial.py", "--fcitx5"), ("trial.py", "--fcitx5", "--sway"))
+SHOWN = ("--pictures", PICTURES)
+TRIALS = (("trial.py", *SHOWN), ("trial.py", "--fcitx5", *SHOWN), ("trial.py", "--fcitx5", "--sway", *SHOWN), ("measure.py",))
 
 
 def missing():
@@ -56,11 +57,10 @@ def main():
     os.makedirs(PICTURES, exist_ok=True)
     passed, failed = 0, 0
     for name, *options in TRIALS:
-        more = count([sys.executable, os.path.join(HERE, name), *options, "--pictures", PICTURES, program])
+        more = count([sys.executable, os.path.join(HERE, name), *options, program])
         passed, failed = passed + more[0], failed + more[1]
-    measured = subprocess.run([sys.executable, os.path.join(HERE, "measure.py"), program], check=False).returncode == 0
-    print(f"{passed + measured} passed, {failed + (not measured)} failed")
-    return 1 if failed or not measured else 0
+    print(f"{passed} passed, {failed} failed")
+    return 1 if failed else 0
 
 
 if __name__ == "__main__":

@@ -2,6 +2,7 @@
 """trial.py [--fcitx5] [--sway] [--pictures FOLDER] PROGRAM: types into entries of GTK 3 and 4 through IBus, or fcitx5, and a composecheck service,
 on a display that nobody sees: Xvfb, or sway, a compositor of Wayland. It prints a line for each trial, and last `N passed, M failed`."""
 import argparse
+import json
 import os
 import sys
 import threading
@@ -9,8 +10,10 @@ import time
 
 from desk import HERE, PYTHON, Desk, end, wait_for
 
-# What is printed of what is logged: where the service isn't reached, where it is again, and where a script fails, which counts as a trial that did.
-TOLD = ("no reply", "nobody listens", "composecheck.socket answers", "Traceback")
+MULTI, ACUTE, APOSTROPHE, F1, PAGE_DOWN = 0xFF20, 0xFE51, 0x27, 0xFFBE, 0xFF56
+# What is printed of what is logged: where the service isn't reached, where it is again, where there is no list, and where a script fails, which counts
+# as a trial that did.
+TOLD = ("no reply", "nobody listens", "composecheck.socket answers", "not listed", "Traceback")
 
 
 class Trials:
@@ -200,22 +203,66 @@ def try_hanging(trials):
     trials.clear()
 
 
+def try_upgrade(trials):
+    """The command of the unit of systemd: an update beside the open connection, in the middle of a sequence; and a restart before its next key."""
+    type_keys, expect, service = trials.desk.type, trials.expect, trials.desk.service
+    service.store_anew("old")
+    service.start_by(service.unit_command())
+    type_keys("dead_acute")
+    expect("pending before the update", pending="´")
+    print(f"{trials.label}: update: {service.store('new').split()}", flush=True)
+    service.start_by(service.unit_command())
+    type_keys("a", "Multi_key", "apostrophe", "a")
+    expect("an update and a restart in the middle of a sequence", text="áⓐ", pending="")
+    trials.clear()
+
+
+def listed(trials, method, *keysyms):
+    """What an application is told to list after each key: the rows, and which of how many they are."""
+    return [json.loads(it) for it in trials.desk.run(PYTHON, os.path.join(HERE, "listed.py"), method, *map(hex, keysyms)).splitlines()]
+
+
+def try_list(trials, is_fcitx5):
+    """The keys that can follow: what an application is told that shows them itself, and a picture of a window."""
+    desk, service, method = trials.desk, trials.desk.service, "fcitx5" if is_fcitx5 else "ibus"
+    rows, nothing = [["-", "…"], ["a", "ⓐ"], ["e", "ⓔ"]], [[], ""]
+    keys = (MULTI, APOSTROPHE, F1, ord("a"), ACUTE, F1, ord("e"))
+    wanted = [nothing, nothing, [rows, ""], nothing, [[["a", "á"], ["e", "é"]], ""], nothing, nothing]
+    trials.count("F1 shows and hides what can follow", listed(trials, method, *keys), wanted)
+    service.write("pages.compose", "".join(f'<Multi_key> <{it}> : "{it}"\n' for it in "abcdefghijkl"))
+    service.store_anew("pages")
+    service.start("new")
+    pages = [nothing, [[[it, it] for it in "abcdefghij"], "1–10 / 12"], [[["k", "k"], ["l", "l"]], "11–12 / 12"], nothing]
+    trials.count("pages of it, of another stored table", listed(trials, method, MULTI, F1, PAGE_DOWN, F1), pages)
+    service.write("large.compose", 'include "/usr/share/X11/locale/en_US.UTF-8/Compose"\n')
+    service.store_anew("large")
+    service.start("new")
+    desk.type("Multi_key", "apostrophe", "F1")
+    trials.expect("the key of the list leaves what is pending", text="", pending="·'")
+    trials.picture("what can follow")
+    desk.type("F1", "e")
+    trials.expect("a sequence goes on after that key", text="ⓔ", pending="")
+    trials.clear()
+
+
 def try_x11(trials, is_fcitx5):
-    for trial in (try_typing, try_cancelling, try_focus, try_load, try_quick, try_restart, try_hanging):
+    for trial in (try_typing, try_cancelling, try_focus, try_load, try_quick, try_restart, try_hanging, try_upgrade):
         trial(trials)
+    try_list(trials, is_fcitx5)
     if not is_fcitx5:
         try_settings(trials)
 
 
 def try_wayland(trials):
-    desk, expect = trials.desk, trials.expect
-    desk.start_typing("a", "dead_acute", 3000, "e", "Multi_key", "apostrophe", 4000, "a", "Multi_key", "apostrophe", "x", "x", "dead_caron", "c", 3000)
+    desk, expect, keys = trials.desk, trials.expect, ["Multi_key", "apostrophe"]
+    desk.start_typing("a", "dead_acute", 3000, "e", *keys, 4000, "a", *keys, "x", "x", "dead_caron", "c", *keys, "F1", 3000, "e", 3000)
     expect("a dead key is pending", text="a", pending="´")
     trials.picture("dead key")
     expect("two keys are pending before the load", text="aé", pending="·'")
     trials.picture("two keys")
     print(f"{trials.label}: load: {desk.service.load('old', 'new').strip()}", flush=True)
-    expect("a load in the middle of a sequence, and a sequence that is cancelled", text="aéⓐxxc", pending="")
+    expect("a load in the middle of a sequence, a sequence that is cancelled, and the key of the list", text="aéⓐxxc", pending="·'")
+    expect("a sequence goes on after that key", text="aéⓐxxcⓔ", pending="")
 
 
 def main():
