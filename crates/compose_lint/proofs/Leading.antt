@@ -20,31 +20,19 @@ alike x = (bytes_eq-Decides x x).1 refl
 abbrev pub is_pair : List ℕ → List ℕ → Note → Bool
 is_pair k v m = bytes_eq m.key k && bytes_eq m.value v
 
--- another pair
-pub counted : (notes : List Note) (i : ℕ) (x : Note) (k v : List ℕ) (n : ℕ) (old : Option ℕ) → i < length notes → x ≡ get_or notes i x
-    → n ≡ times (take i notes) x.key x.value → unwrap_or old 0 ≡ times (take i notes) k v
-    → unwrap_or (cond (is_pair k v x) (Some (n + 1)) old) 0 ≡ times (take (i + 1) notes) k v
-counted notes i x k v n old within is here before = by (is_pair k v x) refl
-  where
-    by : (b : Bool) → is_pair k v x ≡ b → unwrap_or (cond b (Some (n + 1)) old) 0 ≡ times (take (i + 1) notes) k v
-    by true e =
-        let h = and_parts (bytes_eq x.key k) (bytes_eq x.value v) e in
-        ap (λ m. m + 1) (here ∙ ap₂ (times (take i notes)) (same _ _ h.0) (same _ _ h.1)) ∙ sym (count_by_more_yes (is_pair k v) notes i x within (ap (is_pair k v) (sym is) ∙ e))
-    by false e = before ∙ sym (count_by_more_no (is_pair k v) notes i x within (ap (is_pair k v) (sym is) ∙ e))
-
 -- ---- the leading value, when a note is added
 
 module _ (f : List ℕ → ℕ) (k : List ℕ) where
-  abbrev is_key : Note → Bool
+  abbrev pub is_key : Note → Bool
   is_key n = bytes_eq n.key k
 
-  abbrev is_here : List ℕ → Note → Bool
+  abbrev pub is_here : List ℕ → Note → Bool
   is_here v n = is_key n && bytes_eq n.value v
 
-  abbrev is_at_most : ℕ → Note → Bool
+  abbrev pub is_at_most : ℕ → Note → Bool
   is_at_most c n = not (is_key n) || nat_le (f n.value) c
 
-  abbrev is_as_often : List ℕ → ℕ → Note → Bool
+  abbrev pub is_as_often : List ℕ → ℕ → Note → Bool
   is_as_often v c n = is_key n && (not (bytes_eq n.value v) && f n.value == c)
 
   or_true : (b : Bool) → (b || true) ≡ true
@@ -56,7 +44,7 @@ module _ (f : List ℕ → ℕ) (k : List ℕ) where
   or_false false = refl
 
   -- the first value with the key
-  first_leads : (ys : List Note) (x : Note) → list_any is_key ys ≡ false → is_key x ≡ true → Leads f k (ys ++ x ∷ []) (record { value = x.value; count = f x.value; is_tied = false })
+  pub first_leads : (ys : List Note) (x : Note) → list_any is_key ys ≡ false → is_key x ≡ true → Leads f k (ys ++ x ∷ []) (record { value = x.value; count = f x.value; is_tied = false })
   first_leads ys x none is =
       let v = x.value in let others = all_none is_key ys none in record {
         here = any_more (is_here v) ys x ∙ or_right (list_any (is_here v) ys) (is_here v x) (and_from _ _ is (alike v));
@@ -68,50 +56,6 @@ module _ (f : List ℕ → ℕ) (k : List ℕ) where
             (let h : is_as_often v (f v) x ≡ false = ap (λ b. is_key x && (not b && f v == f v)) (alike v) ∙ ap (λ b. b && false) is in h));
       }
 
-  -- a value that occurs more often
-  next_leads : (ys : List Note) (x : Note) (l : Leading) → Leads f k ys l → is_key x ≡ true → l.count < f x.value → Leads f k (ys ++ x ∷ []) (record { value = x.value; count = f x.value; is_tied = false })
-  next_leads ys x l led is more =
-      let v = x.value in record {
-        here = any_more (is_here v) ys x ∙ or_right (list_any (is_here v) ys) (is_here v x) (and_from _ _ is (alike v));
-        counted = refl;
-        most = all_more (is_at_most (f v)) ys x
-            ∙ and_from _ _ (all_from (is_at_most l.count) (is_at_most (f v)) ys
-            (λ n e. elim (or_cases (not (is_key n)) _ e) [
-              | inl not_it ↦ or_left (not (is_key n)) _ not_it
-              | inr le ↦ or_right (not (is_key n)) _ (grind (arith, leb-true (f n.value) l.count le))
-            ]) led.most) (or_right (not (is_key x)) _ (grind arith));
-        tied = sym (any_more (is_as_often v (f v)) ys x
-            ∙ ap₂ (λ a b. a || b)
-            (none_from (is_at_most l.count) (is_as_often v (f v)) ys
-            (λ n e. elim (or_cases (not (is_key n)) _ e) [
-              | inl not_it ↦ and_left (is_key n) _ (not-true (is_key n) not_it)
-              | inr le ↦ grind (arith, leb-true (f n.value) l.count le)
-            ]) led.most)
-            (let h : is_as_often v (f v) x ≡ false = ap (λ b. is_key x && (not b && f v == f v)) (alike v) ∙ ap (λ b. b && false) is in h));
-      }
-
-  -- a value that doesn't
-  still_leads : (ys : List Note) (x : Note) (l : Leading) → Leads f k ys l → is_key x ≡ true → f x.value ≤ l.count
-      → Leads f k (ys ++ x ∷ []) (record { value = l.value; count = l.count; is_tied = l.is_tied || (not (bytes_eq x.value l.value) && f x.value == l.count) })
-  still_leads ys x l led is less = record {
-    here = any_more (is_here l.value) ys x ∙ or_left (list_any (is_here l.value) ys) (is_here l.value x) led.here;
-    counted = led.counted;
-    most = all_more (is_at_most l.count) ys x ∙ and_from _ _ led.most (or_right (not (is_key x)) _ (grind arith));
-    tied = sym (any_more (is_as_often l.value l.count) ys x
-        ∙ ap₂ (λ a b. a || b) (sym led.tied) (ap (λ b. b && (not (bytes_eq x.value l.value) && f x.value == l.count)) is));
-  }
-
-  -- a note of the key
-  pub same_key : (ys : List Note) (x : Note) (o : Option Leading) → is_key x ≡ true → IsLed f k ys o → IsLed f k (ys ++ x ∷ []) (Some (next_leading o x.value (f x.value)))
-  same_key ys x None is none = first_leads ys x none is
-  same_key ys x (Some l) is led = by (nat_lt l.count (f x.value)) refl
-    where
-      by : (b : Bool) → nat_lt l.count (f x.value) ≡ b
-          → Leads f k (ys ++ x ∷ []) (cond b (record { value = x.value; count = f x.value; is_tied = false })
-          (record { value = l.value; count = l.count; is_tied = l.is_tied || (not (bytes_eq x.value l.value) && f x.value == l.count) }))
-      by true e = next_leads ys x l led is (ltb-true _ _ e)
-      by false e = still_leads ys x l led is (ltb-false _ _ e)
-
   -- a note of another key
   pub other_key : (ys : List Note) (x : Note) (o : Option Leading) → is_key x ≡ false → IsLed f k ys o → IsLed f k (ys ++ x ∷ []) o
   other_key ys x None not_it none = any_more is_key ys x ∙ ap₂ (λ a b. a || b) none not_it
@@ -121,18 +65,6 @@ module _ (f : List ℕ → ℕ) (k : List ℕ) where
     most = all_more (is_at_most l.count) ys x ∙ and_from _ _ led.most (or_left (not (is_key x)) _ (ap not not_it));
     tied = led.tied ∙ sym (any_more (is_as_often l.value l.count) ys x ∙ ap (λ b. list_any (is_as_often l.value l.count) ys || b) (and_left (is_key x) _ not_it) ∙ or_false _);
   }
-
--- another note, whose key has the next leading value
-pub led_more : (notes : List Note) (i : ℕ) (x : Note) (k : List ℕ) (leader : Leading) (after old : Option Leading) → i < length notes → x ≡ get_or notes i x
-    → after ≡ cond (bytes_eq x.key k) (Some leader) old → (bytes_eq x.key k ≡ true → leader ≡ next_leading old x.value (times notes k x.value))
-    → IsLed (times notes k) k (take i notes) old → IsLed (times notes k) k (take (i + 1) notes) after
-led_more notes i x k leader after old within is put leads before =
-    subst (λ ys. IsLed (times notes k) k ys after) (sym (take_more notes i x within ∙ ap (λ y. take i notes ++ y ∷ []) (sym is)))
-    (subst (λ o. IsLed (times notes k) k (take i notes ++ x ∷ []) o) (sym put) (by (bytes_eq x.key k) refl))
-  where
-    by : (b : Bool) → bytes_eq x.key k ≡ b → IsLed (times notes k) k (take i notes ++ x ∷ []) (cond b (Some leader) old)
-    by true e = subst (λ l. IsLed (times notes k) k (take i notes ++ x ∷ []) (Some l)) (sym (leads e)) (same_key (times notes k) k (take i notes) x old e before)
-    by false e = other_key (times notes k) k (take i notes) x old e before
 
 -- ---- the leading value and the other values
 

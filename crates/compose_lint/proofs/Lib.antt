@@ -7,6 +7,7 @@ pub mod PrefixOnes
 pub mod AlikeOnes
 pub mod Tests
 pub mod Leading
+pub mod Tallies
 pub mod MoreVisits
 pub mod Among
 pub mod LineBytes

@@ -1,5 +1,5 @@
 -- Whether all elements of a list, or some element, pass a test.
-use Rattle.std.proofs.Common.{◌≡◌, ◌∙◌, Bool, true, false, not, ◌&&◌, ◌||◌, List, [], ◌∷◌, ◌++◌, refl, sym, ap, inl, inr}
+use Rattle.std.proofs.Common.{◌≡◌, ◌∙◌, Bool, true, false, not, ◌&&◌, ◌||◌, List, [], ◌∷◌, ◌++◌, refl, sym, ap, ap₂, inl, inr}
 use Rattle.std.specs.List.{list_any, list_all}
 use Rattle.std.proofs.lemmas.Bool.{and_parts, and_from, or_cases, or_parts, or_from, or_left, or_right}
 use Rattle.std.proofs.lemmas.List.Folds.{list_any-append, list_all-append}
@@ -53,3 +53,8 @@ module _ {X : Type 0} where
     | inl e ↦ or_left (r x) (list_any r xs) (h x (and_parts (p x) (list_all p xs) all).0 e)
     | inr e ↦ or_right (r x) (list_any r xs) (any_from p q r xs h (and_parts (p x) (list_all p xs) all).1 e)
   ]
+
+  -- the same test
+  pub any_same : (p q : X → Bool) (xs : List X) → ((x : X) → p x ≡ q x) → list_any p xs ≡ list_any q xs
+  any_same p q [] each = refl
+  any_same p q (x ∷ xs) each = ap₂ (λ a b. a || b) (each x) (any_same p q xs each)

@@ -48,6 +48,23 @@ abbrev pub IsLed : (List ℕ → ℕ) → List ℕ → List Note → Option Lead
 IsLed times key notes None = list_any (λ n. bytes_eq n.key key) notes ≡ false
 IsLed times key notes (Some l) = Leads times key notes l
 
+-- how often the value occurs with the key, if it leads or otherwise occurs `count` times
+abbrev pub count_of : Option Leading → List ℕ → ℕ → ℕ
+count_of None value count = count
+count_of (Some l) value count = if bytes_eq value l.value then l.count else count
+
+-- how often `v` occurs with `k`, after that was `old` and after the value was counted with the key, if it doesn't lead
+abbrev pub other_count : Leading → List ℕ → List ℕ → ℕ → List ℕ → List ℕ → ℕ → ℕ
+other_count l key value count k v old =
+    if bytes_eq value l.value then old else
+    if bytes_eq key k && bytes_eq l.value v then l.count else
+    if bytes_eq key k && bytes_eq value v then count else old
+
+-- the leading value with the key in these notes, and how often each other value occurs with it
+pub record IsTallied (notes : List Note) (key : List ℕ) (leading : Option Leading) (others : List ℕ → ℕ) : Type 0 where
+  pub led : IsLed (times notes key) key notes leading
+  pub counts : (value : List ℕ) → count_of leading value (others value) ≡ times notes key value
+
 -- the leading value is another one, and no value occurs equally often
 abbrev pub leads_other : List ℕ → Option Leading → Bool
 leads_other value leading = option_map_or (λ l. not l.is_tied && not (bytes_eq l.value value)) leading false
