@@ -19,6 +19,7 @@ pub mod Blanks
 pub mod Chained
 pub mod Normal
 pub mod Spaced
+pub mod FirstByte
 pub mod Unsigned
 pub mod OneSign
 pub mod OneLine

@@ -4,6 +4,7 @@ ghost use Rattle.compose_lint.specs.Productions as words;
 
 use crate::file_lines::head_len;
 use crate::production::Written;
+use memchr::memchr;
 
 /// Returns the comment of a line whose string and result name are `written`, if the line has both a
 /// string and a comment: the text after the first `#` after the string, without white space at its
@@ -45,7 +46,7 @@ fn comment_in(bytes: &[u8]) -> Option<&str>
 fn comment_at(bytes: &[u8]) -> Option<usize>
     ensures { result ≡ position (λ b. b == 35) bytes.now }
 {
-    bytes.iter().position(|byte| *byte == b'#')
+    memchr(b'#', bytes)
 }
 
 /// Returns the bytes as a text without white space at its ends, if they are UTF-8.

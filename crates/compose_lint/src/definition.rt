@@ -1,5 +1,5 @@
 //! The definition on a line.
-ghost use Rattle.std.specs.Prelude.{◌≡◌, ◌++◌, map, length, Some, IfOk, option_copied, string_bytes};
+ghost use Rattle.std.specs.Prelude.{◌≡◌, ◌++◌, map, length, Some, is_some, IfOk, option_copied, string_bytes};
 ghost use Rattle.std.specs.Option.{option_map, option_and_then};
 ghost use Rattle.std.specs.Result.{result_ok};
 ghost use Rattle.keysym_core.specs.Names.{text};
@@ -125,12 +125,36 @@ fn text_given(
         (λ text. option_map string_bytes text
         ≡ words.text_given names.now (option_copied raw.entry) (option_copied name.entry)) }
 {
-    let Some(other) = name_given(alloc, names, name)? else {
-        return Ok(None);
-    };
     match raw {
-        Some(raw) => string_text(alloc, raw),
-        None => Ok(Some(other)),
+        Some(raw) => string_beside(alloc, names, raw, name),
+        None => name_given(alloc, names, name),
+    }
+}
+
+/// Returns the text of a string, if it is valid and the name beside it, if there is one, is known.
+fn string_beside(
+    alloc: Global,
+    names: &Names,
+    raw: &str,
+    name: Option<&str>,
+) -> Result<Option<String>, AllocError>
+    ensures { IfOk result
+        (λ text. option_map string_bytes text
+        ≡ words.text_given names.now (Some raw.now) (option_copied name.entry)) }
+{
+    if is_named(names, name) {
+        return string_text(alloc, raw);
+    }
+    Ok(None)
+}
+
+/// Returns whether the name is known, if there is one.
+fn is_named(names: &Names, name: Option<&str>) -> bool
+    ensures { result ≡ is_some (words.name_given names.now (option_copied name.entry)) }
+{
+    match name {
+        Some(name) => names.lookup(name).is_some(),
+        None => true,
     }
 }
 

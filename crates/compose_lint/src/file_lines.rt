@@ -11,7 +11,7 @@ use crate::lines::LintLine;
 use crate::production::{Written, production_of};
 use arrayvec::ArrayVec;
 use compose_lex::{LineContent, lex_line_into};
-use memchr::memchr;
+use memchr::{memchr, memchr2};
 
 /// Returns whether the line is a definition or an include. O(bytes).
 pub(crate) fn has_content(line: &[u8]) -> bool
@@ -126,7 +126,7 @@ fn begins_string_or_comment(byte: u8) -> bool
 fn head_end(line: &[u8]) -> Option<usize>
     ensures { result ≡ position words.begins_string_or_comment line.now }
 {
-    line.iter().position(|byte| begins_string_or_comment(*byte))
+    memchr2(b'"', b'#', line)
 }
 
 /// Returns the number of bytes before the string or the comment. O(bytes).
