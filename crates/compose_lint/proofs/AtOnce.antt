@@ -1,7 +1,7 @@
 -- Sixteen pairs of bytes at once: from the mask of their signs to the bytes of a line.
-use Rattle.std.proofs.Common.{◌≡◌, ℕ, zero, suc, ◌+◌, ◌<◌, ◌≤◌, ◌^◌, ◌%◌, Bool, true, false, cond, ◌&&◌, ◌||◌, List, [], ◌∷◌, map, length, take, drop, replicate, bit_and, bit_or, eqb, w8, refl, sym, ap, ◌∙◌, arith}
+use Rattle.std.proofs.Common.{◌≡◌, ℕ, zero, suc, ◌+◌, ◌-◌, ◌<◌, ◌≤◌, ◌^◌, ◌%◌, Bool, true, false, not, cond, ◌&&◌, ◌||◌, List, [], ◌∷◌, map, length, take, drop, replicate, bit_and, bit_or, eqb, w8, refl, sym, ap, ◌∙◌, arith}
 use Rattle.std.specs.List.{count_by}
-use Rattle.std.specs.Prelude.{◌==◌}
+use Rattle.std.specs.Prelude.{◌==◌, nat_eq}
 use Rattle.std.proofs.lemmas.List.{drop-drop, length-drop}
 use Rattle.std.proofs.lemmas.List.Sums.{sum_by-cons}
 use Rattle.std.proofs.lemmas.Simd.{zip2_of_maps, splat_is_map, mask_l-mod, bitmask_splat, ones-mask_l, length-zip2, length-chunk}
@@ -164,3 +164,59 @@ few_openings (b ∷ bytes) = by (b == 60) (few_openings bytes)
 
 pub few_at_once : (line : List ℕ) (i n : ℕ) → i + n ≤ length line → openings (chunk i n line) ≤ n
 few_at_once line i n room = let few = few_openings (chunk i n line) in let long = length-chunk i n line room in omega (arith, few, long)
+
+-- ---- the last pairs, some of them again
+
+or_false : (a b : Bool) → (a || b) ≡ false → b ≡ false
+or_false true b e = cc
+or_false false b e = e
+
+or_true : (a b : Bool) → b ≡ true → (a || b) ≡ true
+or_true true b e = refl
+or_true false b e = e
+
+-- no sign among these bytes is none among the last ones
+sign_later : (bytes : List ℕ) (k : ℕ) → has_sign_in bytes ≡ false → has_sign_in (drop k bytes) ≡ false
+sign_later [] zero e = refl
+sign_later [] (suc k) e = refl
+sign_later (x ∷ bytes) zero e = e
+sign_later (x ∷ []) (suc k) e = sign_later [] k refl
+sign_later (x ∷ (y ∷ ys)) (suc k) e = sign_later (y ∷ ys) k (or_false (is_sign x y) (has_sign_after y ys) e)
+
+-- a sign among the last ones is one among these bytes
+sign_before : (bytes : List ℕ) (k : ℕ) → has_sign_in (drop k bytes) ≡ true → has_sign_in bytes ≡ true
+sign_before bytes k e = by (has_sign_in bytes) refl
+  where
+    by : (b : Bool) → has_sign_in bytes ≡ b → has_sign_in bytes ≡ true
+    by true h = h
+    by false h = let f : true ≡ false = sym e ∙ sign_later bytes k h in cc
+
+single : (bytes : List ℕ) (n : ℕ) → length bytes ≡ n + 1 → has_sign_in (drop n bytes) ≡ false
+single [] n e = absurd (omega (arith, e))
+single (x ∷ []) zero e = refl
+single (x ∷ (y ∷ ys)) zero e = absurd (omega (arith, e))
+single (x ∷ bytes) (suc n) e = single bytes n (omega (arith, e))
+
+whole_has : (first : ℕ) (line : List ℕ) → has_sign_in line ≡ true → has_sign_after first line ≡ true
+whole_has first [] e = cc
+whole_has first (x ∷ line) e = or_true (is_sign first x) (has_sign_after x line) e
+
+pub sign_among : (line : List ℕ) (i : ℕ) (more : i + 16 < length line) → 0 < masked line i 16 more → has_sign_after 58 line ≡ true
+sign_among line i more some = whole_has 58 line (sign_before line i (found line i 16 more some))
+
+module _ (line : List ℕ) (last at : ℕ) (ends : last + 17 ≡ length line) (left : last ≤ at) where
+  -- the mask of the last ones has a sign
+  pub sign_at_end : 0 < masked line last 16 (omega (arith, ends)) → has_sign_after 58 line ≡ true
+  sign_at_end some = sign_among line last (omega (arith, ends)) some
+
+  -- it has none
+  pub none_at_end : masked line last 16 (omega (arith, ends)) ≡ 0 → has_sign_in (drop at line) ≡ has_sign_after 58 line → has_sign_after 58 line ≡ false
+  none_at_end none passed_by =
+      let sum : last + (at - last) ≡ at = omega (arith, left) in
+      sym passed_by ∙ ap (λ k. has_sign_in (drop k line)) (sym sum) ∙ ap has_sign_in (sym (drop-drop (at - last) last line))
+      ∙ sign_later (drop last line) (at - last) (passed line last 16 (omega (arith, ends)) none ∙ single line (last + 16) (omega (arith, ends)))
+
+-- the answer by the mask of the last ones
+pub by_mask : (mask : ℕ) (answer : Bool) → (0 < mask → answer ≡ true) → (mask ≡ 0 → answer ≡ false) → not (nat_eq mask 0) ≡ answer
+by_mask zero answer some none = sym (none refl)
+by_mask (suc mask) answer some none = let more : nat_eq (suc mask) 0 ≡ false = grind arith in ap not more ∙ sym (some (omega arith))

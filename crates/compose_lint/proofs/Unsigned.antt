@@ -298,3 +298,10 @@ never_skipped line e =
     by few unsigned counted true (Ok (include name)) is = refl
     by few unsigned counted true (Ok (production events raw name)) is =
         production_kept line events raw name few unsigned counted (reading_sound line (production events raw name) is).content
+
+-- it has no carriage return outside of its string and its comment, and no blank next to a key name
+pub never_returned : (line : List ℕ) (p : Written) → has_sign_after 58 line ≡ false → has_return line p ≡ false
+never_returned line p none = returnless line p (no_return_in 58 line none)
+
+pub never_spaced : (line : List ℕ) → has_sign_after 58 line ≡ false → has_spaced_name line ≡ false
+never_spaced line none = sym (after_colon line) ∙ no_spaced 58 line none

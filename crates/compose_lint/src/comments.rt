@@ -1,10 +1,11 @@
 //! The comments of lines, and their texts.
-ghost use Rattle.std.specs.Prelude.{◌≡◌, ◌++◌, ℕ, List, map, IfOk, OnOk, bytes_eq, option_to_list};
+ghost use Rattle.std.specs.Prelude.{◌≡◌, ◌++◌, ℕ, List, map, false, IfOk, OnOk, IfSome, bytes_eq, option_to_list};
+ghost use Rattle.std.specs.Option.{option_map_or};
 ghost use Rattle.std.specs.Borrow.{Bor};
 ghost use Rattle.indexmap.specs.IndexMap.{get_by};
 ghost use Rattle.compose_lint.specs.Lines.{all_lines};
 ghost use Rattle.compose_lint.specs.Comments as words;
-ghost use Rattle.compose_lint.specs.Commonest.{IsLed, times};
+ghost use Rattle.compose_lint.specs.Commonest.{IsLed, times, has_other};
 
 use crate::commonest::{Leaders, Note, has_other, leaders};
 use crate::lines::LintLine;
@@ -73,27 +74,65 @@ pub(crate) fn texts_of<'a>(alloc: Global, notes: &[Note<'a>]) -> Result<Vec<Note
 }
 
 /// Returns whether the line's comment occurs most often with another text, and its text most often
-/// with another comment.
-pub(crate) fn has_misplaced_comment(
-    files: &[SourceLines<'_>],
+/// with another comment, if these are the comments of all lines and their leaders. The leaders of
+/// the texts are made when they are needed first.
+pub(crate) fn has_misplaced_comment<'b>(
+    alloc: Global,
+    comments: &[Note<'b>],
     by_comment: &Leaders<'_>,
-    by_text: &Leaders<'_>,
+    by_text: &mut Option<Leaders<'b>>,
     line: &LintLine<'_>,
-) -> bool
+) -> Result<bool, AllocError>
     requires comments { (k : Bor (List ℕ))
-        → IsLed (times (words.comments_in (all_lines files.now)) k.now) k.now
-        (words.comments_in (all_lines files.now)) (get_by (λ p. bytes_eq k.now p.now) by_comment.now) }
-    requires texts { (k : Bor (List ℕ))
-        → IsLed (times (map words.turned (words.comments_in (all_lines files.now))) k.now) k.now
-        (map words.turned (words.comments_in (all_lines files.now)))
-        (get_by (λ p. bytes_eq k.now p.now) by_text.now) }
-    ensures { result ≡ words.has_misplaced_comment (all_lines files.now) line.now }
+        → IsLed (times comments.now k.now) k.now comments.now
+        (get_by (λ p. bytes_eq k.now p.now) by_comment.now) }
+    requires texts { IfSome by_text.old
+        (λ leaders. (k : Bor (List ℕ))
+        → IsLed (times (map words.turned comments.now) k.now) k.now
+        (map words.turned comments.now) (get_by (λ p. bytes_eq k.now p.now) leaders)) }
+    ensures is { IfOk result
+        (λ is. is
+        ≡ option_map_or (words.is_misplaced comments.now) (words.comment_note line.now) false) }
+    ensures texts { OnOk result
+        (IfSome by_text.new
+        (λ leaders. (k : Bor (List ℕ))
+        → IsLed (times (map words.turned comments.now) k.now) k.now
+        (map words.turned comments.now) (get_by (λ p. bytes_eq k.now p.now) leaders))) }
 {
-    match comment_note(line) {
-        Some(note) => {
-            has_other(by_comment, note.key(), note.value())
-                && has_other(by_text, note.value(), note.key())
-        }
-        None => false,
+    let Some(note) = comment_note(line) else {
+        return Ok(false);
+    };
+    if !has_other(by_comment, note.key(), note.value()) {
+        return Ok(false);
     }
+    has_other_comment(alloc, comments, by_text, &note)
+}
+
+/// Returns whether the text of the note occurs most often with another comment than the note's.
+fn has_other_comment<'b>(
+    alloc: Global,
+    comments: &[Note<'b>],
+    by_text: &mut Option<Leaders<'b>>,
+    note: &Note<'_>,
+) -> Result<bool, AllocError>
+    requires { IfSome by_text.old
+        (λ leaders. (k : Bor (List ℕ))
+        → IsLed (times (map words.turned comments.now) k.now) k.now
+        (map words.turned comments.now) (get_by (λ p. bytes_eq k.now p.now) leaders)) }
+    ensures is { IfOk result
+        (λ is. is ≡ has_other (map words.turned comments.now) note.now.value note.now.key) }
+    ensures texts { OnOk result
+        (IfSome by_text.new
+        (λ leaders. (k : Bor (List ℕ))
+        → IsLed (times (map words.turned comments.now) k.now) k.now
+        (map words.turned comments.now) (get_by (λ p. bytes_eq k.now p.now) leaders))) }
+{
+    if let Some(leaders) = by_text {
+        return Ok(has_other(leaders, note.value(), note.key()));
+    }
+    let texts = texts_of(alloc, comments)?;
+    let leaders = leaders(alloc, &texts)?;
+    let is = has_other(&leaders, note.value(), note.key());
+    *by_text = Some(leaders);
+    Ok(is)
 }

@@ -1,8 +1,9 @@
 //! The findings in the lines of a file.
-ghost use Rattle.std.specs.Prelude.{◌≡◌, ◌++◌, ℕ, List, IfOk, OnOk, bytes_eq, slice_get, option_copied, map};
+ghost use Rattle.std.specs.Prelude.{◌≡◌, ◌++◌, ℕ, List, IfOk, OnOk, Some, IfSome, IsTrue, bytes_eq, slice_get, option_copied, map};
 ghost use Rattle.std.specs.Borrow.{Bor};
 ghost use Rattle.std.specs.Option.{option_and_then};
 ghost use Rattle.indexmap.specs.IndexMap.{get_by, get_by_text};
+ghost use Rattle.compose_model.specs.Table.{Definition};
 ghost use Rattle.compose_lint.specs.Counting.{last_defining};
 ghost use Rattle.compose_lint.specs.Lines.{all_lines};
 ghost use Rattle.compose_lint.specs.Alike.{form_place};
@@ -17,7 +18,7 @@ use crate::classes::{
     has_no_symbol, has_nul, has_ten_keysyms, has_wide_keysym,
 };
 use crate::comments::has_misplaced_comment;
-use crate::commonest::Leaders;
+use crate::commonest::{Leaders, Note};
 use crate::counting::{LastLines, last_lines};
 use crate::definition::LineDefinition;
 use crate::faults::push_fault_kinds;
@@ -30,6 +31,7 @@ use crate::lines::LintLine;
 use crate::longer::LongerPlaces;
 use crate::production::Written;
 use crate::reader::{Class, Reader, Readers};
+use crate::signs::has_sign_pair;
 use crate::source_lines::SourceLines;
 use crate::texts::{has_other_character, is_normal, repeats_mark};
 use compose_read::ReadFault;
@@ -56,21 +58,28 @@ fn has_own_text(text: &str, line: &LintLine<'_>) -> bool
     }
 }
 
-/// Adds `Overridden` or `Repeated` if a later line of the file defines the sequence again.
+/// Adds `Overridden` or `Repeated` if a later line of the file defines the sequence again. None
+/// does if `is_once`.
 fn push_defined_again(
     kinds: &mut Vec<FindingKind>,
     lines: &[LintLine<'_>],
     last: &LastLines<'_>,
+    is_once: bool,
     line: &LintLine<'_>,
     definition: &LineDefinition,
 ) -> Result<(), AllocError>
-    requires { (q : Bor (List ℕ))
+    requires last { (q : Bor (List ℕ))
         → option_and_then (slice_get lines.now) (get_by (λ k. bytes_eq q.now k.now) last.now)
         ≡ last_defining lines.now q.now }
+    requires once { IsTrue is_once
+        → last_defining lines.now definition.now.sequence ≡ Some line.now }
     ensures { OnOk result
         (kinds.new.items
         ≡ kinds.old.items ++ words.defined_again lines.now line.now definition.now) }
 {
+    if is_once {
+        return Ok(());
+    }
     match counting_line(lines, last, definition.sequence()) {
         Some(counting) => push_beside(kinds, line, definition, counting),
         None => Ok(()),
@@ -254,7 +263,7 @@ fn push_file_kinds(
     )
 }
 
-/// Adds the findings of other readers about blanks in a production.
+/// Adds the findings of other readers about blanks in a production. Most lines have no sign of any.
 fn push_blank_kinds(
     kinds: &mut Vec<FindingKind>,
     readers: Readers,
@@ -265,6 +274,9 @@ fn push_blank_kinds(
         (kinds.new.items
         ≡ kinds.old.items ++ words.blank_kinds readers line.now written.now) }
 {
+    if !has_sign_pair(line) {
+        return Ok(());
+    }
     let returned = readers.libx11 && has_return(line, written);
     push_when(
         kinds,
@@ -294,20 +306,23 @@ fn push_kinds_of(
     kinds: &mut Vec<FindingKind>,
     file: LintFile<'_, '_>,
     last: &LastLines<'_>,
+    is_once: bool,
     line: &LintLine<'_>,
     written: &Written<'_>,
     definition: &LineDefinition,
 ) -> Result<(), AllocError>
-    requires { (q : Bor (List ℕ))
+    requires last { (q : Bor (List ℕ))
         → option_and_then (slice_get file.lines.now) (get_by (λ k. bytes_eq q.now k.now) last.now)
         ≡ last_defining file.lines.now q.now }
+    requires once { IsTrue is_once
+        → last_defining file.lines.now definition.now.sequence ≡ Some line.now }
     ensures { OnOk result
         (kinds.new.items
         ≡ kinds.old.items
         ++ words.kinds_of file.entry.names.now file.entry.readers file.entry.lines.now line.now
         written.now definition.now) }
 {
-    push_defined_again(kinds, file.lines, last, line, definition)?;
+    push_defined_again(kinds, file.lines, last, is_once, line, definition)?;
     push_text_kinds(file.names, kinds, written, definition)?;
     push_blank_kinds(kinds, file.readers, line.bytes(), written)?;
     push_libx11_kinds(kinds, file.readers, definition)?;
@@ -320,11 +335,15 @@ fn push_kinds_if(
     kinds: &mut Vec<FindingKind>,
     file: LintFile<'_, '_>,
     last: &LastLines<'_>,
+    is_once: bool,
     line: &LintLine<'_>,
 ) -> Result<(), AllocError>
-    requires { (q : Bor (List ℕ))
+    requires last { (q : Bor (List ℕ))
         → option_and_then (slice_get file.lines.now) (get_by (λ k. bytes_eq q.now k.now) last.now)
         ≡ last_defining file.lines.now q.now }
+    requires once { IsTrue is_once
+        → (d : Definition) → line.now.definition ≡ Some d
+        → last_defining file.lines.now d.sequence ≡ Some line.now }
     ensures { OnOk result
         (kinds.new.items
         ≡ kinds.old.items
@@ -333,7 +352,7 @@ fn push_kinds_if(
 {
     match (line.written(), line.definition()) {
         (Some(written), Some(definition)) => {
-            push_kinds_of(kinds, file, last, line, written, definition)
+            push_kinds_of(kinds, file, last, is_once, line, written, definition)
         }
         _ => Ok(()),
     }
@@ -344,11 +363,15 @@ pub(crate) fn own_kinds(
     alloc: Global,
     file: LintFile<'_, '_>,
     last: &LastLines<'_>,
+    is_once: bool,
     line: &LintLine<'_>,
 ) -> Result<Vec<FindingKind>, AllocError>
-    requires { (q : Bor (List ℕ))
+    requires last { (q : Bor (List ℕ))
         → option_and_then (slice_get file.lines.now) (get_by (λ k. bytes_eq q.now k.now) last.now)
         ≡ last_defining file.lines.now q.now }
+    requires once { IsTrue is_once
+        → (d : Definition) → line.now.definition ≡ Some d
+        → last_defining file.lines.now d.sequence ≡ Some line.now }
     ensures { IfOk result
         (λ kinds. kinds.items
         ≡ words.own_kinds file.entry.names.now file.entry.readers file.entry.faults.now
@@ -357,7 +380,7 @@ pub(crate) fn own_kinds(
     let mut kinds = Vec::new(alloc);
     push_fault_kinds(&mut kinds, file.faults, line)?;
     push_file_kinds(&mut kinds, file.readers, file.bytes, file.lines, line)?;
-    push_kinds_if(&mut kinds, file, last, line)?;
+    push_kinds_if(&mut kinds, file, last, is_once, line)?;
     Ok(kinds)
 }
 
@@ -480,22 +503,23 @@ fn push_again(
 }
 
 /// What the lines of all files contribute to the findings in a line: the places of texts that look
-/// like others, those of longer sequences, and what occurs most often with each comment and with
-/// each text.
+/// like others, those of longer sequences, the comments, and what occurs most often with each.
 #[derive(Clone, Copy)]
 pub(crate) struct AllFiles<'c, 'b, 'a> {
     pub(crate) files: &'b [SourceLines<'a>],
     pub(crate) forms: &'c FormPlaces,
     pub(crate) longer: &'c LongerPlaces<'b>,
+    pub(crate) comments: &'c [Note<'b>],
     pub(crate) by_comment: &'c Leaders<'b>,
-    pub(crate) by_text: &'c Leaders<'b>,
 }
 
-/// Adds the findings in the lines of a file, in order. O(bytes).
-pub(crate) fn push_findings(
+/// Adds the findings in the lines of a file, in order. `by_text` is what occurs most often with each
+/// text, once that is needed. O(bytes).
+pub(crate) fn push_findings<'b>(
     alloc: Global,
     findings: &mut Vec<Finding>,
-    all: AllFiles<'_, '_, '_>,
+    all: AllFiles<'_, 'b, '_>,
+    by_text: &mut Option<Leaders<'b>>,
     file: LintFile<'_, '_>,
     included: &[LintLine<'_>],
 ) -> Result<(), AllocError>
@@ -504,15 +528,15 @@ pub(crate) fn push_findings(
     requires longer { (q : Bor (List ℕ))
         → get_by (λ k. bytes_eq q.now k.now) all.longer.now
         ≡ longer_place (all_lines all.files.now) q.now }
+    requires notes { all.comments.now ≡ comments_in (all_lines all.files.now) }
     requires comments { (k : Bor (List ℕ))
-        → IsLed (times (comments_in (all_lines all.files.now)) k.now) k.now
-        (comments_in (all_lines all.files.now))
+        → IsLed (times all.comments.now k.now) k.now all.comments.now
         (get_by (λ p. bytes_eq k.now p.now) all.by_comment.now) }
-    requires texts { (k : Bor (List ℕ))
-        → IsLed (times (map turned (comments_in (all_lines all.files.now))) k.now) k.now
-        (map turned (comments_in (all_lines all.files.now)))
-        (get_by (λ p. bytes_eq k.now p.now) all.by_text.now) }
-    ensures { OnOk result
+    requires texts { IfSome by_text.old
+        (λ leaders. (k : Bor (List ℕ))
+        → IsLed (times (map turned all.comments.now) k.now) k.now (map turned all.comments.now)
+        (get_by (λ p. bytes_eq k.now p.now) leaders)) }
+    ensures found { OnOk result
         (findings.new.items
         ≡ findings.old.items
         ++ words.findings_in file.entry.names.now file.entry.readers file.entry.faults.now
@@ -522,15 +546,26 @@ pub(crate) fn push_findings(
           lines = file.entry.lines.now;
           included = included.now;
         })) }
+    ensures texts { OnOk result
+        (IfSome by_text.new
+        (λ leaders. (k : Bor (List ℕ))
+        → IsLed (times (map turned all.entry.comments.now) k.now) k.now
+        (map turned all.entry.comments.now) (get_by (λ p. bytes_eq k.now p.now) leaders))) }
 {
     let lines = file.lines;
-    let last = last_lines(alloc, lines)?;
-    let last_included = last_lines(alloc, included)?;
+    let (last, is_once) = last_lines(alloc, lines)?;
+    let (last_included, _) = last_lines(alloc, included)?;
     for line in lines {
-        let mut kinds = own_kinds(alloc, file, &last, line)?;
+        let mut kinds = own_kinds(alloc, file, &last, is_once, line)?;
         push_form_kinds(alloc, &mut kinds, all.files, all.forms, line)?;
         push_prefix_kinds(&mut kinds, all.files, all.longer, line)?;
-        let is_misplaced = has_misplaced_comment(all.files, all.by_comment, all.by_text, line);
+        let is_misplaced = has_misplaced_comment(
+            alloc,
+            all.comments,
+            all.by_comment,
+            by_text,
+            line,
+        )?;
         push_when(&mut kinds, is_misplaced, FindingKind::Comment)?;
         push_redundant_kinds(&mut kinds, included, &last_included, line)?;
         push_kinds(findings, line, &kinds)?;

@@ -5,12 +5,12 @@ ghost use Rattle.indexmap.specs.IndexMap.{get_by, get_by_text};
 ghost use Rattle.compose_lint.specs.Lines.{all_lines};
 ghost use Rattle.compose_lint.specs.Alike.{form_place};
 ghost use Rattle.compose_lint.specs.Longer.{longer_place};
-ghost use Rattle.compose_lint.specs.Comments.{comments_in, turned};
+ghost use Rattle.compose_lint.specs.Comments.{comments_in};
 ghost use Rattle.compose_lint.specs.Commonest.{IsLed, times};
 ghost use Rattle.compose_lint.specs.Findings.{findings, findings_of};
 
 use crate::alike::form_places;
-use crate::comments::{comments_in, texts_of};
+use crate::comments::comments_in;
 use crate::commonest::leaders;
 use crate::finding::Finding;
 use crate::kinds::{AllFiles, LintFile, push_findings};
@@ -57,15 +57,13 @@ pub(crate) fn findings_of(
     let forms = form_places(alloc, files)?;
     let longer = longer_places(alloc, files)?;
     let comments = comments_in(alloc, files)?;
-    let texts = texts_of(alloc, &comments)?;
     let by_comment = leaders(alloc, &comments)?;
-    let by_text = leaders(alloc, &texts)?;
     let all = AllFiles {
         files,
         forms: &forms,
         longer: &longer,
+        comments: &comments,
         by_comment: &by_comment,
-        by_text: &by_text,
     };
     findings_by(alloc, names, readers, faults, all)
 }
@@ -83,18 +81,15 @@ fn findings_by(
     requires longer { (q : Bor (List ℕ))
         → get_by (λ k. bytes_eq q.now k.now) all.longer.now
         ≡ longer_place (all_lines all.files.now) q.now }
+    requires notes { all.comments.now ≡ comments_in (all_lines all.files.now) }
     requires comments { (k : Bor (List ℕ))
-        → IsLed (times (comments_in (all_lines all.files.now)) k.now) k.now
-        (comments_in (all_lines all.files.now))
+        → IsLed (times all.comments.now k.now) k.now all.comments.now
         (get_by (λ p. bytes_eq k.now p.now) all.by_comment.now) }
-    requires texts { (k : Bor (List ℕ))
-        → IsLed (times (map turned (comments_in (all_lines all.files.now))) k.now) k.now
-        (map turned (comments_in (all_lines all.files.now)))
-        (get_by (λ p. bytes_eq k.now p.now) all.by_text.now) }
     ensures { IfOk result
         (λ found. found.items ≡ findings_of names.now readers faults.now all.entry.files.now) }
 {
     let mut found = Vec::new(alloc);
+    let mut by_text = None;
     for source in all.files {
         let file = LintFile {
             names,
@@ -103,7 +98,14 @@ fn findings_by(
             bytes: source.bytes(),
             lines: source.lines(),
         };
-        push_findings(alloc, &mut found, all, file, source.included())?;
+        push_findings(
+            alloc,
+            &mut found,
+            all,
+            &mut by_text,
+            file,
+            source.included(),
+        )?;
     }
     Ok(found)
 }

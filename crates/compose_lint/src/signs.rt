@@ -13,6 +13,49 @@ pub(crate) fn may_be_skipped(line: &[u8]) -> bool
     line.len() >= 255 || has_sign(line)
 }
 
+/// Returns whether the line has two consecutive bytes that are a sign. It looks at sixteen such
+/// pairs at once, and at the last sixteen again. O(bytes).
+pub(crate) fn has_sign_pair(line: &[u8]) -> bool
+    ensures { result ≡ words.has_sign_after 58 line.now }
+{
+    if line.len() < 17 {
+        return has_sign_after(b':', line);
+    }
+    if is_sign(b':', line[0]) {
+        return true;
+    }
+    let mut at = 1;
+    while line.len() - at >= 16 {
+        if signs(
+            u8x16::from_slice(&line[at - 1..]),
+            u8x16::from_slice(&line[at..]),
+        ) != 0
+        {
+            return true;
+        }
+        at += 16;
+    }
+    let last = line.len() - 16;
+    signs(
+        u8x16::from_slice(&line[last - 1..]),
+        u8x16::from_slice(&line[last..]),
+    ) != 0
+}
+
+/// Returns whether there is a sign in `first` and then these bytes.
+fn has_sign_after(first: u8, line: &[u8]) -> bool
+    ensures { result ≡ words.has_sign_after first line.now }
+{
+    let mut before = first;
+    for byte in line {
+        if is_sign(before, *byte) {
+            return true;
+        }
+        before = *byte;
+    }
+    false
+}
+
 /// Returns whether the line, which is shorter than 255 bytes, has two consecutive bytes that are a
 /// sign, or ten `<`. It looks at sixteen such pairs at once.
 fn has_sign(line: &[u8]) -> bool
