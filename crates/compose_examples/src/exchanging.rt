@@ -163,6 +163,11 @@ fn nothing_is_printed_after_a_fault(rt: HostRuntime) -> Result<(), Fail> {
     };
     let text = run(alloc, &mut script, sent_requests(alloc)?)?;
     expect_text(&rt, "fault", &script.asked, OPEN_AND_KEY);
-    expect_text(&rt, "fault", text.as_deref().unwrap_or("a fault"), "a fault");
+    expect_text(
+        &rt,
+        "fault",
+        text.as_deref().unwrap_or("a fault"),
+        "a fault",
+    );
     Ok(())
 }
