@@ -55,11 +55,16 @@ std::optional<composecheck_state> typed(const composecheck_table *table, const s
     return isPending ? std::optional(state) : std::nullopt;
 }
 
-// Leaves out those that look like one before. (A digit of the keypad looks like the other one.)
-std::vector<Row> distinct(const std::vector<Row> &rows) {
+// Letters that need no Shift, what else has a sign, and what has a name alone.
+using Ranks = std::array<std::vector<Row>, 3>;
+
+// All rows without those that look like one before. (A digit of the keypad looks like the other one.)
+std::vector<Row> distinct(const Ranks &ranks) {
     std::set<std::pair<std::string, std::string>> met;
     std::vector<Row> kept;
-    std::copy_if(rows.begin(), rows.end(), std::back_inserter(kept), [&met](const Row &it) { return met.emplace(it.key, it.gives).second; });
+    for (const auto &rows : ranks) {
+        std::copy_if(rows.begin(), rows.end(), std::back_inserter(kept), [&met](const Row &it) { return met.emplace(it.key, it.gives).second; });
+    }
     return kept;
 }
 
@@ -80,16 +85,16 @@ std::vector<Row> Following::rows(const std::vector<uint32_t> &pending) {
         table_ = read();
     }
     auto state = table_ ? typed(table_.get(), pending) : std::nullopt;
-    std::vector<Row> signs, names;
+    Ranks ranks;
     uint8_t text[COMPOSECHECK_MOST_TEXT];
     uint32_t keysym, status, length;
     for (uint32_t at = 0; state && at < Most && library()->following(table_.get(), &*state, at, &keysym, &status, text, &length); at++) {
         std::string shown = sign(keysym), given(text, text + length);
         std::string gives = status == COMPOSECHECK_COMPOSING ? GoesOn : isPrinted(given) ? given : Other;
-        (shown.empty() ? names : signs).push_back({shown.empty() ? nameOf_(keysym) : shown, gives});
+        size_t rank = shown >= "a" && shown <= "z" ? 0 : shown.empty() ? 2 : 1;
+        ranks[rank].push_back({shown.empty() ? nameOf_(keysym) : shown, gives});
     }
-    signs.insert(signs.end(), names.begin(), names.end());
-    return distinct(signs);
+    return distinct(ranks);
 }
 
 std::shared_ptr<composecheck_table> Following::read() const {

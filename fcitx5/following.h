@@ -26,7 +26,7 @@ public:
     Following(std::string path, CharacterOf characterOf, CharacterOf nameOf, Log log)
         : path_(std::move(path)), characterOf_(std::move(characterOf)), nameOf_(std::move(nameOf)), log_(std::move(log)) {}
 
-    // The keys that can follow, those with a sign first; none where the stored table has no sequence that begins with what is pending.
+    // The keys that can follow: letters, other signs, names. None where the stored table has no sequence that begins with what is pending.
     std::vector<Row> rows(const std::vector<uint32_t> &pending);
 
 private:

@@ -338,7 +338,8 @@ print(following.rows((0xFE51,)), following.rows((0xFE51,)))
 # Keysyms of tables: with signs, of which some look alike, and with names alone.
 FOLLOWED = {"a": A, "e": E, "slash": 0x2F, "space": 0x20, "dead_acute": ACUTE, "dead_stroke": 0xFE63, "Multi_key": MULTI, "Left": 0xFF51, "KP_1": 0xFFB1,
             "eacute": 0xE9, "U0101": 0x1000101, **{it: ord(it) for it in "bcdfghij"}}
-SIGNS = {ACUTE: "´", 0xFE63: "/", MULTI: "·"}
+LETTERS = {ord(it): it for it in "abcdefghij"}
+SIGNS = {**LETTERS, ACUTE: "´", 0xFE63: "/", MULTI: "·"}
 
 
 def check_following(service, results):
@@ -350,7 +351,7 @@ def check_following(service, results):
     path = service.store_anew("old")
     following = Following(path)
     for pending, wanted in {
-        (MULTI,): [("'", "…")], (MULTI, APOSTROPHE): [("-", "…"), ("e", "ⓔ")], (GRAVE,): [("a", "à"), ("´", "…")], (X,): [], (MULTI, X): [], (ACUTE, E): [],
+        (MULTI,): [("'", "…")], (MULTI, APOSTROPHE): [("e", "ⓔ"), ("-", "…")], (GRAVE,): [("a", "à"), ("´", "…")], (X,): [], (MULTI, X): [], (ACUTE, E): [],
     }.items():
         results.expect(f"what follows {pending}", following.rows(pending), [Row(*it) for it in wanted])
     service.store_anew("new")
@@ -358,8 +359,8 @@ def check_following(service, results):
     service.write("shown.compose", '<a> <space> : "x"\n<a> <Left> : "y"\n<a> <1> : "1"\n<a> <KP_1> : "1"\n<a> <b> : "\\n"\n')
     service.store_anew("shown")
     shown = Following(path, lambda it: "1" if it == 0xFFB1 else chr(it) if it < 0x100 else "", {0x20: "space", 0xFF51: "Left"}.get)
-    wanted = [Row("1", "1"), Row("b", "•"), Row("space", "x"), Row("Left", "y")]
-    results.expect("a key without a sign has its name, behind the others", shown.rows((A,)), wanted)
+    wanted = [Row("b", "•"), Row("1", "1"), Row("space", "x"), Row("Left", "y")]
+    results.expect("letters first, and keys without a sign behind the others, by their names", shown.rows((A,)), wanted)
     with open(path, "wb") as file:
         file.write(b"compose")
     with logged() as lines:
@@ -411,13 +412,13 @@ def rows_after(table, pending):
     size = len(pending) + 1
     gives = {it[-1]: text for it, text in table.items() if it[:-1] == pending}
     gives.update((it[size - 1], "…") for it in table if len(it) > size and it[:size - 1] == pending)
-    return [Row(SIGNS.get(it, hex(it)), gives[it]) for it in sorted(gives, key=lambda it: (it not in SIGNS, it))]
+    return [Row(SIGNS.get(it, hex(it)), gives[it]) for it in sorted(gives, key=lambda it: (it not in LETTERS, it not in SIGNS, it))]
 
 
 def check_random_following(service, results):
     table, text = random_table(random.Random(6))
     service.write("random.compose", text)
-    following = Following(service.store_anew("random"), lambda _: "")
+    following = Following(service.store_anew("random"), lambda it: LETTERS.get(it, ""))
     every = sorted({it[:size] for it in table for size in range(1, 5)})
     results.expect("what follows each beginning of random sequences", [following.rows(it) for it in every], [rows_after(table, it) for it in every])
 

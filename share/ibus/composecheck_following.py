@@ -2,7 +2,7 @@
 
     listing = Listing(Following(stored_path()))
     listing.look_up((0xFF20, 0x27))
-    listing.rows                        # [Row(key='-', gives='…'), Row(key='a', gives='ⓐ'), Row(key='e', gives='ⓔ')]
+    listing.rows                        # [Row(key='a', gives='ⓐ'), Row(key='e', gives='ⓔ'), Row(key='-', gives='…')]
 
 libcomposecheck.so.1 reads the table. Without it, or without a table, nothing is listed, and that is logged once.
 """
@@ -41,13 +41,18 @@ class Following:
         self._seen, self._table = None, None
 
     def rows(self, pending: Sequence[int]) -> List[Row]:
-        """The keys that can follow, those with a sign first; none where the stored table has no sequence that begins with what is pending."""
+        """The keys that can follow: letters, other signs, names. None where the stored table has no sequence that begins with what is pending."""
         table = self._current()
         if table is None:
             return []
-        found = sorted(islice(table.following(pending), MOST), key=lambda it: not self._sign_of(it[0]))
+        found = sorted(islice(table.following(pending), MOST), key=lambda it: self._rank(it[0]))
         # (a key of the keypad may look like another one)
         return list(dict.fromkeys(self._row(*it) for it in found))
+
+    def _rank(self, keysym: int) -> int:
+        """Which keys come first: the letters that need no Shift, then what else has a sign."""
+        sign = self._sign_of(keysym)
+        return 0 if "a" <= sign <= "z" else 1 if sign else 2
 
     def _row(self, keysym: int, status: str, text: str) -> Row:
         gives = GOES_ON if status == "composing" else text if is_printed(text) else OTHER

@@ -225,7 +225,7 @@ def listed(trials, method, *keysyms):
 def try_list(trials, is_fcitx5):
     """The keys that can follow: what an application is told that shows them itself, and a picture of a window."""
     desk, service, method = trials.desk, trials.desk.service, "fcitx5" if is_fcitx5 else "ibus"
-    rows, nothing = [["-", "…"], ["a", "ⓐ"], ["e", "ⓔ"]], [[], ""]
+    rows, nothing = [["a", "ⓐ"], ["e", "ⓔ"], ["-", "…"]], [[], ""]
     keys = (MULTI, APOSTROPHE, F1, ord("a"), ACUTE, F1, ord("e"))
     wanted = [nothing, nothing, [rows, ""], nothing, [[["a", "á"], ["e", "é"]], ""], nothing, nothing]
     trials.count("F1 shows and hides what can follow", listed(trials, method, *keys), wanted)
