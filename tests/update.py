@@ -10,6 +10,8 @@ import subprocess
 import sys
 import tempfile
 
+from typing_service import OLD as TYPED, TypingService
+
 TESTS = os.path.dirname(os.path.abspath(__file__))
 CLANG = "/opt/rattle/toolchain/bin/clang"
 OLD = '<Multi_key> <apostrophe> <e> : "ⓔ"\n<dead_acute> <e> : "é"\n'
@@ -144,6 +146,29 @@ def try_places(program, tell):
         tell.check("by nothing", (ran.returncode, ran.stderr), (2, "refused: state: neither XDG_STATE_HOME nor HOME is set\n"))
 
 
+def read(path):
+    with open(path, "rb") as file:
+        return file.read()
+
+
+def try_running(program, tell):
+    """An update beside a service that runs: what it accepts is stored, and what it refuses isn't."""
+    with TypingService(program) as service:
+        service.store_anew("old")
+        service.start_by(service.unit_command())
+        tell.check("a follower is loaded, and then stored", service.store("new"), "loaded 1\nstored\n")
+        stored = service.store_anew("old")
+        before = read(stored)
+        service.write("more.compose", TYPED + '<Multi_key> <apostrophe> <x> : "x"\n')
+        service.start("new")
+        try:
+            told = 0, service.store("more")
+        except subprocess.CalledProcessError as error:
+            told = error.returncode, error.stdout
+        tell.check("a load that the service refuses", (told[0], "stored" in told[1]), (1, False))
+        tell.check("what was stored stays", read(stored), before)
+
+
 def compile_library(folder):
     library = os.path.join(folder, "cut.so")
     subprocess.run(["cc", "-shared", "-fPIC", "-o", library, os.path.join(TESTS, "cut.c"), "-ldl"], check=True)
@@ -182,7 +207,7 @@ def try_cuts(program, tell):
 def main():
     program = os.path.abspath(sys.argv[1])
     tell = Failures()
-    for part in (try_decisions, try_meant, try_fresh, try_places, try_cuts):
+    for part in (try_decisions, try_meant, try_fresh, try_places, try_running, try_cuts):
         part(program, tell)
     print(f"{tell.passed} passed, {tell.failed} failed")
     return 1 if tell.failed else 0

@@ -1,7 +1,8 @@
 //! The program `composecheck` over any form of a table: arguments, files, sockets and exit
 //! statuses. A command that reads files and answers is a function over values in `compose_program`;
 //! so are the start of a service and its clients, in `compose_service_runs`. `program.rt` prints
-//! their outcomes; a service alone prints lines of its own. The arguments of the command line are in `compose_arguments`.
+//! their outcomes; a service alone prints lines of its own. The arguments of the command line are
+//! in `compose_arguments`.
 //!
 //! ```text
 //! fn main(rt: HostRuntime) -> ExitCode {
