@@ -15,9 +15,10 @@ import ctypes
 import logging
 import os
 import random
+import select
 import socket
 import time
-from typing import NamedTuple, Optional, Tuple
+from typing import Callable, NamedTuple, Optional, Tuple, Union
 
 from composecheck_client import STATUSES, ConnectionEnded, TimedOut, UnexpectedReply
 
@@ -59,7 +60,8 @@ def _path():
 
 
 def _load(path):
-    library = ctypes.CDLL(path)
+    # (its functions are short, so that Python's lock is kept over each)
+    library = ctypes.PyDLL(path)
     client, action, number = ctypes.POINTER(_Client), ctypes.POINTER(_Action), ctypes.c_uint32
     for name, result, arguments in (
         ("press", None, (client, number, action)),
@@ -96,6 +98,7 @@ class Service:
     def __init__(self, path: str, patience: float = PATIENCE, pause: float = PAUSE):
         self._path, self.patience, self._pause = path, patience, pause
         self._socket: Optional[socket.socket] = None
+        self._replies = select.poll()
         self._silent_until = 0.0
         self._told = ""
         # How many connections there were. What is known of a session holds on the connection where it was seen.
@@ -115,14 +118,16 @@ class Service:
                 made.close()
                 self.lost(error)
                 return False
-            self._socket = made
+            # (a timeout of the socket would be set anew at each call, and costs a call of the system)
+            made.setblocking(False)
+            self._socket, self._replies = made, select.poll()
+            self._replies.register(made, select.POLLIN)
             self.connections += 1
         return self.is_connected()
 
-    def send(self, sent: bytes, end: float) -> bool:
-        """Sends bytes. False: the connection is lost."""
+    def send(self, sent: Union[bytes, memoryview]) -> bool:
+        """Sends bytes, for which there is room, since each request is answered before the next one. False: the connection is lost."""
         try:
-            self._socket.settimeout(max(end - time.monotonic(), 0.001))
             self._socket.sendall(sent)
         except (BrokenPipeError, ConnectionResetError):
             pass  # (what the service sent before it closed may still be read)
@@ -134,13 +139,10 @@ class Service:
     def read(self, end: float) -> Optional[bytes]:
         """Reads some bytes: none if the connection is lost, and None at the end of the time."""
         left = end - time.monotonic()
-        if left <= 0:
+        if left <= 0 or not self._replies.poll(left * 1000):
             return None
         try:
-            self._socket.settimeout(left)
             return self._socket.recv(ENOUGH)
-        except socket.timeout:
-            return None
         except OSError:
             return b""
 
@@ -179,14 +181,14 @@ class Typing:
     def __init__(self, service: Service):
         self._service = service
         self._client, self._action, self._answer = _Client(), _Action(), _Answer()
+        # Made once: what the library fills at each key, and views of bytes in it. (A slice of its arrays would be a list of numbers.)
+        self._keysyms, self._used = (ctypes.c_uint32 * 31)(), ctypes.c_size_t()
+        self._bytes, self._text = memoryview(self._action.bytes), memoryview(self._answer.text)
         # The connection on which the session was used last, by its number.
         self._connection = 0
         self._rest = b""
-
-    @property
-    def pending(self) -> Tuple[int, ...]:
-        keysyms = (ctypes.c_uint32 * 31)()
-        return tuple(keysyms[: _library.composecheck_client_pending(self._client, keysyms)])
+        # The keysyms that are pending.
+        self.pending: Tuple[int, ...] = ()
 
     @property
     def _number(self) -> Optional[int]:
@@ -198,46 +200,55 @@ class Typing:
 
     def key(self, keysym: int, end: Optional[float] = None) -> Optional[Typed]:
         """Types a key. None: no service was reached, and nothing is pending any more. `end` is a deadline that was taken before."""
-        if keysym > GREATEST_KEYSYM or self._run(end, "press", keysym) != VERDICT:
+        if keysym > GREATEST_KEYSYM or self._run(end, _library.composecheck_client_press, keysym) != VERDICT:
             return None
         self._service.answered()
         answer = self._answer
-        return Typed(STATUSES[answer.status], answer.accepted == 1, bytes(answer.text[: answer.text_length]).decode(), self.pending)
+        return Typed(STATUSES[answer.status], answer.accepted == 1, str(self._text[: answer.text_length], "utf-8"), self.pending)
 
     def erase(self) -> bool:
         """Takes the last pending key back. False: the service doesn't answer."""
-        return self._run(None, "erase") == WAIT
+        return self._run(None, _library.composecheck_client_erase) == WAIT
 
     def reset(self) -> None:
         """Drops what is pending."""
         _library.composecheck_client_drop(self._client)
+        self._read_pending()
 
     def close(self) -> None:
         """Ends the session, if it was opened. A key opens another one."""
-        self._run(None, "close")
+        self._run(None, _library.composecheck_client_close)
         self._connection = 0
 
-    def _run(self, end: Optional[float], name: str, *words: int) -> int:
+    def _run(self, end: Optional[float], event: Callable[..., None], *words: int) -> int:
         """Has the library handle an event, and does what it says, until nothing is waited for. Returns the kind of the last action."""
         end = self.deadline() if end is None else end
         if self._connection != self._service.connections or not self._service.is_connected():
             # (another place found that the connection is lost)
-            self._event("lose")
-        kind = self._event(name, *words)
+            self._event(_library.composecheck_client_lose)
+        kind = self._event(event, *words)
         while kind in (SEND, CONNECT) or not _library.composecheck_client_is_idle(self._client):
             if kind == CONNECT:
-                kind = self._event("connected", random.SystemRandom().getrandbits(32)) if self._connects() else self._event("lose")
-            elif kind == SEND and not self._service.send(bytes(self._action.bytes[: self._action.byte_count]), end):
-                kind = self._event("lose")
+                kind = self._connected() if self._connects() else self._event(_library.composecheck_client_lose)
+            elif kind == SEND and not self._service.send(self._bytes[: self._action.byte_count]):
+                kind = self._event(_library.composecheck_client_lose)
             else:
                 kind = self._next(end)
         if kind in (ABANDON, CLOSE):
             self._give_up()
+        self._read_pending()
         return kind
 
-    def _event(self, name: str, *words: int) -> int:
-        getattr(_library, f"composecheck_client_{name}")(self._client, *words, self._action)
+    def _event(self, event: Callable[..., None], *words: int) -> int:
+        event(self._client, *words, self._action)
         return self._action.kind
+
+    def _read_pending(self) -> None:
+        count = _library.composecheck_client_pending(self._client, self._keysyms)
+        self.pending = tuple(self._keysyms[:count])
+
+    def _connected(self) -> int:
+        return self._event(_library.composecheck_client_connected, random.SystemRandom().getrandbits(32))
 
     def _connects(self) -> bool:
         """Takes the connection that there is, or a new one if this place had it already. False: there is none."""
@@ -250,17 +261,16 @@ class Typing:
 
     def _next(self, end: float) -> int:
         """What to do at the next reply."""
-        used = ctypes.c_size_t()
-        while not _library.composecheck_client_receive(self._client, self._rest, len(self._rest), used, self._action, self._answer):
+        while not _library.composecheck_client_receive(self._client, self._rest, len(self._rest), self._used, self._action, self._answer):
             came = self._service.read(end)
             if came is None:
                 self._service.lost(TimedOut("the service did not go on in time"))
-                return self._event("time_out")
+                return self._event(_library.composecheck_client_time_out)
             if not came:
                 self._service.lost(ConnectionEnded("the service closed the connection"))
-                return self._event("lose")
+                return self._event(_library.composecheck_client_lose)
             self._rest = came
-        self._rest = self._rest[used.value:]
+        self._rest = self._rest[self._used.value:]
         return self._action.kind
 
     def _give_up(self) -> None:
