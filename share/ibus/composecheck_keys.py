@@ -60,7 +60,7 @@ class Keys:
     @property
     def shown(self) -> str:
         """The pending keys, as the person at the keyboard sees them."""
-        return "".join(sign_of(it, self._character_of) for it in self.pending)
+        return "".join([sign_of(it, self._character_of) for it in self.pending])
 
     def press(self, keysym: int, settings: Settings = Settings(), is_text_field: bool = True) -> Answer:
         """Answers a key. It takes no longer than the patience of the service."""
@@ -69,14 +69,13 @@ class Keys:
             self._typing.erase()
             return Answer(True)
         keeps = settings.keep_accents and keysym != ESCAPE
-        accents = _accents(pending) if keeps else ""
         typed = self._typing.key(keysym, end)
-        if typed and typed.accepted and typed.status == "cancelled":
+        is_cancelled = typed and typed.accepted and typed.status == "cancelled"
+        accents = _accents(pending) if keeps and (is_cancelled or not typed) else ""
+        if is_cancelled:
             if not keeps:
                 return Answer(True)
             typed = self._typing.key(keysym, end)
-        elif typed:
-            accents = ""
         if not typed and accents and is_printed(self._character_of(keysym)):
             # (no service is reached: an accent that is committed and a key that passes might change places)
             return Answer(True, accents + self._character_of(keysym))
@@ -84,7 +83,7 @@ class Keys:
             return Answer(False, accents)
         if typed.status != "nothing":
             return Answer(True, accents + typed.text)
-        if is_printed(typed.text) and (accents or (settings.commit_plain and is_text_field)):
+        if (accents or (settings.commit_plain and is_text_field)) and is_printed(typed.text):
             return Answer(True, accents + typed.text)
         # (a toolkit that gets a dead key begins a sequence of its own table with it: then two tables would type at once)
         return Answer(not typed.text and _begins_sequences(keysym), accents)
