@@ -21,6 +21,8 @@ TABLE = "/usr/share/X11/locale/en_US.UTF-8/Compose"
 OWN_ENGINE = "xkb:us:intl:eng"
 # How many times as long as ibus' own engine a key may take at the median, and in microseconds 99 of 100 keys beside loads.
 MOST_TIMES, MOST_BESIDE_LOADS = 1.3, 10_000
+# The engines take so many turns. (With few, what else a machine does in one of them decides.)
+TURNS = 12
 
 
 def time_socket(service, rounds):
@@ -120,7 +122,7 @@ def write_tables(service):
 
 def judge(desk, rounds, results):
     """Compares the engine with ibus' own, in turns, and looks at it beside loads."""
-    found = latencies(desk, rounds, *[OWN_ENGINE, "composecheck"] * 3)
+    found = latencies(desk, rounds * 3 // TURNS, *[OWN_ENGINE, "composecheck"] * TURNS)
     for what in {what for _, what in found}:
         own, ours = (part(found[engine, what], 0.5) for engine in (OWN_ENGINE, "composecheck"))
         print(f"{what}: {ours / own:.2f} times as long as ibus' own engine", flush=True)
