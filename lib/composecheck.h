@@ -74,8 +74,9 @@ struct composecheck_fault { uint32_t part, code, lexical, value; uint64_t source
  * and the certificate. Numbers are big-endian, the names UTF-8 and distinct, and the first source is the root. longest: of two sequences of which
  * one is a prefix of the other the longer one counts, as in libxkbcommon; else such a table is refused.
  * edges: memory of zeros (calloc), or what an earlier call filled: each entry holds a keysym, at most 0x1fffffff, before the call too.
- * DONE: sizes says how many entries count, and the arrays are a table. REFUSED: fault says why. TOO_SMALL: an array is smaller than sizes says. If it
- * isn't REFUSED, fault stays as it was. MALLOC */
+ * DONE: sizes says how many entries count, and the arrays are a table. REFUSED: fault says why, and sizes stays as it was. TOO_SMALL: sizes says
+ * how many entries the table has, and an array is smaller than that. If it isn't DONE, the arrays stay as they were; if it isn't REFUSED, fault does.
+ * MALLOC */
 uint32_t composecheck_compile(const uint8_t *header, size_t header_length, const uint8_t *bundle, size_t bundle_length, bool longest,
                               struct composecheck_node *nodes, size_t node_room, struct composecheck_edge *edges, size_t edge_room,
                               uint32_t *offsets, size_t offset_room, uint8_t *texts, size_t text_room, uint8_t *hints, size_t hint_room,
@@ -84,7 +85,8 @@ uint32_t composecheck_compile(const uint8_t *header, size_t header_length, const
 /* As composecheck_compile, and fills results besides with the result keysym of each sequence, one for each text and in their order;
  * *result_count says how many they are, one less than offsets. It is the keysym that the line names which counts for the sequence; if it
  * names none, the least keysym of the text's character; and 0 (XKB_KEY_NoSymbol) if the text isn't one character, or no keysym has it.
- * TOO_SMALL also if results has less room than *result_count says. MALLOC */
+ * TOO_SMALL also if results has less room than *result_count says. If it isn't DONE, results stays as it was, and if it is REFUSED, *result_count
+ * does. MALLOC */
 uint32_t composecheck_compile_with_results(const uint8_t *header, size_t header_length, const uint8_t *bundle, size_t bundle_length, bool longest,
                                            struct composecheck_node *nodes, size_t node_room, struct composecheck_edge *edges, size_t edge_room,
                                            uint32_t *offsets, size_t offset_room, uint8_t *texts, size_t text_room, uint8_t *hints,
