@@ -16,6 +16,7 @@
  *   - malloc, realloc and free belong together, and align as C says;
  *   - a function marked MALLOC is not called in a signal handler, nor in the forked child of a process with threads.
  * What a call says of arrays being a table is its own premise, and composecheck_is_table tests it.
+ * A text, a path, a name, a bundle or characters that a call of the first part refuses, or for which there is no room, it leaves as they were.
  *
  * What stays (ABI 1): the names, their parameters and what they mean; the sizes of the structs, whose reserved members are 0 and may get
  * a meaning; the numbers of faults. New functions may come. What the entries of a table hold is the library's own: a later release may
@@ -121,7 +122,7 @@ uint32_t composecheck_status(const struct composecheck_state *state);
 uint32_t composecheck_pending(const struct composecheck_state *state, uint32_t keysyms[COMPOSECHECK_MOST_PENDING]);
 
 /* The keysym at this index among those that may follow what is pending, in rising order, and what feeding it would do: the status, and the
- * text that it would commit. False if index is not below their number; what it points to may then hold anything.
+ * text that it would commit. False if index is not below their number; what it points to then stays as it was.
  * Premise: the arrays are a table. */
 bool composecheck_following(const struct composecheck_node *nodes, size_t node_count, const struct composecheck_edge *edges, size_t edge_count,
                             const uint32_t *offsets, size_t offset_count, const uint8_t *texts, size_t text_count,

@@ -7,7 +7,7 @@
 //! allocates memory frees all of it before it returns.
 #![tactic(auto)]
 
-ghost use Rattle.std.specs.Prelude.{◌≡◌, ◌≢◌, ◌≤◌, ◌<◌, ◌+◌, true, false, take, map, length, slice_get, Some, None, option_map};
+ghost use Rattle.std.specs.Prelude.{◌≡◌, ◌≢◌, ◌≤◌, ◌<◌, ◌+◌, ℕ, List, true, false, take, map, length, slice_get, Some, None, option_map};
 ghost use Rattle.compose_model.specs.Nodes.{edges as keys_behind};
 ghost use Rattle.compose_model.specs.Step.{effect};
 ghost use Rattle.compose_model.specs.Session.{rest, fed, loaded};
@@ -96,6 +96,7 @@ pub extern "C" fn composecheck_feed(
     ensures reported { result ≡ feed_number key }
     ensures no_keysym { 0x1fffffff < key → state.new ≡ state.old }
     ensures no_text { 0x1fffffff < key → text_length.new ≡ 0 }
+    ensures untouched { 0x1fffffff < key → text.new ≡ text.old }
 {
     let Some(keysym) = Keysym::new(key) else {
         *text_length = 0;
@@ -201,6 +202,8 @@ pub extern "C" fn composecheck_following(
         (unpacked nodes.now edges.now offsets.now texts.now) (session_of state.now).pending
         key.new }
     ensures length { result ≡ true → text_length.new ≤ 255 }
+    ensures untouched { result ≡ false → (key.new ≡ key.old) × (status.new ≡ status.old)
+        × (text.new ≡ text.old) × (text_length.new ≡ text_length.old) }
 {
     let table = LentTable::of(nodes, edges, offsets, texts, hints);
     let mut now = session(state);
@@ -383,6 +386,8 @@ pub extern "C" fn composecheck_explain(
         (take text_length.new text.new) }
     ensures wide { result ≡ 1 → length text.old < text_length.new }
     ensures few { result ≤ 2 }
+    ensures untouched { result ≢ 0 → text.new ≡ text.old }
+    ensures same_length { result ≡ 2 → text_length.new ≡ text_length.old }
 {
     let Ok(reason) = sentence(alloc, header, bundle, longest) else {
         return 2;
@@ -540,6 +545,7 @@ pub extern "C" fn composecheck_characters(
     ensures refused { result ≡ 1 → ReportsNames header.now fault.new }
     ensures wide { result ≡ 2 → length target.old < length keysyms.now }
     ensures few { result ≤ 2 }
+    ensures untouched { result ≢ 0 → target.new ≡ target.old }
     ensures same_fault { result ≢ 1 → fault.new ≡ fault.old }
 {
     characters(alloc, header, keysyms, target, fault)
@@ -556,7 +562,11 @@ pub extern "C" fn composecheck_include(line: &[u8], name: &mut [u8], name_length
     ensures none { result ≡ 0 → IncludesNone line.now }
     ensures some { result ≡ 1 → IsInclude line.now (take name_length.new name.new) }
     ensures wide { result ≡ 2 → length name.old < name_length.new }
+    ensures needed { result ≡ 2 → (raw : List ℕ) × IsInclude line.now raw
+        × (length raw ≡ name_length.new) }
     ensures few { result ≤ 2 }
+    ensures untouched { result ≢ 1 → name.new ≡ name.old }
+    ensures same_length { result ≡ 0 → name_length.new ≡ name_length.old }
 {
     match include(line) {
         Some(raw) => {
@@ -616,6 +626,8 @@ pub extern "C" fn composecheck_find(
         (search_of answers.now root.now system.now locale.now home.now sysroot.now)
         (take target_length.new target.new) }
     ensures few { result ≤ 3 }
+    ensures untouched { result ≢ 0 → result ≢ 3 → target.new ≡ target.old }
+    ensures same_length { result ≡ 1 → target_length.new ≡ target_length.old }
     ensures same_fault { result ≢ 1 → fault.new ≡ fault.old }
 {
     find(
@@ -661,6 +673,7 @@ pub extern "C" fn composecheck_locale_file(
         → option_map length (locale_path folder.now compose_dir.now aliases.now locale.now)
         ≡ Some path_length.new }
     ensures few { result ≤ 3 }
+    ensures untouched { result ≢ 1 → path.new ≡ path.old }
 {
     let Ok(found) = locale_file(alloc, folder, compose_dir, aliases, locale) else {
         return 3;
