@@ -16,6 +16,7 @@
  *   - malloc, realloc and free belong together, and align as C says;
  *   - a function marked MALLOC is not called in a signal handler, nor in the forked child of a process with threads.
  * What a call says of arrays being a table is its own premise, and composecheck_is_table tests it.
+ * A text, a path, a name, a bundle or characters that a call of the first part refuses, or for which there is no room, it leaves as they were.
  *
  * What stays (ABI 1): the names, their parameters and what they mean; the sizes of the structs, whose reserved members are 0 and may get
  * a meaning; the numbers of faults. New functions may come. What the entries of a table hold is the library's own: a later release may
@@ -74,8 +75,9 @@ struct composecheck_fault { uint32_t part, code, lexical, value; uint64_t source
  * and the certificate. Numbers are big-endian, the names UTF-8 and distinct, and the first source is the root. longest: of two sequences of which
  * one is a prefix of the other the longer one counts, as in libxkbcommon; else such a table is refused.
  * edges: memory of zeros (calloc), or what an earlier call filled: each entry holds a keysym, at most 0x1fffffff, before the call too.
- * DONE: sizes says how many entries count, and the arrays are a table. REFUSED: fault says why. TOO_SMALL: an array is smaller than sizes says. If it
- * isn't REFUSED, fault stays as it was. MALLOC */
+ * DONE: sizes says how many entries count, and the arrays are a table. REFUSED: fault says why, and sizes stays as it was. TOO_SMALL: sizes says
+ * how many entries the table has, and an array is smaller than that. If it isn't DONE, the arrays stay as they were; if it isn't REFUSED, fault does.
+ * MALLOC */
 uint32_t composecheck_compile(const uint8_t *header, size_t header_length, const uint8_t *bundle, size_t bundle_length, bool longest,
                               struct composecheck_node *nodes, size_t node_room, struct composecheck_edge *edges, size_t edge_room,
                               uint32_t *offsets, size_t offset_room, uint8_t *texts, size_t text_room, uint8_t *hints, size_t hint_room,
@@ -84,7 +86,8 @@ uint32_t composecheck_compile(const uint8_t *header, size_t header_length, const
 /* As composecheck_compile, and fills results besides with the result keysym of each sequence, one for each text and in their order;
  * *result_count says how many they are, one less than offsets. It is the keysym that the line names which counts for the sequence; if it
  * names none, the least keysym of the text's character; and 0 (XKB_KEY_NoSymbol) if the text isn't one character, or no keysym has it.
- * TOO_SMALL also if results has less room than *result_count says. MALLOC */
+ * TOO_SMALL also if results has less room than *result_count says. If it isn't DONE, results stays as it was, and if it is REFUSED, *result_count
+ * does. MALLOC */
 uint32_t composecheck_compile_with_results(const uint8_t *header, size_t header_length, const uint8_t *bundle, size_t bundle_length, bool longest,
                                            struct composecheck_node *nodes, size_t node_room, struct composecheck_edge *edges, size_t edge_room,
                                            uint32_t *offsets, size_t offset_room, uint8_t *texts, size_t text_room, uint8_t *hints,
@@ -119,7 +122,7 @@ uint32_t composecheck_status(const struct composecheck_state *state);
 uint32_t composecheck_pending(const struct composecheck_state *state, uint32_t keysyms[COMPOSECHECK_MOST_PENDING]);
 
 /* The keysym at this index among those that may follow what is pending, in rising order, and what feeding it would do: the status, and the
- * text that it would commit. False if index is not below their number; what it points to may then hold anything.
+ * text that it would commit. False if index is not below their number; what it points to then stays as it was.
  * Premise: the arrays are a table. */
 bool composecheck_following(const struct composecheck_node *nodes, size_t node_count, const struct composecheck_edge *edges, size_t edge_count,
                             const uint32_t *offsets, size_t offset_count, const uint8_t *texts, size_t text_count,

@@ -4,3 +4,4 @@ pub mod Edges
 pub mod NewPaths
 pub mod AnswerLists
 pub mod Searched
+pub mod ArraySizes

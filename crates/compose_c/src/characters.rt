@@ -20,6 +20,7 @@ pub fn characters(
     ensures refused { result ≡ 1 → ReportsNames header.now fault.new }
     ensures wide { result ≡ 2 → length target.old < length keysyms.now }
     ensures few { result ≤ 2 }
+    ensures untouched { result ≢ 0 → target.new ≡ target.old }
     ensures same_fault { result ≢ 1 → fault.new ≡ fault.old }
 {
     if target.len() < keysyms.len() {

@@ -1,7 +1,8 @@
 //! Compiling: a table is read, and its arrays are put into the caller's memory.
-ghost use Rattle.std.specs.Prelude.{◌≡◌, ◌≢◌, ◌≤◌, true, false, length, take, MatchResult};
+ghost use Rattle.std.specs.Prelude.{◌≡◌, ◌≢◌, ◌≤◌, true, false, List, length, take, MatchResult};
+ghost use Rattle.compose_model.specs.Table.{Definition};
 ghost use Rattle.compose_tree.specs.Packed.{IsPacked, unpacked};
-ghost use Rattle.compose_c.specs.Compiled.{IsRead, Fits, rule_of};
+ghost use Rattle.compose_c.specs.Compiled.{IsRead, AreSizes, AreSizesOf, Fits, rule_of};
 ghost use Rattle.compose_c.specs.Faults.{IsRefused, Reports};
 
 use crate::copies::put;
@@ -65,6 +66,9 @@ fn sizes_of(arrays: &LentArrays<'_>) -> Sizes
     ensures offsets { result.offsets ≡ length arrays.now.offsets.now }
     ensures texts { result.texts ≡ length arrays.now.texts.now }
     ensures hints { result.hints ≡ length arrays.now.hints.now }
+    ensures table { (table : List Definition)
+        → IsPacked arrays.now.nodes.now arrays.now.edges.now arrays.now.offsets.now
+        arrays.now.texts.now table → AreSizes table result }
 {
     Sizes {
         nodes: arrays.nodes.len(),
@@ -74,6 +78,13 @@ fn sizes_of(arrays: &LentArrays<'_>) -> Sizes
         hints: arrays.hints.len(),
         reserved: [0; 3],
     }
+}
+
+/// Puts the number of entries in each array of the table into `sizes`. O(1).
+pub fn measure(table: &PackedTable, sizes: &mut Sizes)
+    ensures { AreSizes table.now sizes.new }
+{
+    *sizes = sizes_of(&table.lend().arrays());
 }
 
 /// Puts the arrays of the table into the caller's, and the number of entries of each into `sizes`.
@@ -93,8 +104,13 @@ pub fn put_table(
     ensures packed { result ≡ true → IsPacked (take sizes.new.nodes nodes.new)
         (take sizes.new.edges edges.new) (take sizes.new.offsets offsets.new)
         (take sizes.new.texts texts.new) table.now }
+    ensures fits { result ≡ true → Fits sizes.new (length nodes.old) (length edges.old)
+        (length offsets.old) (length texts.old) (length hints.old) }
     ensures wide { result ≡ false → Fits sizes.new (length nodes.old) (length edges.old)
         (length offsets.old) (length texts.old) (length hints.old) → ⊥ }
+    ensures sizes { AreSizes table.now sizes.new }
+    ensures untouched { result ≡ false → (nodes.new ≡ nodes.old) × (edges.new ≡ edges.old)
+        × (offsets.new ≡ offsets.old) × (texts.new ≡ texts.old) × (hints.new ≡ hints.old) }
 {
     let lent = table.lend();
     let arrays = lent.arrays();
@@ -139,10 +155,17 @@ pub fn compile(
         (unpacked (take sizes.new.nodes nodes.new) (take sizes.new.edges edges.new)
         (take sizes.new.offsets offsets.new) (take sizes.new.texts texts.new)) }
     ensures refused { result ≡ 1 → Reports header.now bundle.now (rule_of longest) fault.new }
+    ensures fits { result ≡ 0 → Fits sizes.new (length nodes.old) (length edges.old)
+        (length offsets.old) (length texts.old) (length hints.old) }
     ensures wide { result ≡ 2 → Fits sizes.new (length nodes.old) (length edges.old)
         (length offsets.old) (length texts.old) (length hints.old) → ⊥ }
+    ensures sizes { result ≢ 1
+        → AreSizesOf (IsRead header.now bundle.now (rule_of longest)) sizes.new }
     ensures few { result ≤ 2 }
     ensures same_fault { result ≢ 1 → fault.new ≡ fault.old }
+    ensures same_sizes { result ≡ 1 → sizes.new ≡ sizes.old }
+    ensures untouched { result ≢ 0 → (nodes.new ≡ nodes.old) × (edges.new ≡ edges.old)
+        × (offsets.new ≡ offsets.old) × (texts.new ≡ texts.old) × (hints.new ≡ hints.old) }
 {
     match read(alloc, header, bundle, longest) {
         Ok(table) => {

@@ -81,6 +81,8 @@ pub fn find(
         (search_of answers.now root.now system.now locale.now home.now sysroot.now)
         (take target_length.new target.new) }
     ensures few { result ≤ 3 }
+    ensures untouched { result ≢ 0 → result ≢ 3 → target.new ≡ target.old }
+    ensures same_length { result ≡ 1 → target_length.new ≡ target_length.old }
     ensures same_fault { result ≢ 1 → fault.new ≡ fault.old }
 {
     match search(
@@ -114,6 +116,7 @@ fn put_search_result(
     ensures bytes { result ≢ 2
         → take target_length.new target.new ≡ finds.search_result_bytes search_result.now }
     ensures few { result ≤ 3 }
+    ensures untouched { result ≡ 2 → target.new ≡ target.old }
 {
     let bytes = search_result_bytes(search_result);
     *target_length = bytes.len();

@@ -7,7 +7,7 @@
 //! allocates memory frees all of it before it returns.
 #![tactic(auto)]
 
-ghost use Rattle.std.specs.Prelude.{◌≡◌, ◌≢◌, ◌≤◌, ◌<◌, true, false, take, map, length, slice_get, Some, None, option_map};
+ghost use Rattle.std.specs.Prelude.{◌≡◌, ◌≢◌, ◌≤◌, ◌<◌, ◌+◌, ℕ, List, true, false, take, map, length, slice_get, Some, None, option_map};
 ghost use Rattle.compose_model.specs.Nodes.{edges as keys_behind};
 ghost use Rattle.compose_model.specs.Step.{effect};
 ghost use Rattle.compose_model.specs.Session.{rest, fed, loaded};
@@ -17,7 +17,7 @@ ghost use Rattle.compose_tree.specs.Targets.{target_of};
 ghost use Rattle.compose_c.specs.States.{session_of, status_number, feed_number};
 ghost use Rattle.compose_c.specs.Arrays.{edge_of};
 ghost use Rattle.compose_c.specs.Characters.{AreCharacters, ReportsNames};
-ghost use Rattle.compose_c.specs.Compiled.{IsRead, IsReadWithResults, Fits, rule_of};
+ghost use Rattle.compose_c.specs.Compiled.{IsRead, IsReadWithResults, AreSizesOf, Fits, rule_of};
 ghost use Rattle.compose_c.specs.Faults.{Reports};
 ghost use Rattle.compose_c.specs.Finds.{Finds, Needs, ReportsFind, Wants, locale_path, search_of};
 ghost use Rattle.compose_c.specs.Includes.{IsInclude, IncludesNone};
@@ -96,6 +96,7 @@ pub extern "C" fn composecheck_feed(
     ensures reported { result ≡ feed_number key }
     ensures no_keysym { 0x1fffffff < key → state.new ≡ state.old }
     ensures no_text { 0x1fffffff < key → text_length.new ≡ 0 }
+    ensures untouched { 0x1fffffff < key → text.new ≡ text.old }
 {
     let Some(keysym) = Keysym::new(key) else {
         *text_length = 0;
@@ -201,6 +202,8 @@ pub extern "C" fn composecheck_following(
         (unpacked nodes.now edges.now offsets.now texts.now) (session_of state.now).pending
         key.new }
     ensures length { result ≡ true → text_length.new ≤ 255 }
+    ensures untouched { result ≡ false → (key.new ≡ key.old) × (status.new ≡ status.old)
+        × (text.new ≡ text.old) × (text_length.new ≡ text_length.old) }
 {
     let table = LentTable::of(nodes, edges, offsets, texts, hints);
     let mut now = session(state);
@@ -222,8 +225,9 @@ pub extern "C" fn composecheck_following(
 /// the longer sequence overrides the shorter one, as in libxkbcommon.
 ///
 /// Returns 0 if the table is compiled; `sizes` is then the number of entries used in each array.
-/// Returns 1 if the sources or the header are refused, for the reason in `fault`. Returns 2 if an
-/// array is too small; `sizes` is then the number of entries needed.
+/// Returns 1 if the sources or the header are refused, for the reason in `fault`; `sizes` is not
+/// changed then. Returns 2 if an array is too small; `sizes` is then the number of entries needed.
+/// The arrays are only changed if it returns 0.
 #[unsafe(no_mangle)]
 pub extern "C" fn composecheck_compile(
     alloc: Global,
@@ -247,10 +251,17 @@ pub extern "C" fn composecheck_compile(
         (unpacked (take sizes.new.nodes nodes.new) (take sizes.new.edges edges.new)
         (take sizes.new.offsets offsets.new) (take sizes.new.texts texts.new)) }
     ensures refused { result ≡ 1 → Reports header.now bundle.now (rule_of longest) fault.new }
+    ensures fits { result ≡ 0 → Fits sizes.new (length nodes.old) (length edges.old)
+        (length offsets.old) (length texts.old) (length hints.old) }
     ensures wide { result ≡ 2 → Fits sizes.new (length nodes.old) (length edges.old)
         (length offsets.old) (length texts.old) (length hints.old) → ⊥ }
+    ensures sizes { result ≢ 1
+        → AreSizesOf (IsRead header.now bundle.now (rule_of longest)) sizes.new }
     ensures few { result ≤ 2 }
     ensures same_fault { result ≢ 1 → fault.new ≡ fault.old }
+    ensures same_sizes { result ≡ 1 → sizes.new ≡ sizes.old }
+    ensures untouched { result ≢ 0 → (nodes.new ≡ nodes.old) × (edges.new ≡ edges.old)
+        × (offsets.new ≡ offsets.old) × (texts.new ≡ texts.old) × (hints.new ≡ hints.old) }
 {
     compile(
         alloc, header, bundle, longest, nodes, edges, offsets, texts, hints, sizes, fault,
@@ -266,7 +277,7 @@ pub extern "C" fn composecheck_compile(
 /// character or no keysym has that character.
 ///
 /// Returns 0 if the table is compiled, 1 if the sources or the header are refused, for the reason
-/// in `fault`, and 2 if an array is too small.
+/// in `fault`, and 2 if an array is too small. The arrays are only changed if it returns 0.
 #[unsafe(no_mangle)]
 pub extern "C" fn composecheck_compile_with_results(
     alloc: Global,
@@ -293,11 +304,22 @@ pub extern "C" fn composecheck_compile_with_results(
         (unpacked (take sizes.new.nodes nodes.new) (take sizes.new.edges edges.new)
         (take sizes.new.offsets offsets.new) (take sizes.new.texts texts.new)) }
     ensures refused { result ≡ 1 → Reports header.now bundle.now (rule_of longest) fault.new }
+    ensures fits { result ≡ 0 → Fits sizes.new (length nodes.old) (length edges.old)
+        (length offsets.old) (length texts.old) (length hints.old) }
+    ensures results_fit { result ≡ 0 → result_count.new ≤ length results.old }
     ensures wide { result ≡ 2 → Fits sizes.new (length nodes.old) (length edges.old)
         (length offsets.old) (length texts.old) (length hints.old)
         → result_count.new ≤ length results.old → ⊥ }
+    ensures sizes { result ≢ 1
+        → AreSizesOf (IsRead header.now bundle.now (rule_of longest)) sizes.new }
+    ensures count { result ≢ 1 → result_count.new + 1 ≡ sizes.new.offsets }
     ensures few { result ≤ 2 }
     ensures same_fault { result ≢ 1 → fault.new ≡ fault.old }
+    ensures same_sizes { result ≡ 1 → sizes.new ≡ sizes.old }
+    ensures same_count { result ≡ 1 → result_count.new ≡ result_count.old }
+    ensures untouched { result ≢ 0 → (nodes.new ≡ nodes.old) × (edges.new ≡ edges.old)
+        × (offsets.new ≡ offsets.old) × (texts.new ≡ texts.old) × (hints.new ≡ hints.old) }
+    ensures untouched_results { result ≢ 0 → results.new ≡ results.old }
 {
     compile_with_results(
         alloc,
@@ -364,6 +386,8 @@ pub extern "C" fn composecheck_explain(
         (take text_length.new text.new) }
     ensures wide { result ≡ 1 → length text.old < text_length.new }
     ensures few { result ≤ 2 }
+    ensures untouched { result ≢ 0 → text.new ≡ text.old }
+    ensures same_length { result ≡ 2 → text_length.new ≡ text_length.old }
 {
     let Ok(reason) = sentence(alloc, header, bundle, longest) else {
         return 2;
@@ -423,7 +447,7 @@ pub extern "C" fn composecheck_check(
 /// if the bundle's certificate is valid for a move to it from the table in use.
 ///
 /// Returns 0 if the table is loaded, 1 if a part is refused or the certificate isn't valid, for the
-/// reason in `fault`, and 2 if an array is too small.
+/// reason in `fault`, and 2 if an array is too small. The arrays are only changed if it returns 0.
 #[unsafe(no_mangle)]
 pub extern "C" fn composecheck_load(
     alloc: Global,
@@ -459,10 +483,19 @@ pub extern "C" fn composecheck_load(
     ensures refused { result ≡ 1 → ReportsNotLoaded header.now
         (unpacked old_nodes.now old_edges.now old_offsets.now old_texts.now) repertoire.now
         bundle.now (rule_of longest) fault.new }
+    ensures fits { result ≡ 0 → Fits sizes.new (length nodes.old) (length edges.old)
+        (length offsets.old) (length texts.old) (length hints.old) }
     ensures wide { result ≡ 2 → Fits sizes.new (length nodes.old) (length edges.old)
         (length offsets.old) (length texts.old) (length hints.old) → ⊥ }
+    ensures sizes { result ≢ 1 → AreSizesOf
+        (IsLoaded header.now
+        (unpacked old_nodes.now old_edges.now old_offsets.now old_texts.now) repertoire.now bundle.now
+        (rule_of longest)) sizes.new }
     ensures few { result ≤ 2 }
     ensures same_fault { result ≢ 1 → fault.new ≡ fault.old }
+    ensures same_sizes { result ≡ 1 → sizes.new ≡ sizes.old }
+    ensures untouched { result ≢ 0 → (nodes.new ≡ nodes.old) × (edges.new ≡ edges.old)
+        × (offsets.new ≡ offsets.old) × (texts.new ≡ texts.old) × (hints.new ≡ hints.old) }
 {
     let old = LentTable::of(old_nodes, old_edges, old_offsets, old_texts, old_hints);
     load(
@@ -512,6 +545,7 @@ pub extern "C" fn composecheck_characters(
     ensures refused { result ≡ 1 → ReportsNames header.now fault.new }
     ensures wide { result ≡ 2 → length target.old < length keysyms.now }
     ensures few { result ≤ 2 }
+    ensures untouched { result ≢ 0 → target.new ≡ target.old }
     ensures same_fault { result ≢ 1 → fault.new ≡ fault.old }
 {
     characters(alloc, header, keysyms, target, fault)
@@ -528,7 +562,11 @@ pub extern "C" fn composecheck_include(line: &[u8], name: &mut [u8], name_length
     ensures none { result ≡ 0 → IncludesNone line.now }
     ensures some { result ≡ 1 → IsInclude line.now (take name_length.new name.new) }
     ensures wide { result ≡ 2 → length name.old < name_length.new }
+    ensures needed { result ≡ 2 → (raw : List ℕ) × IsInclude line.now raw
+        × (length raw ≡ name_length.new) }
     ensures few { result ≤ 2 }
+    ensures untouched { result ≢ 1 → name.new ≡ name.old }
+    ensures same_length { result ≡ 0 → name_length.new ≡ name_length.old }
 {
     match include(line) {
         Some(raw) => {
@@ -588,6 +626,8 @@ pub extern "C" fn composecheck_find(
         (search_of answers.now root.now system.now locale.now home.now sysroot.now)
         (take target_length.new target.new) }
     ensures few { result ≤ 3 }
+    ensures untouched { result ≢ 0 → result ≢ 3 → target.new ≡ target.old }
+    ensures same_length { result ≡ 1 → target_length.new ≡ target_length.old }
     ensures same_fault { result ≢ 1 → fault.new ≡ fault.old }
 {
     find(
@@ -633,6 +673,7 @@ pub extern "C" fn composecheck_locale_file(
         → option_map length (locale_path folder.now compose_dir.now aliases.now locale.now)
         ≡ Some path_length.new }
     ensures few { result ≤ 3 }
+    ensures untouched { result ≢ 1 → path.new ≡ path.old }
 {
     let Ok(found) = locale_file(alloc, folder, compose_dir, aliases, locale) else {
         return 3;

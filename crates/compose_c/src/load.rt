@@ -1,7 +1,7 @@
 //! Loading: a certificate is checked, and a table is loaded only with a valid one.
 ghost use Rattle.std.specs.Prelude.{◌≡◌, ◌≢◌, ◌≤◌, true, false, length, take, MatchResult};
 ghost use Rattle.compose_tree.specs.Packed.{IsPacked, unpacked};
-ghost use Rattle.compose_c.specs.Compiled.{Fits, rule_of};
+ghost use Rattle.compose_c.specs.Compiled.{AreSizesOf, Fits, rule_of};
 ghost use Rattle.compose_c.specs.Loads.{IsCertified, IsUncertified, ReportsUncertified, IsLoaded, IsNotLoaded, ReportsNotLoaded, Meets, Misses};
 
 use crate::compile::{Sizes, put_table, rule};
@@ -140,10 +140,19 @@ pub fn load<T: ComposeTable>(
         (take sizes.new.offsets offsets.new) (take sizes.new.texts texts.new)) }
     ensures refused { result ≡ 1 → ReportsNotLoaded header.now (T.definitions old.now)
         repertoire.now bundle.now (rule_of longest) fault.new }
+    ensures fits { result ≡ 0 → Fits sizes.new (length nodes.old) (length edges.old)
+        (length offsets.old) (length texts.old) (length hints.old) }
     ensures wide { result ≡ 2 → Fits sizes.new (length nodes.old) (length edges.old)
         (length offsets.old) (length texts.old) (length hints.old) → ⊥ }
+    ensures sizes { result ≢ 1 → AreSizesOf
+        (IsLoaded header.now
+        (T.definitions old.now) repertoire.now bundle.now
+        (rule_of longest)) sizes.new }
     ensures few { result ≤ 2 }
     ensures same_fault { result ≢ 1 → fault.new ≡ fault.old }
+    ensures same_sizes { result ≡ 1 → sizes.new ≡ sizes.old }
+    ensures untouched { result ≢ 0 → (nodes.new ≡ nodes.old) × (edges.new ≡ edges.old)
+        × (offsets.new ≡ offsets.old) × (texts.new ≡ texts.old) × (hints.new ≡ hints.old) }
 {
     match read(alloc, header, old, repertoire, bundle, longest) {
         Ok(table) => {

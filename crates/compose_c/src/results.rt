@@ -1,14 +1,14 @@
 //! Result keysyms: they are read with a table, and found by the keys that complete a sequence.
-ghost use Rattle.std.specs.Prelude.{◌≡◌, ◌≢◌, ◌≤◌, ◌<◌, true, false, length, take, slice_get, unwrap_or, MatchResult};
+ghost use Rattle.std.specs.Prelude.{◌≡◌, ◌≢◌, ◌≤◌, ◌<◌, ◌+◌, true, false, length, take, slice_get, unwrap_or, MatchResult};
 ghost use Rattle.compose_model.specs.Nodes as words;
 ghost use Rattle.compose_model.specs.Nodes.{nodes};
 ghost use Rattle.compose_tree.specs.Packed.{IsPacked, unpacked};
 ghost use Rattle.compose_tree.specs.Targets.{target_of};
-ghost use Rattle.compose_c.specs.Compiled.{IsReadWithResults, Fits, rule_of};
+ghost use Rattle.compose_c.specs.Compiled.{IsRead, IsReadWithResults, AreSizes, AreSizesOf, Fits, rule_of};
 ghost use Rattle.compose_c.specs.Faults.{IsRefused, Reports};
 ghost use Rattle.compose_c.specs.Results.{result_at};
 
-use crate::compile::{Sizes, put_table, rule};
+use crate::compile::{Sizes, measure, put_table, rule};
 use crate::copies::put_numbers;
 use crate::fault::{FaultRecord, LoadRefusal, column_of, fault_of};
 use crate::following::node_of;
@@ -68,19 +68,30 @@ pub fn compile_with_results(
         (unpacked (take sizes.new.nodes nodes.new) (take sizes.new.edges edges.new)
         (take sizes.new.offsets offsets.new) (take sizes.new.texts texts.new)) }
     ensures refused { result ≡ 1 → Reports header.now bundle.now (rule_of longest) fault.new }
+    ensures fits { result ≡ 0 → Fits sizes.new (length nodes.old) (length edges.old)
+        (length offsets.old) (length texts.old) (length hints.old) }
+    ensures results_fit { result ≡ 0 → result_count.new ≤ length results.old }
     ensures wide { result ≡ 2 → Fits sizes.new (length nodes.old) (length edges.old)
         (length offsets.old) (length texts.old) (length hints.old)
         → result_count.new ≤ length results.old → ⊥ }
+    ensures sizes { result ≢ 1
+        → AreSizesOf (IsRead header.now bundle.now (rule_of longest)) sizes.new }
+    ensures count { result ≢ 1 → result_count.new + 1 ≡ sizes.new.offsets }
     ensures few { result ≤ 2 }
     ensures same_fault { result ≢ 1 → fault.new ≡ fault.old }
+    ensures same_sizes { result ≡ 1 → sizes.new ≡ sizes.old }
+    ensures same_count { result ≡ 1 → result_count.new ≡ result_count.old }
+    ensures untouched { result ≢ 0 → (nodes.new ≡ nodes.old) × (edges.new ≡ edges.old)
+        × (offsets.new ≡ offsets.old) × (texts.new ≡ texts.old) × (hints.new ≡ hints.old) }
+    ensures untouched_results { result ≢ 0 → results.new ≡ results.old }
 {
     match read(alloc, header, bundle, longest) {
         Ok(read) => {
-            let placed = put_results(&read.results, results, result_count);
-            if !put_table(&read.table, nodes, edges, offsets, texts, hints, sizes) {
-                return 2;
+            *result_count = read.results.len();
+            if put_read(&read, nodes, edges, offsets, texts, hints, results, sizes) {
+                return 0;
             }
-            if placed { 0 } else { 2 }
+            2
         }
         Err(refusal) => {
             *fault = fault_of(&refusal);
@@ -89,17 +100,45 @@ pub fn compile_with_results(
     }
 }
 
-/// Puts the result keysyms into the caller's array, and their number into `count`. Returns false if
-/// they don't fit; then only `count` is changed.
-fn put_results(found: &[Keysym], results: &mut [u32], count: &mut usize) -> bool
-    ensures same { result ≡ true → take count.new results.new ≡ found.now }
-    ensures wide { result ≡ false → count.new ≤ length results.old → ⊥ }
+/// Puts the arrays of the table and its result keysyms into the caller's, and the number of entries
+/// of each array into `sizes`. Returns false if they don't fit; then only `sizes` is changed.
+fn put_read(
+    read: &ResultTable<PackedTable>,
+    nodes: &mut [PackedNode],
+    edges: &mut [PackedEdge],
+    offsets: &mut [u32],
+    texts: &mut [u8],
+    hints: &mut [u8],
+    results: &mut [u32],
+    sizes: &mut Sizes,
+) -> bool
+    ensures same { result ≡ true → unpacked (take sizes.new.nodes nodes.new)
+        (take sizes.new.edges edges.new) (take sizes.new.offsets offsets.new)
+        (take sizes.new.texts texts.new) ≡ read.now.table }
+    ensures packed { result ≡ true → IsPacked (take sizes.new.nodes nodes.new)
+        (take sizes.new.edges edges.new) (take sizes.new.offsets offsets.new)
+        (take sizes.new.texts texts.new) read.now.table }
+    ensures results { result ≡ true
+        → take (length read.now.results.items) results.new ≡ read.now.results.items }
+    ensures fits { result ≡ true → Fits sizes.new (length nodes.old) (length edges.old)
+        (length offsets.old) (length texts.old) (length hints.old) }
+    ensures results_fit { result ≡ true → length read.now.results.items ≤ length results.old }
+    ensures wide { result ≡ false → Fits sizes.new (length nodes.old) (length edges.old)
+        (length offsets.old) (length texts.old) (length hints.old)
+        → length read.now.results.items ≤ length results.old → ⊥ }
+    ensures sizes { AreSizes read.now.table sizes.new }
+    ensures untouched { result ≡ false → (nodes.new ≡ nodes.old) × (edges.new ≡ edges.old)
+        × (offsets.new ≡ offsets.old) × (texts.new ≡ texts.old) × (hints.new ≡ hints.old) }
+    ensures untouched_results { result ≡ false → results.new ≡ results.old }
 {
-    *count = found.len();
-    if found.len() > results.len() {
+    if read.results.len() > results.len() {
+        measure(&read.table, sizes);
         return false;
     }
-    put_numbers(found, results);
+    if !put_table(&read.table, nodes, edges, offsets, texts, hints, sizes) {
+        return false;
+    }
+    put_numbers(&read.results, results);
     true
 }
 

@@ -1,2 +1,3 @@
 pub mod Results
 pub mod SourceLines
+pub mod Names

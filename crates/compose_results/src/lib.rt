@@ -12,6 +12,7 @@
 #![tactic(auto)]
 
 mod lines;
+mod name;
 mod named;
 mod results;
 

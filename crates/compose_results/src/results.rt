@@ -1,5 +1,6 @@
 //! The result keysym of each leaf.
-ghost use Rattle.std.specs.Prelude.{◌≡◌, ◌<◌, List, [], length, unwrap_or, IfOk};
+ghost use Rattle.std.specs.Prelude.{◌≡◌, ◌<◌, List, [], length, true, unwrap_or, IfOk};
+ghost use Rattle.std.specs.List.{All};
 ghost use Rattle.compose_model.specs.Nodes.{leaves};
 ghost use Rattle.compose_read.specs.Lines.{Source};
 ghost use Rattle.compose_tree.specs.TableReturns.{TableReturns, first_table, table_of};
@@ -7,6 +8,7 @@ ghost use Rattle.compose_tree.specs.Targets.{leaf_text};
 ghost use Rattle.compose_results.specs.Results as words;
 ghost use Rattle.compose_results.specs.Results.{IsResult, AreResults, AreFirstResults, counting_lines};
 ghost use Rattle.compose_results.specs.SourceLines as words_of_all;
+ghost use Rattle.compose_results.specs.SourceLines.{stands};
 
 use crate::lines::{SourceLines, all_lines};
 use crate::named::named_at;
@@ -27,14 +29,15 @@ pub struct ResultTable<T: ComposeTable> {
     pub results: Vec<Keysym>,
 }
 
-/// Returns the keysym that the line names, if there is a line and it names one. O(bytes of the
-/// line).
+/// Returns the keysym that the line names, if there is a line and it names one; it is a definition.
+/// O(bytes of the line).
 fn named_by(
     names: &Names,
     all: &[SourceLines<'_>],
     line: &Option<CountingLine<'_>>,
 ) -> Option<Keysym>
     ensures { (sources : List Source) → all.now ≡ words_of_all.all_lines sources
+        → stands sources line.now ≡ true
         → result ≡ words.named_by names.now sources line.now }
 {
     match line {
@@ -67,6 +70,7 @@ fn leaf_result<T: ComposeTable>(
 ) -> Keysym
     requires { leaf.0 < length (leaves (T.definitions table.now)) }
     ensures { (sources : List Source) → all.now ≡ words_of_all.all_lines sources
+        → stands sources line.now ≡ true
         → IsResult names.now (words.named_by names.now sources line.now)
         (unwrap_or (leaf_text (T.definitions table.now) leaf.0) []) result }
 {
@@ -83,7 +87,8 @@ fn results_of<T: ComposeTable>(
     table: &T,
     lines: &[Option<CountingLine<'_>>],
 ) -> Result<Vec<Keysym>, AllocError>
-    requires { length lines.now ≡ length (leaves (T.definitions table.now)) }
+    requires as_many { length lines.now ≡ length (leaves (T.definitions table.now)) }
+    requires stand { All (λ line. stands sources.now line ≡ true) lines.now }
     ensures { IfOk result
         (λ results. AreResults names.now sources.now lines.now (T.definitions table.now)
         results.items) }
