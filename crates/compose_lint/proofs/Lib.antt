@@ -1,4 +1,6 @@
 pub mod Given
+pub mod OneWritten
+pub mod PlainText
 pub mod NextLine
 pub mod OneMore
 pub mod LastOnes
@@ -11,6 +13,8 @@ pub mod Tallies
 pub mod MoreVisits
 pub mod Among
 pub mod LineBytes
+pub mod NoFaults
+pub mod LaterSource
 pub mod AcceptAgain
 pub mod NothingAccepted
 pub mod ByNames

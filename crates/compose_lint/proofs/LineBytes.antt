@@ -1,5 +1,5 @@
 -- The bytes of a line are those in the lines of its file.
-use Rattle.std.proofs.Common.{◌≡◌, ◌∙◌, ℕ, zero, suc, ◌+◌, ◌-◌, Bool, List, [], ◌∷◌, map, refl, sym, ap, get_or, arith}
+use Rattle.std.proofs.Common.{◌≡◌, ◌∙◌, ℕ, zero, suc, ◌+◌, ◌-◌, Bool, List, [], ◌∷◌, ◌++◌, map, flat_map, refl, sym, ap, ap₂, get_or, arith}
 use Rattle.std.specs.Prelude.{Option, Some, None, slice_get}
 use Rattle.std.specs.Option.{option_map, option_map_or}
 use Rattle.keysym_core.specs.Names.{KeysymNames}
@@ -7,8 +7,12 @@ use Rattle.compose_read.specs.Lines.{Source, numbered, source_lines}
 use Rattle.compose_read.specs.declared.ReadFault.{ReadFault}
 use Rattle.compose_messages.specs.Places.{line_at}
 use Rattle.compose_lint.specs.Lines.{LintLine, SourceLines, lint_line, lint_source, sources_from, all_sources}
-use Rattle.compose_lint.specs.Rows.{Table, bytes_in, row_in, row_of}
+use Rattle.compose_lint.specs.Answers.{table_given}
+use Rattle.compose_lint.specs.Findings.{findings}
+use Rattle.compose_lint.specs.Rows.{Table, bytes_in, found_in, found_row, linted, linted_rows, row_of, table_faults, table_rows}
+use Rattle.compose_lint.specs.declared.asking.LintTable.{LintTable}
 use Rattle.compose_lint.specs.declared.finding.Finding.{Finding}
+use Rattle.compose_lint.specs.declared.reader.Readers.{Readers}
 
 abbrev nothing : Source
 nothing = record { name = []; bytes = [] }
@@ -46,10 +50,19 @@ same_bytes names sources is_all f =
     by None none = sym (ap (λ (s : Source). get_or (source_lines s.bytes) (f.line - 1) []) (absent sources f.source none))
     by (Some s) some = numbered_at names sources f.source 0 1 (source_lines (get_or sources f.source nothing).bytes) (f.line - 1)
 
--- findings with the data of their table
-pub same_rows : (names : KeysymNames) (is_all : Bool) (t : Table) (faults : List ReadFault) (found : List Finding) → map (row_in t faults (all_sources names t.sources is_all)) found ≡ map (row_of t faults) found
+-- findings with the bytes of their lines, and then with the data of their table
+same_rows : (names : KeysymNames) (is_all : Bool) (t : Table) (faults : List ReadFault) (found : List Finding)
+    → map (found_row t faults) (map (found_in (all_sources names t.sources is_all)) found) ≡ map (row_of t faults) found
 same_rows names is_all t faults [] = refl
 same_rows names is_all t faults (f ∷ found) =
-    ap (λ bytes. record { sources = t.sources; paths = t.paths; faults = faults; finding = f; bytes = bytes } ∷ map (row_in t faults (all_sources names t.sources is_all)) found)
+    ap (λ bytes. record { sources = t.sources; paths = t.paths; faults = faults; finding = f; bytes = bytes } ∷ map (found_row t faults) (map (found_in (all_sources names t.sources is_all)) found))
     (same_bytes names t.sources is_all f)
     ∙ ap (λ rows. row_of t faults f ∷ rows) (same_rows names is_all t faults found)
+
+-- the findings in tables
+pub rows_are : (names : KeysymNames) (readers : Readers) (is_all : Bool) (tables : List LintTable)
+    → flat_map linted_rows (map (λ t. linted names readers is_all (table_given t)) tables) ≡ flat_map (table_rows names readers is_all) (map table_given tables)
+rows_are names readers is_all [] = refl
+rows_are names readers is_all (t ∷ tables) =
+    let given = table_given t in
+    ap₂ (λ rows more. rows ++ more) (same_rows names is_all given (table_faults names given) (findings names readers is_all (table_faults names given) given.sources)) (rows_are names readers is_all tables)

@@ -65,6 +65,10 @@ comment_of line = comment_beside line (written_of line)
 
 -- ---- definitions for private functions
 
+-- a production with these keys
+abbrev pub production_with : List (List ℕ) → Written → Production
+production_with events w = record { events = events; written = w }
+
 -- the keysym of a key, if it is known and not ignored
 abbrev pub fed_keysym : KeysymNames → List ℕ → Option ℕ
 fed_keysym names event = option_and_then (λ k. if is_ignored k then None else Some k) (value names event)

@@ -8,7 +8,7 @@ use Rattle.compose_read.specs.declared.ReadFault.{ReadFault}
 use Rattle.compose_read.specs.declared.ReadFault.TheVariants.{MissingInclude, IncludeDepth}
 use Rattle.compose_messages.specs.Places.{line_at}
 use Rattle.compose_lint.specs.Findings.{findings}
-use Rattle.compose_lint.specs.Lines.{LintLine, SourceLines}
+use Rattle.compose_lint.specs.Lines.{LintLine, SourceLines, all_sources}
 use Rattle.compose_lint.specs.declared.finding.Finding.{Finding}
 use Rattle.compose_lint.specs.declared.reader.Readers.{Readers}
 
@@ -66,20 +66,33 @@ rows_in names readers is_all tables = flat_map (table_rows names readers is_all)
 
 -- ---- definitions for private functions
 
--- a table, and its first faults
-pub record FaultyTable : Type 0 where
-  pub table : Table
-  pub faults : List ReadFault
-
-abbrev pub with_faults : KeysymNames → Table → FaultyTable
-with_faults names t = record { table = t; faults = table_faults names t }
-
-abbrev pub faulty_rows : KeysymNames → Readers → Bool → FaultyTable → List Row
-faulty_rows names readers is_all t = rows_by names readers is_all t.table t.faults
-
 -- the bytes of the line of the finding in these files
 abbrev pub bytes_in : List SourceLines → Finding → List ℕ
 bytes_in files f = option_map_or (λ (file : SourceLines). option_map_or (λ (l : LintLine). l.bytes) (slice_get file.lines (f.line - 1)) []) (slice_get files f.source) []
 
-abbrev pub row_in : Table → List ReadFault → List SourceLines → Finding → Row
-row_in t faults files f = record { sources = t.sources; paths = t.paths; faults = faults; finding = f; bytes = bytes_in files f }
+-- a finding, and the bytes of its line
+pub record Found : Type 0 where
+  pub finding : Finding
+  pub bytes : List ℕ
+
+abbrev pub found_in : List SourceLines → Finding → Found
+found_in files f = record { finding = f; bytes = bytes_in files f }
+
+-- a table, its first faults, and the findings in it
+pub record LintedTable : Type 0 where
+  pub table : Table
+  pub faults : List ReadFault
+  pub found : List Found
+
+abbrev pub linted : KeysymNames → Readers → Bool → Table → LintedTable
+linted names readers is_all t = record {
+  table = t;
+  faults = table_faults names t;
+  found = map (found_in (all_sources names t.sources is_all)) (findings names readers is_all (table_faults names t) t.sources);
+}
+
+abbrev pub found_row : Table → List ReadFault → Found → Row
+found_row t faults f = record { sources = t.sources; paths = t.paths; faults = faults; finding = f.finding; bytes = f.bytes }
+
+abbrev pub linted_rows : LintedTable → List Row
+linted_rows t = map (found_row t.table t.faults) t.found

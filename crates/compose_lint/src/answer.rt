@@ -7,7 +7,7 @@ use crate::accepted::{accept_text, left_by};
 use crate::asking::{LintFault, LintForm, LintInput};
 use crate::json::json_answer;
 use crate::report::rows_text;
-use crate::row::{Row, rows_in, with_faults};
+use crate::row::{Row, linted_tables, rows_in};
 use compose_answer::{Answer, Refusal};
 use keysym_core::{NameFault, Names};
 use std::alloc::{AllocError, Global};
@@ -34,8 +34,9 @@ pub fn lint_tables(alloc: Global, input: &LintInput<'_>) -> Result<Answer, LintF
 fn answer_by(alloc: Global, names: &Names, input: &LintInput<'_>) -> Result<Answer, LintFault>
     ensures { AnswersBy (asked input.entry.now) names.now result }
 {
-    let tables = with_faults(alloc, names, input.tables)?;
-    let rows = rows_in(alloc, names, input.readers, input.is_all, &tables)?;
+    let (readers, is_all) = (input.readers, input.is_all);
+    let tables = linted_tables(alloc, names, readers, is_all, input.tables)?;
+    let rows = rows_in(alloc, &tables)?;
     answer_on(alloc, input, &rows)
 }
 

@@ -8,21 +8,21 @@ use crate::definition::LineDefinition;
 use crate::production::Written;
 
 /// Returns whether the sequence has ten keysyms or more. O(1).
-pub(crate) fn has_ten_keysyms(definition: &LineDefinition) -> bool
+pub(crate) fn has_ten_keysyms(definition: &LineDefinition<'_>) -> bool
     ensures { result ≡ words.has_ten_keysyms definition.now }
 {
     definition.sequence().len() >= 10
 }
 
 /// Returns whether the sequence has eleven keysyms or more. O(1).
-pub(crate) fn has_eleven_keysyms(definition: &LineDefinition) -> bool
+pub(crate) fn has_eleven_keysyms(definition: &LineDefinition<'_>) -> bool
     ensures { result ≡ words.has_eleven_keysyms definition.now }
 {
     definition.sequence().len() >= 11
 }
 
 /// Returns whether the keysym 0 is in the sequence. O(keysyms).
-pub(crate) fn has_no_symbol(definition: &LineDefinition) -> bool
+pub(crate) fn has_no_symbol(definition: &LineDefinition<'_>) -> bool
     ensures { result ≡ words.has_no_symbol definition.now }
 {
     definition
@@ -32,21 +32,21 @@ pub(crate) fn has_no_symbol(definition: &LineDefinition) -> bool
 }
 
 /// Returns whether the text has 255 bytes. O(1).
-pub(crate) fn has_longest_text(definition: &LineDefinition) -> bool
+pub(crate) fn has_longest_text(definition: &LineDefinition<'_>) -> bool
     ensures { result ≡ words.has_longest_text definition.now }
 {
     definition.text().len() >= 255
 }
 
 /// Returns whether the text has a byte 0. O(bytes).
-pub(crate) fn has_nul(definition: &LineDefinition) -> bool
+pub(crate) fn has_nul(definition: &LineDefinition<'_>) -> bool
     ensures { result ≡ words.has_nul definition.now }
 {
     definition.text().as_bytes().iter().any(|byte| *byte == 0)
 }
 
 /// Returns whether a keysym above 0xffff is in the sequence. O(keysyms).
-pub(crate) fn has_wide_keysym(definition: &LineDefinition) -> bool
+pub(crate) fn has_wide_keysym(definition: &LineDefinition<'_>) -> bool
     ensures { result ≡ words.has_wide_keysym definition.now }
 {
     definition

@@ -6,6 +6,8 @@ ghost use Rattle.compose_read.specs.Visits.{visit_of};
 ghost use Rattle.compose_lint.specs.Lines.{included_lines, lint_line};
 
 use crate::lines::{LintLine, line_read};
+use crate::production::Events;
+use arrayvec::ArrayVec;
 use compose_read::{Sources, VisitedLine, Visits};
 use keysym_core::Names;
 use std::alloc::{AllocError, Global};
@@ -46,6 +48,7 @@ fn others_in<'a>(
         (filter (λ v. not (v.source == source)) (take max_lines visits.entry))) }
 {
     let mut others = Vec::new(alloc);
+    let mut events = ArrayVec::new();
     let mut lines = 0;
     while lines < MAX_LINES {
         let Some(line) = visits.next() else {
@@ -53,20 +56,22 @@ fn others_in<'a>(
         };
         lines += 1;
         if line.source != source {
-            others.push(visited_line(alloc, names, sources, line)?)?;
+            others.push(visited_line(alloc, names, sources, line, &mut events)?)?;
         }
     }
     Ok(others)
 }
 
-/// Returns the line with its definition and its comment. O(bytes).
+/// Returns the line with its definition and its comment. The names of its keys are left in the list.
+/// O(bytes).
 fn visited_line<'a>(
     alloc: Global,
     names: &Names,
     _sources: &'a Sources,
     line: VisitedLine<'a>,
+    events: &mut Events<'a>,
 ) -> Result<LintLine<'a>, AllocError>
     ensures { IfOk result (λ l. l ≡ lint_line names.now _sources.now (visit_of line.entry)) }
 {
-    line_read(alloc, names, line.source, line.line, line.bytes)
+    line_read(alloc, names, line.source, line.line, line.bytes, events)
 }

@@ -66,7 +66,7 @@ fn push_defined_again(
     last: &LastLines<'_>,
     is_once: bool,
     line: &LintLine<'_>,
-    definition: &LineDefinition,
+    definition: &LineDefinition<'_>,
 ) -> Result<(), AllocError>
     requires last { (q : Bor (List ℕ))
         → option_and_then (slice_get lines.now) (get_by (λ k. bytes_eq q.now k.now) last.now)
@@ -104,7 +104,7 @@ fn counting_line<'b, 'a>(
 fn push_beside(
     kinds: &mut Vec<FindingKind>,
     line: &LintLine<'_>,
-    definition: &LineDefinition,
+    definition: &LineDefinition<'_>,
     counting: &LintLine<'_>,
 ) -> Result<(), AllocError>
     ensures { OnOk result
@@ -128,7 +128,7 @@ fn push_text_kinds(
     names: &Names,
     kinds: &mut Vec<FindingKind>,
     written: &Written<'_>,
-    definition: &LineDefinition,
+    definition: &LineDefinition<'_>,
 ) -> Result<(), AllocError>
     ensures { OnOk result
         (kinds.new.items
@@ -143,7 +143,7 @@ fn push_text_kinds(
 fn push_libx11_kinds(
     kinds: &mut Vec<FindingKind>,
     readers: Readers,
-    definition: &LineDefinition,
+    definition: &LineDefinition<'_>,
 ) -> Result<(), AllocError>
     ensures { OnOk result
         (kinds.new.items ≡ kinds.old.items ++ words.libx11_kinds readers definition.now) }
@@ -162,7 +162,7 @@ fn push_libxkbcommon_kinds(
     kinds: &mut Vec<FindingKind>,
     readers: Readers,
     written: &Written<'_>,
-    definition: &LineDefinition,
+    definition: &LineDefinition<'_>,
 ) -> Result<(), AllocError>
     ensures { OnOk result
         (kinds.new.items
@@ -193,7 +193,7 @@ fn push_gtk_kinds(
     kinds: &mut Vec<FindingKind>,
     readers: Readers,
     written: &Written<'_>,
-    definition: &LineDefinition,
+    definition: &LineDefinition<'_>,
 ) -> Result<(), AllocError>
     ensures { OnOk result
         (kinds.new.items
@@ -309,7 +309,7 @@ fn push_kinds_of(
     is_once: bool,
     line: &LintLine<'_>,
     written: &Written<'_>,
-    definition: &LineDefinition,
+    definition: &LineDefinition<'_>,
 ) -> Result<(), AllocError>
     requires last { (q : Bor (List ℕ))
         → option_and_then (slice_get file.lines.now) (get_by (λ k. bytes_eq q.now k.now) last.now)
@@ -492,7 +492,7 @@ fn push_redundant_kinds(
 /// Adds `Redundant` if this line of an included file has the same text.
 fn push_again(
     kinds: &mut Vec<FindingKind>,
-    definition: &LineDefinition,
+    definition: &LineDefinition<'_>,
     counting: &LintLine<'_>,
 ) -> Result<(), AllocError>
     ensures { OnOk result

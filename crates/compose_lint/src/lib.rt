@@ -17,6 +17,7 @@ mod comments;
 mod commonest;
 mod counting;
 mod definition;
+mod faultless;
 mod faults;
 mod file_lines;
 mod finding;

@@ -1,13 +1,13 @@
 //! The lines of a source, and their definitions.
-ghost use Rattle.std.specs.Prelude.{◌≡◌, ◌<◌, length, map, IfOk, option_copied};
-ghost use Rattle.std.specs.Option.{option_map};
+ghost use Rattle.std.specs.Prelude.{◌≡◌, ◌<◌, length, IfOk};
 ghost use Rattle.compose_read.specs.Lines.{own_lines, without_mark};
 ghost use Rattle.compose_lint.specs.Lines.{line_read, lines_in};
 
 use crate::comment::comment_beside;
 use crate::definition::{LineDefinition, line_definition};
 use crate::finding::LinePlace;
-use crate::production::{Production, Written, production_of};
+use crate::production::{Events, Written, written_on};
+use arrayvec::ArrayVec;
 use compose_read::Sources;
 use compose_text::first_line;
 use keysym_core::Names;
@@ -26,7 +26,7 @@ pub(crate) struct LintLine<'a> {
     /// Its string and result name, if it is a production.
     pub(crate) written: Option<Written<'a>>,
     /// Its definition.
-    pub(crate) definition: Option<LineDefinition>,
+    pub(crate) definition: Option<LineDefinition<'a>>,
     /// The comment after its string.
     pub(crate) comment: Option<&'a str>,
 }
@@ -52,7 +52,7 @@ impl<'a> LintLine<'a> {
     ghost use Rattle.compose_lint.specs.Longer.{place_of};
 
     /// Returns its definition, if it has one.
-    pub(crate) fn definition(&self) -> Option<&LineDefinition>
+    pub(crate) fn definition(&self) -> Option<&LineDefinition<'a>>
         ensures { option_copied result ≡ self.now.definition }
     {
         self.definition.as_ref()
@@ -115,30 +115,32 @@ pub(crate) fn lines_in<'a>(
     ensures { IfOk result (λ lines. lines.items ≡ lines_in names.now sources.now source) }
 {
     let mut lines = Vec::new(alloc);
+    let mut events = ArrayVec::new();
     let mut rest = without_mark(sources.bytes(source));
     let mut line = 0;
     while let Some((bytes, behind)) = first_line(rest) {
         line += 1;
         rest = behind;
-        let read = line_read(alloc, names, source, line, bytes)?;
+        let read = line_read(alloc, names, source, line, bytes, &mut events)?;
         lines.push(read)?;
     }
     Ok(lines)
 }
 
-/// Returns the line with these bytes and this number in the source with this index. O(bytes).
+/// Returns the line with these bytes and this number in the source with this index. The names of
+/// its keys are left in the list. O(bytes).
 pub(crate) fn line_read<'a>(
     alloc: Global,
     names: &Names,
     source: usize,
     line: usize,
     bytes: &'a [u8],
+    events: &mut Events<'a>,
 ) -> Result<LintLine<'a>, AllocError>
     ensures { IfOk result (λ l. l ≡ line_read names.now source line bytes.now) }
 {
-    let production = production_of(bytes);
-    let definition = line_definition(alloc, names, production.as_ref())?;
-    let written = written_in(production.as_ref());
+    let written = written_on(bytes, events);
+    let definition = line_definition(alloc, names, events.as_slice(), written.as_ref())?;
     let comment = comment_beside(bytes, written.as_ref());
     Ok(LintLine {
         source,
@@ -148,19 +150,6 @@ pub(crate) fn line_read<'a>(
         definition,
         comment,
     })
-}
-
-/// Returns the string and the result name of a production.
-fn written_in<'a>(production: Option<&Production<'a>>) -> Option<Written<'a>>
-    ensures { result ≡ option_map (λ p. p.written) (option_copied production.entry) }
-{
-    match production {
-        Some(production) => Some(Written {
-            raw_text: production.written.raw_text,
-            result_name: production.written.result_name,
-        }),
-        None => None,
-    }
 }
 
 /// Returns the bytes without the UTF-8 byte order mark at their beginning.

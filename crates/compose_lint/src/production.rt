@@ -1,10 +1,14 @@
 //! The parts of a production.
-ghost use Rattle.std.specs.Prelude.{◌≡◌};
-ghost use Rattle.compose_lint.specs.Productions.{production_of};
+ghost use Rattle.std.specs.Prelude.{◌≡◌, map};
+ghost use Rattle.std.specs.Option.{option_map};
+ghost use Rattle.compose_lint.specs.Productions as words;
 
 use arrayvec::ArrayVec;
 use compose_lex::{LineContent, lex_line_into};
 use std::marker::Model;
+
+/// The names of the keys of a line, at most 32. One list serves every line of a file.
+pub(crate) type Events<'a> = ArrayVec<&'a str, 32>;
 
 /// The right-hand side of a production: what is between the quotes of its string, and the name of
 /// its result keysym.
@@ -29,7 +33,7 @@ impl<'a> Model for Written<'a> {
 /// A production: the names of its keys, and its string and result name.
 #[derive(Drop)]
 pub(crate) struct Production<'a> {
-    pub(crate) events: ArrayVec<&'a str, 32>,
+    pub(crate) events: Events<'a>,
     pub(crate) written: Written<'a>,
 }
 
@@ -63,27 +67,34 @@ impl<'a> Written<'a> {
     }
 }
 
-/// Returns the production on the line, if it is one. O(bytes).
-pub(crate) fn production_of(line: &[u8]) -> Option<Production<'_>>
-    ensures { result ≡ production_of line.now }
+/// Returns the string and the result name of the production on the line, if it is one. The names of
+/// its keys are left in the list. O(bytes).
+pub(crate) fn written_on<'a>(line: &'a [u8], events: &mut Events<'a>) -> Option<Written<'a>>
+    ensures { option_map (words.production_with (map (λ e. e.now) events.new.items)) result
+        ≡ words.production_of line.now }
 {
     let Ok(text) = str::from_utf8(line) else {
         return None;
     };
-    let mut events = ArrayVec::new();
-    match lex_line_into(text, &mut events) {
+    match lex_line_into(text, events) {
         Ok(
             LineContent::Production {
                 raw_text,
                 result_name,
             },
-        ) => Some(Production {
-            events,
-            written: Written {
-                raw_text,
-                result_name,
-            },
+        ) => Some(Written {
+            raw_text,
+            result_name,
         }),
         _ => None,
     }
+}
+
+/// Returns the production on the line, if it is one. O(bytes).
+pub(crate) fn production_of(line: &[u8]) -> Option<Production<'_>>
+    ensures { result ≡ words.production_of line.now }
+{
+    let mut events = ArrayVec::new();
+    let written = written_on(line, &mut events)?;
+    Some(Production { events, written })
 }

@@ -1,11 +1,11 @@
 //! The findings in tables, each with the table's data that its row needs.
-ghost use Rattle.std.specs.Prelude.{◌≡◌, map, flat_map, IfOk};
-ghost use Rattle.compose_messages.specs.Places.{line_at};
+ghost use Rattle.std.specs.Prelude.{◌≡◌, ◌++◌, map, flat_map, IfOk, OnOk};
 ghost use Rattle.compose_lint.specs.Answers.{table_given};
 ghost use Rattle.compose_lint.specs.Lines.{all_sources};
 ghost use Rattle.compose_lint.specs.Rows as words;
 
 use crate::asking::LintTable;
+use crate::faultless::is_surely_faultless;
 use crate::finding::Finding;
 use crate::lint::findings_of;
 use crate::reader::Readers;
@@ -74,52 +74,99 @@ impl<'a> Row<'a> {
     }
 }
 
-/// A table, and its first faults.
+/// A finding, and the bytes of its line.
 #[derive(Drop)]
-pub(crate) struct FaultyTable<'a> {
-    table: LintTable<'a>,
-    faults: Vec<ReadFault>,
+struct Found<'a> {
+    finding: Finding,
+    bytes: &'a [u8],
 }
 
-impl<'a> Model for FaultyTable<'a> {
+impl<'a> Model for Found<'a> {
+    ghost use Rattle.compose_lint.specs.Rows as words;
+
+    ghost Value = { words.Found };
+
+    ghost view = { λ f. record { finding = f.finding; bytes = f.bytes.now } };
+}
+
+/// A table, its first faults, and the findings in it.
+#[derive(Drop)]
+pub(crate) struct LintedTable<'a> {
+    table: LintTable<'a>,
+    faults: Vec<ReadFault>,
+    found: Vec<Found<'a>>,
+}
+
+impl<'a> Model for LintedTable<'a> {
     ghost use Rattle.compose_lint.specs.Answers.{table_given};
     ghost use Rattle.compose_lint.specs.Rows as words;
 
-    ghost Value = { words.FaultyTable };
+    ghost Value = { words.LintedTable };
 
-    ghost view = { λ t. record { table = table_given t.table; faults = t.faults.items } };
+    ghost view = { λ t. record {
+      table = table_given t.table;
+      faults = t.faults.items;
+      found = t.found.items;
+    } };
 }
 
-/// Returns the tables, each with its first faults. Takes the time of `read_faults` for each.
-pub(crate) fn with_faults<'a>(
+/// Returns the tables, each with its first faults and the findings in it. Takes the time of
+/// `find_findings` for each, and that of `read_faults` for those that may have faults.
+pub(crate) fn linted_tables<'a>(
     alloc: Global,
     names: &Names,
+    readers: Readers,
+    is_all: bool,
     tables: &[LintTable<'a>],
-) -> Result<Vec<FaultyTable<'a>>, AllocError>
+) -> Result<Vec<LintedTable<'a>>, AllocError>
     ensures { IfOk result
-        (λ faulty. faulty.items
-        ≡ map (λ t. words.with_faults names.now (table_given t)) tables.now) }
+        (λ linted. linted.items
+        ≡ map (λ t. words.linted names.now readers is_all (table_given t)) tables.now) }
 {
-    let mut faulty = Vec::new(alloc);
+    let mut linted = Vec::new(alloc);
     for table in tables {
-        let one = faulty_table(alloc, names, *table)?;
-        faulty.push(one)?;
+        let one = linted_table(alloc, names, readers, is_all, *table)?;
+        linted.push(one)?;
     }
-    Ok(faulty)
+    Ok(linted)
 }
 
-/// Returns the table with its first faults.
-fn faulty_table<'a>(
+/// Returns the table with its first faults and the findings in it.
+fn linted_table<'a>(
     alloc: Global,
     names: &Names,
+    readers: Readers,
+    is_all: bool,
     table: LintTable<'a>,
-) -> Result<FaultyTable<'a>, AllocError>
+) -> Result<LintedTable<'a>, AllocError>
     ensures { IfOk result
-        (λ faulty. faulty ≡ words.with_faults names.now (table_given table.entry)) }
+        (λ linted. linted ≡ words.linted names.now readers is_all (table_given table.entry)) }
 {
-    let first = first_faults(alloc, names, table.sources)?;
-    let faults = left_faults(alloc, table.skip_faulty, first)?;
-    Ok(FaultyTable { table, faults })
+    let files = all_sources(alloc, names, table.sources, is_all)?;
+    let faults = table_faults(alloc, names, is_all, table, &files)?;
+    let findings = findings_of(alloc, names, readers, &faults, &files)?;
+    let found = with_bytes(alloc, &files, &findings)?;
+    Ok(LintedTable {
+        table,
+        faults,
+        found,
+    })
+}
+
+/// Returns the first faults of a table whose lines these are, except those of skipped lines.
+fn table_faults(
+    alloc: Global,
+    names: &Names,
+    is_all: bool,
+    table: LintTable<'_>,
+    files: &[SourceLines<'_>],
+) -> Result<Vec<ReadFault>, AllocError>
+    requires { files.now ≡ all_sources names.now table.sources.now is_all }
+    ensures { IfOk result
+        (λ faults. faults.items ≡ words.table_faults names.now (table_given table.entry)) }
+{
+    let first = first_faults(alloc, names, table.sources, is_all, files)?;
+    left_faults(alloc, table.skip_faulty, first)
 }
 
 /// Returns the faults, except those of skipped lines.
@@ -152,14 +199,21 @@ fn is_of_include(fault: &ReadFault) -> bool
     )
 }
 
-/// Returns the first faults of a table.
+/// Returns the first faults of a table whose lines these are. They are read a second time unless
+/// they show that no line has a fault.
 fn first_faults(
     alloc: Global,
     names: &Names,
     sources: &Sources,
+    _is_all: bool,
+    files: &[SourceLines<'_>],
 ) -> Result<Vec<ReadFault>, AllocError>
+    requires { files.now ≡ all_sources names.now sources.now _is_all }
     ensures { IfOk result (λ faults. faults.items ≡ words.first_faults names.now sources.now) }
 {
+    if is_surely_faultless(sources, files) {
+        return Ok(Vec::new(alloc));
+    }
     read_faults(alloc, names, sources, root_of(sources), MOST_FAULTS)
 }
 
@@ -171,92 +225,23 @@ fn root_of(sources: &Sources) -> &str
     sources.name(0).unwrap_or("")
 }
 
-/// Returns the findings in the tables, in the order of the tables.
-pub(crate) fn rows_in<'a>(
+/// Returns these findings, each with the bytes of its line in these files.
+fn with_bytes<'a>(
     alloc: Global,
-    names: &Names,
-    readers: Readers,
-    is_all: bool,
-    tables: &'a [FaultyTable<'a>],
-) -> Result<Vec<Row<'a>>, AllocError>
-    ensures { IfOk result
-        (λ rows. rows.items ≡ flat_map (words.faulty_rows names.now readers is_all) tables.now) }
-{
-    let mut rows = Vec::new(alloc);
-    for table in tables {
-        let mut more = faulty_rows(alloc, names, readers, is_all, table)?;
-        rows.append(&mut more)?;
-    }
-    Ok(rows)
-}
-
-/// Returns the findings in a table, in order.
-fn faulty_rows<'a>(
-    alloc: Global,
-    names: &Names,
-    readers: Readers,
-    is_all: bool,
-    table: &'a FaultyTable<'a>,
-) -> Result<Vec<Row<'a>>, AllocError>
-    ensures { IfOk result
-        (λ rows. rows.items ≡ words.faulty_rows names.now readers is_all table.now) }
-{
-    rows_by(alloc, names, readers, is_all, table.table, &table.faults)
-}
-
-/// Returns the findings in a table, in order, if these are its faults.
-fn rows_by<'a>(
-    alloc: Global,
-    names: &Names,
-    readers: Readers,
-    is_all: bool,
-    table: LintTable<'a>,
-    faults: &'a [ReadFault],
-) -> Result<Vec<Row<'a>>, AllocError>
-    ensures { IfOk result
-        (λ rows. rows.items
-        ≡ words.rows_by names.now readers is_all (table_given table.entry) faults.now) }
-{
-    let files = all_sources(alloc, names, table.sources, is_all)?;
-    let found = findings_of(alloc, names, readers, faults, &files)?;
-    rows_of(alloc, table, faults, &files, &found)
-}
-
-/// Returns these findings with the data of their table.
-fn rows_of<'a>(
-    alloc: Global,
-    table: LintTable<'a>,
-    faults: &'a [ReadFault],
     files: &[SourceLines<'a>],
-    found: &[Finding],
-) -> Result<Vec<Row<'a>>, AllocError>
+    findings: &[Finding],
+) -> Result<Vec<Found<'a>>, AllocError>
     ensures { IfOk result
-        (λ rows. rows.items
-        ≡ map (words.row_in (table_given table.entry) faults.now files.now) found.now) }
+        (λ found. found.items ≡ map (words.found_in files.now) findings.now) }
 {
-    let mut rows = Vec::new(alloc);
-    for finding in found {
-        rows.push(row_of(table, faults, files, *finding))?;
+    let mut found = Vec::new(alloc);
+    for finding in findings {
+        found.push(Found {
+            finding: *finding,
+            bytes: line_bytes(files, *finding),
+        })?;
     }
-    Ok(rows)
-}
-
-/// Returns a finding with the data of its table.
-fn row_of<'a>(
-    table: LintTable<'a>,
-    faults: &'a [ReadFault],
-    files: &[SourceLines<'a>],
-    finding: Finding,
-) -> Row<'a>
-    ensures { result ≡ words.row_in (table_given table.entry) faults.now files.now finding }
-{
-    Row {
-        sources: table.sources,
-        paths: table.paths,
-        faults,
-        finding,
-        bytes: line_bytes(files, finding),
-    }
+    Ok(found)
 }
 
 /// Returns the bytes of the line of the finding in these files; nothing if there is no such line.
@@ -269,5 +254,45 @@ fn line_bytes<'a>(files: &[SourceLines<'a>], finding: Finding) -> &'a [u8]
     match file.lines().get(finding.line.saturating_sub(1)) {
         Some(line) => line.bytes(),
         None => &[],
+    }
+}
+
+/// Returns the findings in the tables, in the order of the tables. O(findings).
+pub(crate) fn rows_in<'t, 'a: 't>(
+    alloc: Global,
+    tables: &'t [LintedTable<'a>],
+) -> Result<Vec<Row<'t>>, AllocError>
+    ensures { IfOk result (λ rows. rows.items ≡ flat_map words.linted_rows tables.now) }
+{
+    let mut rows = Vec::new(alloc);
+    for table in tables {
+        push_rows(&mut rows, table)?;
+    }
+    Ok(rows)
+}
+
+/// Adds the findings in a table, in order.
+fn push_rows<'t, 'a: 't>(
+    rows: &mut Vec<Row<'t>>,
+    table: &'t LintedTable<'a>,
+) -> Result<(), AllocError>
+    ensures { OnOk result (rows.new.items ≡ rows.old.items ++ words.linted_rows table.now) }
+{
+    for found in &table.found {
+        rows.push(row_of(table.table, &table.faults, found))?;
+    }
+    Ok(())
+}
+
+/// Returns a finding with the data of its table.
+fn row_of<'a>(table: LintTable<'a>, faults: &'a [ReadFault], found: &Found<'a>) -> Row<'a>
+    ensures { result ≡ words.found_row (table_given table.entry) faults.now found.now }
+{
+    Row {
+        sources: table.sources,
+        paths: table.paths,
+        faults,
+        finding: found.finding,
+        bytes: found.bytes,
     }
 }

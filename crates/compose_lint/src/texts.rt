@@ -45,7 +45,7 @@ pub(crate) fn normal_form(alloc: Global, text: &str) -> Result<String, AllocErro
 pub(crate) fn has_other_character(
     names: &Names,
     written: &Written<'_>,
-    definition: &LineDefinition,
+    definition: &LineDefinition<'_>,
 ) -> bool
     ensures { result ≡ words.has_other_character names.now written.now definition.now }
 {

@@ -1,6 +1,7 @@
-use Rattle.std.proofs.Common.{◌≡◌, ◌∙◌, ℕ, List, true, false, refl, sym, subst, string_bytes}
+use Rattle.std.proofs.Common.{◌≡◌, ◌∙◌, ℕ, List, true, false, refl, sym, subst}
 use Rattle.std.specs.Prelude.{IfOk, Option, Some, None, is_some, option_copied, unwrap_or}
 use Rattle.std.specs.Option.{option_map, option_and_then}
+use Rattle.std.specs.Cow.{cow_str_bytes}
 use Rattle.std.specs.Result.{result_ok}
 use Rattle.compose_lex.specs.Escape.{text_of}
 use Rattle.compose_lint.specs.Productions.{name_given}
@@ -20,7 +21,7 @@ unknown (Some t) (Some o) e = cc
 
 pub returns-then-is_named : goal.returns-then-is_named
 returns-then-is_named c =
-    subst (λ given. IfOk c.string_text.result (λ text. option_map string_bytes text ≡ given))
+    subst (λ given. IfOk c.string_text.result (λ text. option_map cow_str_bytes text ≡ given))
     (sym (beside (result_ok (text_of c.args.raw.now)) (name_given c.args.names.now (option_copied c.args.name)) (sym c.is_named.ensures ∙ c.if-is_named.true)))
     c.string_text.ensures
 

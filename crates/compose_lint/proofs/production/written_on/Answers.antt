@@ -7,7 +7,7 @@ use Rattle.compose_lex.specs.Fault.{reading_of}
 use Rattle.compose_lex.specs.Lexed.{content_reading}
 use Rattle.compose_lex.specs.declared.lexer.LineContent.TheVariants as reading_result
 use Rattle.compose_lint.specs.Productions.{parts_of}
-use Rattle.compose_lint.proofs.production.production_of.Goals as goal
+use Rattle.compose_lint.proofs.production.written_on.Goals as goal
 
 pub returns-in_default : goal.returns-in_default
 returns-in_default c = elim (cases_Bool (is_utf8 c.args.line.now)) [ inl e ↦ absurd (c.in_default.ensures.cases.0 (IsUtf8-from_is_utf8 c.args.line.now e)) | inr e ↦ rw e refl ]
