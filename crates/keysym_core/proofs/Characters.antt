@@ -7,7 +7,7 @@ use Rattle.std.specs.List.{list_any}
 use Rattle.std.specs.Option.{option_or, option_map_or}
 use Rattle.keysym_core.specs.Keysym.{max_keysym}
 use Rattle.keysym_core.specs.Names.{NameRow, CharacterRow, first_character}
-use Rattle.keysym_core.specs.GivenCharacters.{is_fixed, is_entry, gives, IsEachFirst, AreKeysyms, counts, HasCountingRows, with_character}
+use Rattle.keysym_core.specs.GivenCharacters.{is_fixed, is_entry, is_pair, row_of, gives, IsEachFirst, AreKeysyms, ArePairsOfKeysyms, counts, HasCountingRows, with_character}
 use Rattle.keysym_core.specs.Table.{character_rows, IsTable}
 use Rattle.keysym_core.proofs.Rows.{pushed, none_is_not_some, first_character-character_rows}
 use Rattle.std.proofs.lemmas.List.{map-append}
@@ -90,7 +90,7 @@ table_with_character {indexes} {names} {characters} {after} row table new fits e
 }
 
 -- a row that is found is used for texts exactly if its keysym's text is not fixed
-list_any-counts : (c k : ℕ) (rows : List CharacterRow) → list_any (is_entry c k) (filter counts rows) ≡ (not (is_fixed k) && list_any (is_entry c k) rows)
+pub list_any-counts : (c k : ℕ) (rows : List CharacterRow) → list_any (is_entry c k) (filter counts rows) ≡ (not (is_fixed k) && list_any (is_entry c k) rows)
 list_any-counts c k [] = and-none (not (is_fixed k))
 list_any-counts c k (row ∷ rows) = by (counts row) refl (is_entry c k row) refl (list_any-counts c k rows)
   where
@@ -110,13 +110,25 @@ list_any-counts c k (row ∷ rows) = by (counts row) refl (is_entry c k row) ref
         ap (λ b. b || list_any (is_entry c k) (filter counts rows)) entry ∙ others ∙ sym (ap (λ b. not (is_fixed k) && (b || list_any (is_entry c k) rows)) entry)
     by false counting false entry others = others ∙ sym (ap (λ b. not (is_fixed k) && (b || list_any (is_entry c k) rows)) entry)
 
--- the rows that are used for texts, among rows of which no two have the same value
-pub counting_rows-count : (rows : List CharacterRow) → IsEachFirst rows → HasCountingRows (filter counts rows) rows
-counting_rows-count rows each = λ c k. list_any-counts c k rows ∙ ap (λ b. not (is_fixed k) && b) (each c k)
+-- the pairs of a map, and their rows
+pub pairs-rows : (c k : ℕ) (pairs : List (ℕ × ℕ)) → list_any (is_pair c k) (filter (λ pair. counts (row_of pair)) pairs) ≡ list_any (is_entry c k) (filter counts (character_rows pairs))
+pairs-rows c k [] = refl
+pairs-rows c k (pair ∷ pairs) = by (counts (row_of pair)) (pairs-rows c k pairs)
+  where
+    by : (b : Bool) → list_any (is_pair c k) (filter (λ pair. counts (row_of pair)) pairs) ≡ list_any (is_entry c k) (filter counts (character_rows pairs))
+        → list_any (is_pair c k) (cond b (pair ∷ filter (λ pair. counts (row_of pair)) pairs) (filter (λ pair. counts (row_of pair)) pairs))
+        ≡ list_any (is_entry c k) (cond b (row_of pair ∷ filter counts (character_rows pairs)) (filter counts (character_rows pairs)))
+    by true e = ap (λ b. is_entry c k (row_of pair) || b) e
+    by false e = e
+
+-- the pairs of the rows that are used for texts, among rows of which no two have the same value
+pub counting_rows-count : (pairs : List (ℕ × ℕ)) → IsEachFirst (character_rows pairs) → HasCountingRows (filter (λ pair. counts (row_of pair)) pairs) (character_rows pairs)
+counting_rows-count pairs each = λ c k. pairs-rows c k pairs ∙ list_any-counts c k (character_rows pairs) ∙ ap (λ b. not (is_fixed k) && b) (each c k)
 
 -- and their values are keysyms
-pub counting_rows-keysyms : (rows : List CharacterRow) → AreKeysyms rows → AreKeysyms (filter counts rows)
-counting_rows-keysyms rows all = λ c k there. all c k (and_parts (not (is_fixed k)) (list_any (is_entry c k) rows) (sym (list_any-counts c k rows) ∙ there)).1
+pub counting_rows-keysyms : (pairs : List (ℕ × ℕ)) → AreKeysyms (character_rows pairs) → ArePairsOfKeysyms (filter (λ pair. counts (row_of pair)) pairs)
+counting_rows-keysyms pairs all = λ c k there.
+    all c k (and_parts (not (is_fixed k)) (list_any (is_entry c k) (character_rows pairs)) (sym (list_any-counts c k (character_rows pairs)) ∙ sym (pairs-rows c k pairs) ∙ there)).1
 
 -- a character that is inserted in a map, for a keysym without one, is a row after the others
 pub character_rows-insert : {S : Type 0} (m : IndexMap ℕ ℕ S) (row : CharacterRow) → first_character (character_rows m.entries) row.value ≡ None

@@ -12,3 +12,14 @@ pub mod HeaderRuns
 pub mod HeaderComments
 pub mod HeaderRead
 pub mod HeaderSound
+pub mod Placed
+pub mod RowsFrom
+pub mod BuiltInFacts
+pub mod BuiltInFound
+pub mod BuiltInCharacters
+pub mod HeaderParts
+pub mod HeaderPart1
+pub mod HeaderPart2
+pub mod HeaderPart3
+pub mod HeaderPart4
+pub mod HeaderIsRead

@@ -38,10 +38,24 @@ counts row = not (is_fixed row.value)
 abbrev pub with_character : List CharacterRow → ℕ → ℕ → List CharacterRow
 with_character rows k c = if is_some (first_character rows k) then rows else rows ++ record { value = k; character = c } ∷ []
 
--- the order of the rows: by character, and those of one character by value
-abbrev pub rank : CharacterRow → ℕ
-rank row = row.character * 0x1_0000_0000 + row.value
+-- ---- an index by character: pairs of a keysym and its character
 
--- the rows that are used for texts, in any order
-abbrev pub HasCountingRows : List CharacterRow → List CharacterRow → Type 0
-HasCountingRows entries rows = (c k : ℕ) → list_any (is_entry c k) entries ≡ (not (is_fixed k) && gives rows c k)
+-- the row of a pair
+abbrev pub row_of : ℕ × ℕ → CharacterRow
+row_of pair = record { value = pair.0; character = pair.1 }
+
+-- the pair assigns the character c to the keysym k
+abbrev pub is_pair : ℕ → ℕ → ℕ × ℕ → Bool
+is_pair c k pair = is_entry c k (row_of pair)
+
+-- all keysyms of the pairs are keysyms
+abbrev pub ArePairsOfKeysyms : List (ℕ × ℕ) → Type 0
+ArePairsOfKeysyms pairs = (c k : ℕ) → list_any (is_pair c k) pairs ≡ true → k ≤ max_keysym
+
+-- the order of the pairs: by character, and those of one character by keysym
+abbrev pub rank : ℕ × ℕ → ℕ
+rank pair = pair.1 * 0x1_0000_0000 + pair.0
+
+-- pairs for the rows that are used for texts, in any order
+abbrev pub HasCountingRows : List (ℕ × ℕ) → List CharacterRow → Type 0
+HasCountingRows pairs rows = (c k : ℕ) → list_any (is_pair c k) pairs ≡ (not (is_fixed k) && gives rows c k)

@@ -7,3 +7,6 @@ pub mod Header
 pub mod HeaderLine
 pub mod Next
 pub mod Table
+pub mod Places
+pub mod BuiltIn
+pub mod Source

@@ -20,6 +20,10 @@ ghost use Rattle.std.specs.Prelude.{◌≡◌, ℕ, List, Some};
 ghost use Rattle.keysym_core.specs.Header.{HeaderEntry, defined_entry};
 ghost use Rattle.keysym_core.specs.HeaderLine.{DefinesEntry};
 
+mod built_in;
+mod built_in_characters;
+mod built_in_places;
+mod built_in_rows;
 mod character_index;
 mod core_names;
 mod fault;
@@ -29,6 +33,7 @@ mod hints;
 mod keysym;
 mod names;
 mod next;
+mod places;
 mod read;
 mod shown;
 mod table;

@@ -1,12 +1,11 @@
 //! The rows of names and characters, with an index by value.
 ghost use Rattle.std.specs.Prelude.{◌≡◌, ◌∷◌, [], ◌++◌, map, OnOk, IfOk, IsTrue, Some, None, List, ℕ, IfSome, option_copied, option_map, slice_get, true, filter, length};
 ghost use Rattle.keysym_core.specs.Names.{row_value, first_character, value, form_value};
-ghost use Rattle.keysym_core.specs.GivenCharacters.{HasCountingRows, AreKeysyms, counts, is_fixed, with_character};
+ghost use Rattle.keysym_core.specs.GivenCharacters.{HasCountingRows, ArePairsOfKeysyms, counts, is_fixed, row_of, with_character};
 ghost use Rattle.keysym_core.specs.Printed.{first_name};
 ghost use Rattle.keysym_core.specs.Table.{name_rows, character_rows, is_addable, are_addable, index_from, FirstNamesLookUp, agrees_with_form};
 ghost use Rattle.std.specs.List.{list_all};
 
-use crate::character_index::CharacterEntry;
 use crate::form::form_value;
 use crate::hints::Hints;
 use crate::keysym::Keysym;
@@ -143,13 +142,12 @@ impl NameTable {
         Hints::new(alloc, &self.names)
     }
 
-    /// Returns the rows that are used for texts. O(n) in the rows.
-    pub(crate) fn counting_entries(&self, alloc: Global) -> Result<Vec<CharacterEntry>, AllocError>
-        ensures counting { IfOk result
-            (λ entries. HasCountingRows entries.items self.now.characters) }
-        ensures keysyms { IfOk result (λ entries. AreKeysyms entries.items) }
+    /// Returns the keysym and the character of each row that is used for texts. O(n) in the rows.
+    pub(crate) fn counting_pairs(&self, alloc: Global) -> Result<Vec<(u32, char)>, AllocError>
+        ensures counting { IfOk result (λ pairs. HasCountingRows pairs.items self.now.characters) }
+        ensures keysyms { IfOk result (λ pairs. ArePairsOfKeysyms pairs.items) }
     {
-        counting_rows(alloc, &self.characters)
+        counting_pairs(alloc, &self.characters)
     }
 
     /// Assigns a character to a keysym, if it has none yet. O(1).
@@ -218,30 +216,27 @@ fn value_by_hash(rows: &IndexMap<String, Keysym>, name: &str) -> Option<Keysym>
     rows.get(name).copied()
 }
 
-/// Returns the rows that are used for texts.
-fn counting_rows(
+/// Returns the keysym and the character of each row that is used for texts.
+fn counting_pairs(
     alloc: Global,
     characters: &IndexMap<Keysym, char>,
-) -> Result<Vec<CharacterEntry>, AllocError>
+) -> Result<Vec<(u32, char)>, AllocError>
     ensures { IfOk result
-        (λ entries. entries.items ≡ filter counts (character_rows characters.now.entries)) }
+        (λ pairs. pairs.items ≡ filter (λ pair. counts (row_of pair)) characters.now.entries) }
 {
     characters
         .iter()
-        .map(|(value, character)| CharacterEntry {
-            value: *value,
-            character: *character,
-        })
-        .filter(|entry| !is_fixed(entry.value))
+        .map(|(keysym, character)| (keysym.value(), *character))
+        .filter(|pair| !is_fixed(pair.0))
         .collect(alloc)
 }
 
 /// Returns whether the text of a keysym is fixed, whatever character a header assigns to it.
-fn is_fixed(keysym: Keysym) -> bool
+fn is_fixed(keysym: u32) -> bool
     ensures { result ≡ is_fixed keysym }
 {
     matches!(
-        keysym.value(),
+        keysym,
         0x20..=0x7e | 0xa0..=0xff | 0x0100_0100..=0x0110_ffff | 0xffb0..=0xffb9
     )
 }
