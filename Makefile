@@ -153,6 +153,7 @@ desk: composecheck lib
 HEADERS = /usr/include/X11/keysymdef.h /usr/include/X11/XF86keysym.h
 names:
 	python3 packaging/names.py $(HEADERS) share/composecheck/short-unicode-names.h crates/builtin_names/src/lines.rt
+	python3 packaging/name_tables.py crates
 
 real: composecheck compose_trials $(LIBRARY)
 	python3 tests/real.py ./composecheck ./compose_trials

@@ -14,6 +14,8 @@ CORE = re.compile(r'\("([^"]*)", (0x[0-9a-f]+)\)')
 DEFINITION = re.compile(r"#define XK_(\w+) 0x([0-9a-f]+)(?: /\*U\+([0-9A-F]+)\*/)?")
 # As in specs/Places.antt and src/places.rt.
 SPREAD, GROUPS, PLACES = 0xFF51AFD7ED558CCD, 1024, 4096
+# As in src/hints.rt, and how many hints there are for all names.
+SPREAD_OF_FIRST, SPREAD_OF_LAST, HINTS = 0x9E3779B97F4A7C15, 0xFF51AFD7ED558CCD, 8192
 # So many lines are read in one part of the proof, and so many parts stand in a file.
 LINES_OF_PART, PARTS_OF_FILE = 64, 10
 WRITTEN = "written by `make names`."
@@ -70,6 +72,21 @@ def placed(keys):
         for place, (_, index) in zip(places, members):
             indexes[place] = index
     return shifts, indexes
+
+
+def slot_of(name):
+    """Returns the slot of a name's hint: a hash of its first and last bytes, eight or four or one."""
+    size = next((it for it in (8, 4) if len(name) >= it), 1)
+    first, last = (int.from_bytes(it, "little") for it in (name.encode()[:size], name.encode()[-size:]))
+    return ((first * SPREAD_OF_FIRST + last * SPREAD_OF_LAST) % 2**64 >> 32) * HINTS >> 32
+
+
+def hints_of(names):
+    """Returns the index of the first name of each slot."""
+    first = {}
+    for index, (name, _) in enumerate(names.rows):
+        first.setdefault(slot_of(name), index)
+    return [first.get(slot, 0) for slot in range(HINTS)]
 
 
 def filled(items):
@@ -134,7 +151,8 @@ def places_file(names):
         shifts, indexes = placed(keys)
         text += static(f"The shift of each group of {what}.", f"{name}_SHIFTS", "[[u8; 32]; 32]", f"[\n{grid(shifts, 32)}]")
         text += static(f"The index at each place of {what}.", f"{name}_INDEXES", "[[u16; 64]; 64]", f"[\n{grid(indexes, 64)}]")
-    return text
+    hints = f"[\n{grid(hints_of(names), 64)}]"
+    return text + static("The index at which a name most likely stands, by the slot of its first and last bytes.", "NAME_HINTS", "[[u16; 64]; 128]", hints)
 
 
 def parts_of(names, header, core):
@@ -187,6 +205,12 @@ header_is_read =
     return files
 
 
+def listed(modules, proofs):
+    """Returns the list of a crate's proof files with these in it."""
+    others = [it for it in modules.splitlines() if not re.fullmatch(r"pub mod Header(Part\d+|IsRead)", it)]
+    return "".join(f"{it}\n" for it in others + [f"pub mod {name.removesuffix('.antt')}" for name in proofs])
+
+
 def read(path):
     if not os.path.isfile(path):
         return ""
@@ -205,8 +229,10 @@ def main():
         f"{folder}/src/built_in_characters.rt": characters_file(names),
         f"{folder}/src/built_in_places.rt": places_file(names),
     }
-    for name, text in proof_files(parts_of(names, header, core)).items():
+    proofs = proof_files(parts_of(names, header, core))
+    for name, text in proofs.items():
         files[f"{folder}/proofs/{name}"] = text
+    files[f"{folder}/proofs/Lib.antt"] = listed(read(f"{folder}/proofs/Lib.antt"), proofs)
     changed = {path: text for path, text in files.items() if read(path) != text}
     if "--check" in sys.argv[1:]:
         print("\n".join(sorted(changed)))

@@ -1,5 +1,5 @@
 #!/usr/bin/env python3
-"""Writes the names that are built into `composecheck`, as data: crates/builtin_names/src/lines.rt.
+"""Writes the names that are built into `composecheck`, as the text of a header: crates/builtin_names/src/lines.rt. name_tables.py makes the tables of it.
 
   names.py HEADER.. OUT            writes OUT from the headers, and prints which lines came and which went
   names.py --check HEADER.. OUT    writes nothing; the status is 1 if OUT is not what would be written

@@ -1,6 +1,7 @@
 //! Worked examples of the names of keysyms.
 use crate::helpers::{core, expect_text};
 use arrayvec::ArrayVec;
+use builtin_names::builtin_names;
 use keysym_core::{KeyList, Keysym, NameFault, Names, ShownChar, ShownKeysym};
 use std::alloc::{AllocError, Global};
 use std::fmt::Write;
@@ -206,6 +207,51 @@ fn names_of_headers_are_looked_up(rt: HostRuntime) -> Result<(), NameFault> {
     for row in &NAMES {
         expect_names(&rt, rt.alloc(), row)?;
     }
+    Ok(())
+}
+
+/// Returns the name that a line of the built-in header defines.
+fn defined_name(line: &str) -> &str {
+    let rest = line.strip_prefix("#define XK_").unwrap_or(line);
+    match rest.split_once(' ') {
+        Some((name, _)) => name,
+        None => rest,
+    }
+}
+
+/// Expects that a name, its keysym and the character of that are the same in both.
+fn expect_same(
+    rt: &impl Abort,
+    alloc: Global,
+    one: &Names,
+    other: &Names,
+    name: &str,
+) -> Result<(), NameFault> {
+    let keysym = one.lookup(name).unwrap_or_default();
+    assert_eq!(rt; other.lookup(name), Some(keysym), "{name}");
+    assert_eq!(rt; one.print(alloc, keysym)?, other.print(alloc, keysym)?, "{name}");
+    assert_eq!(rt; one.text_of(keysym), other.text_of(keysym), "{name}");
+    if let Some(character) = one.text_of(keysym) {
+        let before = one.next_of(character, None);
+        assert_eq!(rt; before, other.next_of(character, None), "{name}");
+        assert_eq!(rt; one.next_of(character, before), other.next_of(character, before), "{name}");
+    }
+    Ok(())
+}
+
+/// The built-in header is not read, but with one more line it is.
+#[test]
+fn built_in_names_are_those_of_their_header(rt: HostRuntime) -> Result<(), NameFault> {
+    let mut header = String::from_str(rt.alloc(), builtin_names())?;
+    header.push_str("#define XK_one_more 0x1ffffff0\n")?;
+    let longer = read(rt.alloc(), header.as_bytes())?;
+    let built_in = read(rt.alloc(), builtin_names().as_bytes())?;
+    for line in builtin_names().lines() {
+        expect_same(&rt, rt.alloc(), &built_in, &longer, defined_name(line))?;
+    }
+    assert_eq!(rt; value_of(&built_in, "one_more"), None);
+    assert_eq!(rt; value_of(&longer, "one_more"), Some(0x1fff_fff0));
+    expect_core(&rt, &built_in);
     Ok(())
 }
 

@@ -176,6 +176,12 @@ value_other n i row place there other = value_found n i row false place there (g
 pub value_same : (n : List ℕ) (i : ℕ) (row : NameRow) → i ≡ name_place n → slice_get built_in_rows i ≡ Some row → row.name ≡ n → row_value built_in_rows n ≡ Some row.value
 value_same n i row place there same = value_found n i row true place there (bytes_eq-from n row.name (sym same))
 
+-- wherever a row of the name is
+pub value_of_row : (n : List ℕ) (i : ℕ) (row : NameRow) → slice_get built_in_rows i ≡ Some row → row.name ≡ n → row_value built_in_rows n ≡ Some row.value
+value_of_row n i row there same =
+    let place : name_place row.name ≡ i = own_place (λ (r : NameRow). name_place r.name) built_in_rows i row names_are_placed there in
+    value_same n i row (sym place ∙ ap name_place same) there same
+
 pub name_none : (k i : ℕ) → i ≡ keysym_place k → slice_get built_in_rows i ≡ None → first_name built_in_rows k ≡ None
 name_none k i place none = name_at_place k ∙ ap (if_passes (λ (r : NameRow). nat_eq k r.value) (λ r. r.name)) (ap (slice_get built_in_rows) (sym place) ∙ none)
 

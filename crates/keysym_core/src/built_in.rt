@@ -11,17 +11,19 @@ ghost use Rattle.std.specs.List.Sorted.{IsNonDecreasingBy};
 
 use crate::built_in_characters::{BY_CHARACTER, CHARACTERS};
 use crate::built_in_places::{
-    CHARACTER_INDEXES, CHARACTER_SHIFTS, KEYSYM_INDEXES, KEYSYM_SHIFTS, NAME_INDEXES, NAME_SHIFTS,
+    CHARACTER_INDEXES, CHARACTER_SHIFTS, KEYSYM_INDEXES, KEYSYM_SHIFTS, NAME_HINTS, NAME_INDEXES,
+    NAME_SHIFTS,
 };
 use crate::built_in_rows::{KEYSYMS, STARTS, TEXT};
 use crate::character_index;
 use crate::form::form_value;
+use crate::hints::slot_of;
 use crate::keysym::Keysym;
 use crate::places::{index_of, keysym_hash, name_hash};
 use std::str;
 
-/// Returns the keysym of a name, by the built-in names or by its form. O(n) in the bytes of the
-/// name.
+/// Returns the keysym of a name, by the built-in names or by its form. O(1) for most names, else
+/// O(n) in the bytes of the name.
 #[inline(always)]
 pub(crate) fn lookup(name: &str) -> Option<Keysym>
     ensures { result ≡ value built_in name.now }
@@ -32,9 +34,34 @@ pub(crate) fn lookup(name: &str) -> Option<Keysym>
     }
 }
 
-/// Returns the keysym of a built-in name. O(n) in the bytes of the name.
+/// Returns the keysym of a built-in name. O(1) for a name that stands at its hint, as most do;
+/// else O(n) in the bytes of the name.
 #[inline(always)]
 fn row_value(name: &str) -> Option<Keysym>
+    ensures { result ≡ row_value built_in_rows name.now }
+{
+    match value_at(hint_of(name.as_bytes()), name) {
+        Some(keysym) => Some(keysym),
+        None => value_by_hash(name),
+    }
+}
+
+/// Returns the keysym of the built-in name with this index, if it is this name. O(1).
+#[inline(always)]
+fn value_at(index: usize, name: &str) -> Option<Keysym>
+    ensures { IfSome result (λ k. row_value built_in_rows name.now ≡ Some k) }
+{
+    let (known, keysym) = row_at(index)?;
+    if known != name.as_bytes() {
+        return None;
+    }
+    Keysym::new(keysym)
+}
+
+/// Returns the keysym of a built-in name. O(n) in the bytes of the name. It is a function of its
+/// own, so that a look-up by a hint is short enough to be inlined.
+#[inline(never)]
+fn value_by_hash(name: &str) -> Option<Keysym>
     ensures { result ≡ row_value built_in_rows name.now }
 {
     let hash = name_hash(name.as_bytes());
@@ -43,6 +70,16 @@ fn row_value(name: &str) -> Option<Keysym>
         return None;
     }
     Keysym::new(keysym)
+}
+
+/// Returns the index at which a name most likely stands. O(1).
+#[inline(always)]
+fn hint_of(name: &[u8]) -> usize {
+    let slot = slot_of(name, NAME_HINTS.len() * 64);
+    match NAME_HINTS.get(slot / 64) {
+        Some(hints) => usize::from(hints[slot % 64]),
+        None => 0,
+    }
 }
 
 /// Returns the first built-in name of a keysym. The name looks up as the keysym, and so does each

@@ -37,7 +37,7 @@ impl Hints {
 
     /// Returns the hint for a name. O(1).
     pub(crate) fn index_of(&self, name: &[u8]) -> usize {
-        match self.indexes.get(self.slot(name)) {
+        match self.indexes.get(slot_of(name, self.indexes.len())) {
             Some(index) => usize::from(*index),
             None => 0,
         }
@@ -45,23 +45,23 @@ impl Hints {
 
     /// Notes the index of a name, unless it collides with an earlier one.
     fn note(&mut self, name: &[u8], index: usize) {
-        let slot = self.slot(name);
+        let slot = slot_of(name, self.indexes.len());
         if let (Some(hint), Ok(index)) = (self.indexes.get_mut(slot), u16::try_from(index)) {
             if *hint == 0 {
                 *hint = index;
             }
         }
     }
+}
 
-    /// Returns the number of the hint for this name: a hash of its ends, scaled to the number of
-    /// hints. O(1).
-    fn slot(&self, name: &[u8]) -> usize {
-        let (first, last) = ends(name);
-        let of_first = first.wrapping_mul(SPREAD_OF_FIRST);
-        let of_last = last.wrapping_mul(SPREAD_OF_LAST);
-        let hash = of_first.wrapping_add(of_last) >> 32;
-        (hash.wrapping_mul(self.indexes.len() as u64) >> 32) as usize
-    }
+/// Returns the slot of a name's hint among this many: a hash of its first and last bytes, scaled to
+/// the number of slots. O(1).
+pub(crate) fn slot_of(name: &[u8], slots: usize) -> usize {
+    let (first, last) = ends(name);
+    let of_first = first.wrapping_mul(SPREAD_OF_FIRST);
+    let of_last = last.wrapping_mul(SPREAD_OF_LAST);
+    let hash = of_first.wrapping_add(of_last) >> 32;
+    (hash.wrapping_mul(slots as u64) >> 32) as usize
 }
 
 /// Returns the first and the last bytes of a name as two numbers: eight bytes each, or four or one

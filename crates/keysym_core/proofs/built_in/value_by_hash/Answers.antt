@@ -6,7 +6,7 @@ use Rattle.keysym_core.specs.Places.{index_of, name_hash}
 use Rattle.keysym_core.specs.declared.built_in_places.TheConstants.{NAME_SHIFTS, NAME_INDEXES}
 use Rattle.keysym_core.proofs.BuiltInFacts.{name_place}
 use Rattle.keysym_core.proofs.BuiltInFound.{value_none, value_other, value_same, value_is_keysym, bytes_eq-same, bytes_eq-from, not-false}
-use Rattle.keysym_core.proofs.built_in.row_value.Goals as goal
+use Rattle.keysym_core.proofs.built_in.value_by_hash.Goals as goal
 
 pub returns-in_err-known : goal.returns-in_err-known
 returns-in_err-known c =
