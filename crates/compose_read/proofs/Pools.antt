@@ -148,18 +148,18 @@ module _ (ks ts : List ℕ) (ps : List RowSpan) (fk fb : ℕ) (is : IsDrafted ks
         none_left : (n : ℕ) (xs : List ℕ) → drop n (take n xs) ≡ []
         none_left n xs = drop_of_length-le (take n xs) (let m = length-take n xs in omega arith)
 
-  -- with one more keysym
-  module _ (new : List ℕ) (k : ℕ) (e : new ≡ ks ++ k ∷ []) where
-    -- one more keysym does not change the complete definitions, and is in the one that is being read
-    pub with_keysym : IsDrafted new ts ps fk fb
-    with_keysym = subst (λ ts. IsDrafted new ts ps fk fb) (append-nil ts) (subst (λ ks. IsDrafted ks (ts ++ []) ps fk fb) (sym e) (grown (k ∷ []) [] IsUtf8-nil))
+  -- with more keysyms
+  module _ (new more : List ℕ) (e : new ≡ ks ++ more) where
+    -- more keysyms do not change the complete definitions, and are in the one that is being read
+    pub with_keysyms : IsDrafted new ts ps fk fb
+    with_keysyms = subst (λ ts. IsDrafted new ts ps fk fb) (append-nil ts) (subst (λ ks. IsDrafted ks (ts ++ []) ps fk fb) (sym e) (grown more [] IsUtf8-nil))
 
-    -- one more keysym is the last one of the sequence that is being read, and the table does not change
-    pub draft_keysym : draft_rows new ts ps fk fb ≡ with_row (draft_rows ks ts ps fk fb) (record { sequence = drop fk ks ++ k ∷ []; text = drop fb ts })
-    draft_keysym =
+    -- more keysyms come after those of the sequence that is being read, and the table does not change
+    pub draft_keysyms : draft_rows new ts ps fk fb ≡ with_row (draft_rows ks ts ps fk fb) (record { sequence = drop fk ks ++ more; text = drop fb ts })
+    draft_keysyms =
         (λ i. draft_rows (e i) (sym (append-nil ts) i) ps fk fb)
-        ∙ draft_grown (k ∷ []) [] IsUtf8-nil
-        ∙ ap (λ text. let d : DraftRows = record { table = rows_of ks ts ps; row = record { sequence = drop fk ks ++ k ∷ []; text = text } } in d) (append-nil (drop fb ts))
+        ∙ draft_grown more [] IsUtf8-nil
+        ∙ ap (λ text. let d : DraftRows = record { table = rows_of ks ts ps; row = record { sequence = drop fk ks ++ more; text = text } } in d) (append-nil (drop fb ts))
 
   -- with more text
   module _ (new text : List ℕ) (e : new ≡ ts ++ text) (u : IsUtf8 text) where

@@ -1,18 +1,30 @@
-//! Definitions that are being read.
+//! Definitions that are being read or put together.
 //!
 //! The keysyms and the text of a definition are appended to those of the others as they are read,
 //! so that none is copied. When the definition is complete, its span is added. The offsets are
 //! `u32`s: at most 100,000 definitions of at most 32 keysyms and 255 bytes fit.
+ghost use Rattle.std.specs.Prelude.{◌≡◌};
+ghost use Rattle.std.specs.List.{list_all};
+ghost use Rattle.compose_model.specs.Table.{is_definition};
+ghost use Rattle.compose_read.specs.Sequence as words;
+
 use crate::definitions::Definitions;
+use crate::reading::MAX_DEFINITIONS;
 use crate::rows::{RowSpan, Rows};
 use compose_lex::{LexFault, push_text};
 use keysym_core::Keysym;
 use std::alloc::{AllocError, Global};
 use std::marker::Model;
 
+/// The greatest number of keysyms of a sequence.
+const MAX_KEYSYMS: usize = 32;
+
+/// The greatest number of bytes of a text.
+const MAX_BYTES: usize = 255;
+
 /// Definitions in flat arrays, and after them one that is being read.
 #[derive(Drop)]
-pub(crate) struct Draft {
+pub struct Draft {
     keysyms: Vec<Keysym>,
     texts: String,
     spans: Vec<RowSpan>,
@@ -39,7 +51,7 @@ impl Model for Draft {
 }
 
 impl Draft {
-    ghost use Rattle.std.specs.Prelude.{◌≡◌, ◌≤◌, ◌<◌, ◌+◌, ◌++◌, ℕ, List, [], ◌∷◌, length, take, drop, OnOk, OnErr, IsTrue, encode_utf8};
+    ghost use Rattle.std.specs.Prelude.{◌≡◌, ◌≤◌, ◌<◌, ◌+◌, ◌++◌, ◌⊎◌, ℕ, List, [], ◌∷◌, true, false, length, take, drop, IfOk, OnOk, OnErr, IsTrue, encode_utf8};
     ghost use Rattle.compose_model.specs.Table.{is_definition, is_table};
     ghost use Rattle.compose_lex.specs.Lexed.{PushReturns};
     ghost use Rattle.compose_lex.specs.Escape.{text_of, Unescapes, IsText};
@@ -47,7 +59,7 @@ impl Draft {
     ghost use Rattle.compose_read.specs.Rows.{with_row, no_row};
 
     /// Returns a draft without definitions. Takes no memory.
-    pub(crate) fn new(alloc: Global) -> Draft
+    pub fn new(alloc: Global) -> Draft
         ensures { result ≡ record { table = []; row = no_row } }
     {
         Draft {
@@ -71,7 +83,7 @@ impl Draft {
     }
 
     /// Returns the number of complete definitions. O(1).
-    pub(crate) fn len(&self) -> usize
+    pub fn len(&self) -> usize
         ensures { result ≡ length self.now.table }
     {
         self.spans.len()
@@ -129,6 +141,64 @@ impl Draft {
         Ok(())
     }
 
+    /// Appends these keysyms to the definition that is being read. An error changes nothing.
+    /// O(keysyms).
+    fn push_keysyms(&mut self, keysyms: &[Keysym]) -> Result<(), AllocError>
+        ensures pushed { OnOk result
+            (self.new
+            ≡ with_row self.old
+            (record {
+              sequence = self.old.row.sequence ++ keysyms.now;
+              text =
+                  self.old.row.text;
+            })) }
+        ensures unchanged { OnErr result (self.new ≡ self.old) }
+    {
+        self.keysyms.extend_from_slice(keysyms)?;
+        Ok(())
+    }
+
+    /// Appends this text to that of the definition. An error changes nothing. O(bytes).
+    fn push_text(&mut self, text: &str) -> Result<(), AllocError>
+        ensures pushed { OnOk result
+            (self.new
+            ≡ with_row self.old
+            (record {
+              sequence = self.old.row.sequence;
+              text =
+                  self.old.row.text ++ text.now;
+            })) }
+        ensures unchanged { OnErr result (self.new ≡ self.old) }
+    {
+        self.texts.push_str(text)?;
+        Ok(())
+    }
+
+    /// Adds a definition of this sequence and this text to the complete ones, and returns true.
+    /// Returns false, and adds none, if they are not a definition, or if there are 100,000 already.
+    /// A definition that is being read is dropped. O(keysyms + bytes).
+    pub fn add(&mut self, sequence: &[Keysym], text: &str) -> Result<bool, AllocError>
+        ensures added { IfOk result
+            (λ added. added ≡ true
+            → self.new.table
+            ≡ self.old.table ++ record { sequence = sequence.now; text = text.now } ∷ []) }
+        ensures refused { IfOk result
+            (λ added. added ≡ false
+            → (is_definition (record { sequence = sequence.now; text = text.now }) ≡ false)
+            ⊎ (max_definitions ≤ length self.old.table)) }
+        ensures others { IfOk result (λ added. added ≡ false → self.new.table ≡ self.old.table) }
+        ensures failed { OnErr result (self.new.table ≡ self.old.table) }
+    {
+        if self.len() >= MAX_DEFINITIONS || !is_a_definition(sequence, text) {
+            return Ok(false);
+        }
+        self.begin();
+        self.push_keysyms(sequence)?;
+        self.push_text(text)?;
+        self.finish()?;
+        Ok(true)
+    }
+
     /// Adds the definition that is being read to the complete ones. An error changes nothing. O(1).
     pub(crate) fn finish(&mut self) -> Result<(), AllocError>
         requires definition { IsTrue (is_definition self.old.row) }
@@ -162,7 +232,7 @@ impl Draft {
     }
 
     /// Returns the complete definitions. O(1).
-    pub(crate) fn into_definitions(self) -> Definitions
+    pub fn into_definitions(self) -> Definitions
         ensures same { result ≡ self.table }
         ensures table { IsTrue (is_table self.table) }
         ensures few { length self.table ≤ max_definitions }
@@ -173,4 +243,33 @@ impl Draft {
             spans: self.spans,
         })
     }
+}
+
+/// Returns whether these are a sequence and a text of a definition. O(keysyms).
+fn is_a_definition(sequence: &[Keysym], text: &str) -> bool
+    ensures { result ≡ is_definition (record { sequence = sequence.now; text = text.now }) }
+{
+    !sequence.is_empty()
+        && sequence.len() <= MAX_KEYSYMS
+        && are_fed(sequence)
+        && text.len() <= MAX_BYTES
+}
+
+/// Returns whether a compose state ignores none of these keysyms. O(keysyms).
+fn are_fed(sequence: &[Keysym]) -> bool
+    ensures { result ≡ list_all words.is_fed sequence.now }
+{
+    for keysym in sequence {
+        if !is_fed(*keysym) {
+            return false;
+        }
+    }
+    true
+}
+
+/// Returns whether a compose state does not ignore the keysym. O(1).
+fn is_fed(keysym: Keysym) -> bool
+    ensures { result ≡ words.is_fed keysym }
+{
+    !keysym.is_ignored()
 }

@@ -5,7 +5,8 @@
 //! one of them with all that it includes, and returns the [`Definitions`] in reading order, or the
 //! fault of the first faulty line. [`settle`] returns [`Sequences`]: in rising order, each once
 //! with the text of its last definition, and none a prefix of another. Typing with these is the
-//! same as typing with the definitions as they were read.
+//! same as typing with the definitions as they were read. Definitions that no source has are put
+//! together in a [`Draft`].
 //!
 //! ```text
 //! r:   <Multi_key> <apostrophe> <e> : "x"
@@ -39,6 +40,7 @@ mod visits;
 
 use compose_lex::LexFault;
 pub use definitions::Definitions;
+pub use draft::Draft;
 pub use line_faults::read_faults;
 pub use reading::read_definitions;
 pub use sequences::Sequences;

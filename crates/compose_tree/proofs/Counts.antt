@@ -15,6 +15,7 @@ use Rattle.compose_tree.specs.declared.edge.Edge.{Edge}
 use Rattle.compose_tree.specs.declared.edge.NodeEdge.{NodeEdge}
 use Rattle.compose_tree.specs.declared.table.Target.TheVariants.{Node, Leaf}
 use Rattle.compose_tree.specs.Rows.{NodeRow, rows_of, row_of, row_at, where_to, edge_of, target_number, next_target, new_rows, with_edge, path_of, sequence_at, edges_at, gathered_rows, AreAtNodes, HaveNumbersBelow}
+use Rattle.compose_tree.specs.Packed.{packed_edge, packed_edges}
 use Rattle.compose_tree.proofs.Gathering.{own_first, other_first, rows_count}
 use Rattle.compose_tree.proofs.Adding.{Adds, adds_at}
 
@@ -91,6 +92,14 @@ edges_total ds es at_nodes =
     let total = total_gathered 0 ds es in let all = all_from es in
     let end = ap (λ n. edges_from n es) (zero-add (length ds)) ∙ nothing_from (length ds) es at_nodes in
     omega (arith, total, all, end)
+
+total_packed : (rows : List NodeRow) → length (packed_edges rows) ≡ edge_total rows
+total_packed [] = refl
+total_packed (row ∷ rows) = length-append (map packed_edge row.edges) (packed_edges rows) ∙ ap (λ n. n + length (packed_edges rows)) (length-map row.edges packed_edge) ∙ ap (λ n. length row.edges + n) (total_packed rows)
+
+-- no edge is lost or added by gathering and packing
+pub edges_packed : (ds : List ℕ) (es : List NodeEdge) → AreAtNodes (length ds) es → length (packed_edges (gathered_rows 0 ds es)) ≡ length es
+edges_packed ds es at_nodes = total_packed (gathered_rows 0 ds es) ∙ sym (edges_total ds es at_nodes)
 
 total_join : (rows more : List NodeRow) → edge_total (rows ++ more) ≡ edge_total rows + edge_total more
 total_join [] more = omega arith

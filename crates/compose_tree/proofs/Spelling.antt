@@ -95,11 +95,11 @@ one_list_sorted x = (tt, tt)
 
 module _ (table : List Definition) (s : IsSettled table) where
   -- the lists that continue after the keysym k of a node
-  behind : ℕ → List ℕ → ℕ → List (List ℕ)
+  pub behind : ℕ → List ℕ → ℕ → List (List ℕ)
   behind f p k = spelled_after (where_to table (p ++ k ∷ [])) (λ n. spelled (rows_of table) f n)
 
   -- the lists spelled from a node, edge by edge
-  spelled_at : (f : ℕ) (p : List ℕ) → is_node table p ≡ true → spelled (rows_of table) (suc f) (number_of table p) ≡ flat_map (λ k. map (λ w. k ∷ w) (behind f p k)) (edges table p)
+  pub spelled_at : (f : ℕ) (p : List ℕ) → is_node table p ≡ true → spelled (rows_of table) (suc f) (number_of table p) ≡ flat_map (λ k. map (λ w. k ∷ w) (behind f p k)) (edges table p)
   unfolding behind
   spelled_at f p h =
       let g : Edge → List (List ℕ) = λ e. map (λ w. e.keysym ∷ w) (spelled_after e.target (λ n. spelled (rows_of table) f n)) in
@@ -113,11 +113,11 @@ module _ (table : List Definition) (s : IsSettled table) where
     | inr e ↦ e
   ]
 
-  node_after : (f : ℕ) (p : List ℕ) (k : ℕ) → is_node table (p ++ k ∷ []) ≡ true → behind f p k ≡ spelled (rows_of table) f (number_of table (p ++ k ∷ []))
+  pub node_after : (f : ℕ) (p : List ℕ) (k : ℕ) → is_node table (p ++ k ∷ []) ≡ true → behind f p k ≡ spelled (rows_of table) f (number_of table (p ++ k ∷ []))
   unfolding behind
   node_after f p k h = ap (λ t. spelled_after t (λ n. spelled (rows_of table) f n)) (at_node table (p ++ k ∷ []) h)
 
-  leaf_after : (f : ℕ) (p : List ℕ) (k : ℕ) → is_node table (p ++ k ∷ []) ≡ false → behind f p k ≡ [] ∷ []
+  pub leaf_after : (f : ℕ) (p : List ℕ) (k : ℕ) → is_node table (p ++ k ∷ []) ≡ false → behind f p k ≡ [] ∷ []
   unfolding behind
   leaf_after f p k h = ap (λ t. spelled_after t (λ n. spelled (rows_of table) f n)) (at_leaf table (p ++ k ∷ []) h)
 
@@ -147,7 +147,7 @@ module _ (table : List Definition) (s : IsSettled table) where
       none (inr e) = e
 
   -- the lists that are spelled from p continue to a sequence, and all such lists are spelled
-  spelled_means : (f : ℕ) (p w : List ℕ) → is_node table p ≡ true → 32 ≤ f + length p
+  pub spelled_means : (f : ℕ) (p w : List ℕ) → is_node table p ≡ true → 32 ≤ f + length p
       → list_any (same w) (spelled (rows_of table) f (number_of table p)) ≡ not (same w []) && is_sequence table (p ++ w)
   spelled_means zero p w h few = absurd (let m = node_few table p s.definitions h in omega arith)
   spelled_means (suc f) p [] h few =

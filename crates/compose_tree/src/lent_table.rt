@@ -11,7 +11,7 @@ use keysym_core::Keysym;
 use std::alloc::Global;
 use std::marker::Model;
 
-/// The arrays of a packed table, and its hints. See `PackedTable`.
+/// The arrays of a `PackedTable`, and its hints.
 #[derive(Clone, Copy)]
 pub struct LentArrays<'t> {
     /// The nodes, and after them an entry for the end of the edges.
@@ -74,22 +74,6 @@ impl<'t> LentTable<'t> {
             offsets,
             texts,
             hints,
-        }
-    }
-
-    /// Returns its arrays. O(1).
-    pub fn arrays(&self) -> LentArrays<'t>
-        ensures value { unpacked result.nodes.now result.edges.now result.offsets.now
-            result.texts.now ≡ self.now }
-        ensures packed { IsPacked result.nodes.now result.edges.now result.offsets.now
-            result.texts.now self.now }
-    {
-        LentArrays {
-            nodes: self.nodes,
-            edges: self.edges,
-            offsets: self.offsets,
-            texts: self.texts,
-            hints: self.hints,
         }
     }
 

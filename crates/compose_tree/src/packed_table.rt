@@ -19,7 +19,7 @@
 //! The edges of a node are contiguous, in increasing order of keysyms, and end where those of the
 //! next node begin. There are also hints for the index of each edge, which a search tries first.
 //! The hints are no part of the table's meaning.
-ghost use Rattle.std.specs.Prelude.{◌≡◌, ◌<◌, ◌≤◌, ◌+◌, ◌++◌, ℕ, length, map, slice_index, MatchOption, IfOk, OnOk, IsTrue, string_bytes};
+ghost use Rattle.std.specs.Prelude.{◌≡◌, ◌<◌, ◌≤◌, ◌+◌, ◌*◌, ◌++◌, ℕ, length, map, slice_index, MatchOption, IfOk, OnOk, IsTrue, string_bytes};
 ghost use Rattle.std.specs.List.{list_all};
 ghost use Rattle.std.specs.List.Sorted.{IsStrictlyIncreasing};
 ghost use Rattle.std.specs.Str.{is_utf8};
@@ -29,7 +29,7 @@ ghost use Rattle.compose_tree.specs.Packed.{keys_of, packed_edge, packed_target,
 
 use crate::edge::{Edge, NodeEdge};
 use crate::hints::Hints;
-use crate::lent_table::LentTable;
+use crate::lent_table::LentArrays;
 use crate::packed::{PackedEdge, PackedNode};
 use crate::rows::build_rows;
 use crate::table::{BuildFault, ComposeTable, LeafId, NodeId, Target};
@@ -57,7 +57,7 @@ pub struct PackedTable {
 }
 
 impl Model for PackedTable {
-    ghost use Rattle.std.specs.Prelude.{List, string_bytes};
+    ghost use Rattle.std.specs.Prelude.{◌≡◌, ◌*◌, List, length, string_bytes};
     ghost use Rattle.compose_model.specs.Table.{Definition};
     ghost use Rattle.compose_tree.specs.Packed.{unpacked, IsPacked};
 
@@ -68,7 +68,8 @@ impl Model for PackedTable {
 
     ghost invariant = { λ t. IsPacked t.nodes.items t.edges.items t.offsets.items
         (string_bytes t.texts)
-        (unpacked t.nodes.items t.edges.items t.offsets.items (string_bytes t.texts)) };
+        (unpacked t.nodes.items t.edges.items t.offsets.items (string_bytes t.texts))
+        × (length t.hints ≡ 4 * length t.edges.items) };
 }
 
 /// Returns the code of a target. There is no branch on the kind of target, since it would often be
@@ -161,8 +162,9 @@ fn pack_edges(
     requires at_nodes { AreAtNodes (length depths.now) edges.now }
     requires numbers { HaveNumbersBelow 2147483648 edges.now }
     requires nodes { nodes.now ≡ packed_nodes 0 (gathered_rows 0 depths.now edges.now) }
-    ensures { IfOk result
+    ensures edges { IfOk result
         (λ packed. packed.items ≡ packed_edges (gathered_rows 0 depths.now edges.now)) }
+    ensures hints { length hints.new ≡ length hints.old }
 {
     let blank = PackedEdge {
         keysym: Keysym::default(),
@@ -256,8 +258,9 @@ fn from_arrays(
     texts: String,
     hints: Hints,
 ) -> PackedTable
-    requires { words.IsPacked nodes.items edges.items offsets.items
+    requires packed { words.IsPacked nodes.items edges.items offsets.items
         (string_bytes texts) sequences.now }
+    requires hints { length hints ≡ 4 * length edges.items }
     ensures { result ≡ sequences.now }
 {
     // Only the contract refers to them.
@@ -272,22 +275,27 @@ fn from_arrays(
 }
 
 impl PackedTable {
-    ghost use Rattle.std.specs.Prelude.{◌≡◌, ◌<◌, length};
+    ghost use Rattle.std.specs.Prelude.{◌≡◌, ◌<◌, ◌*◌, length};
     ghost use Rattle.compose_model.specs.Nodes as model;
     ghost use Rattle.compose_read.specs.Settle.{IsSettled};
+    ghost use Rattle.compose_tree.specs.Packed.{unpacked};
     ghost use Rattle.compose_tree.specs.Rows.{row_of};
 
-    /// Borrows the table as a `LentTable`. O(1).
-    pub fn lend(&self) -> LentTable<'_>
-        ensures { result ≡ self.now }
+    /// Returns its arrays. O(1).
+    pub fn arrays(&self) -> LentArrays<'_>
+        ensures value { unpacked result.nodes.now result.edges.now result.offsets.now
+            result.texts.now ≡ self.now }
+        ensures packed { words.IsPacked result.nodes.now result.edges.now result.offsets.now
+            result.texts.now self.now }
+        ensures hints { length result.hints.now ≡ 4 * length result.edges.now }
     {
-        LentTable::of(
-            self.nodes.as_slice(),
-            self.edges.as_slice(),
-            self.offsets.as_slice(),
-            self.texts.as_str().as_bytes(),
-            self.hints.bytes(),
-        )
+        LentArrays {
+            nodes: self.nodes.as_slice(),
+            edges: self.edges.as_slice(),
+            offsets: self.offsets.as_slice(),
+            texts: self.texts.as_str().as_bytes(),
+            hints: self.hints.bytes(),
+        }
     }
 
     /// Returns the edges of a node. O(1).

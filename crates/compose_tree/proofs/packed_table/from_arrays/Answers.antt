@@ -5,9 +5,11 @@ use Rattle.compose_tree.proofs.packed_table.from_arrays.Goals as goal
 use Rattle.std.proofs.Common.{subst}
 
 pub invariant_of-result : goal.invariant_of-result
-invariant_of-result c =
-    subst (IsPacked c.args.nodes.items c.args.edges.items c.args.offsets.items (string_bytes c.args.texts))
-    (sym (unpack_packed c.args.nodes.items c.args.edges.items c.args.offsets.items (string_bytes c.args.texts) c.args.sequences.now c.requires)) c.requires
+invariant_of-result c = (
+  subst (IsPacked c.args.nodes.items c.args.edges.items c.args.offsets.items (string_bytes c.args.texts))
+      (sym (unpack_packed c.args.nodes.items c.args.edges.items c.args.offsets.items (string_bytes c.args.texts) c.args.sequences.now c.requires.packed)) c.requires.packed,
+  c.requires.hints,
+)
 
 pub returns : goal.returns
-returns c = unpack_packed c.args.nodes.items c.args.edges.items c.args.offsets.items (string_bytes c.args.texts) c.args.sequences.now c.requires
+returns c = unpack_packed c.args.nodes.items c.args.edges.items c.args.offsets.items (string_bytes c.args.texts) c.args.sequences.now c.requires.packed

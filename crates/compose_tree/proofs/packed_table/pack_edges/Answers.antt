@@ -1,4 +1,4 @@
-use Rattle.std.proofs.Common.{◌≡◌, ◌+◌, ◌∙◌, ap, sym, set, take, drop, get_or, length, replicate, zero-add, arith, rules}
+use Rattle.std.proofs.Common.{◌≡◌, ◌+◌, ◌∙◌, refl, ap, sym, set, take, drop, get_or, length, replicate, zero-add, arith, rules}
 use Rattle.std.proofs.Math.Seq.{take-length, drop-length}
 use Rattle.compose_tree.specs.declared.edge.NodeEdge.{NodeEdge}
 use Rattle.compose_tree.specs.declared.packed.PackedNode.{PackedNode}
@@ -29,6 +29,7 @@ loop-edge-init c =
     record {
       so_far = laid_blank ∙ (λ t. replicate (count t) (record { keysym = c.default.ensures t; target = 0 })) ∙ sym (laid_none 0 ds es);
       counted = none_counted ∙ sym (counts_none 0 ds);
+      as_many = refl;
     }
 
 pub bounds-nodes-node : goal.bounds-nodes-node
@@ -79,14 +80,18 @@ loop-edge-preserved c =
     record {
       so_far = ap (λ q. set c.loop-edge.packed.items q c.pack_edge.result) offset ∙ ap (set c.loop-edge.packed.items p.q) c.pack_edge.ensures ∙ p.packed_is;
       counted = p.counts_are c.index-count.result.now c.index-count.ensures;
+      as_many = c.note.ensures ∙ c.loop-edge.invariant.as_many;
     }
 
 pub returns : goal.returns
 returns c =
     let ds = c.args.depths.now in let es = c.args.edges.now in let k = c.loop-edge.edge-index in
     let all : k ≡ length es = omega arith in
-    c.loop-edge.invariant.so_far ∙ ap (λ n. laid_edges 0 ds (take n es) (drop n es)) all
-    ∙ ap (λ x. laid_edges 0 ds x (drop (length es) es)) (take-length es) ∙ ap (laid_edges 0 ds es) (drop-length es) ∙ laid_all 0 ds es
+    record {
+      edges = c.loop-edge.invariant.so_far ∙ ap (λ n. laid_edges 0 ds (take n es) (drop n es)) all
+          ∙ ap (λ x. laid_edges 0 ds x (drop (length es) es)) (take-length es) ∙ ap (laid_edges 0 ds es) (drop-length es) ∙ laid_all 0 ds es;
+      hints = c.loop-edge.invariant.as_many;
+    }
 
 pub pack_edge-requires : goal.pack_edge-requires
 pack_edge-requires c =

@@ -1,15 +1,15 @@
 use Rattle.std.proofs.Common.{◌∙◌, ◌++◌, ◌∷◌, [], ap, string_bytes}
 use Rattle.compose_read.specs.Rows.{DraftRows, with_row}
-use Rattle.compose_read.proofs.Pools.{with_keysym, draft_keysym}
+use Rattle.compose_read.proofs.Pools.{with_keysyms, draft_keysyms}
 use Rattle.compose_read.proofs.draft.Draft.push_keysym.Goals as goal
 
 pub invariant_of-self-2 : goal.invariant_of-self-2
 invariant_of-self-2 c =
-    with_keysym c.self.inside.keysyms.items (string_bytes c.self.inside.texts) c.self.inside.spans.items c.self.inside.first_keysym c.self.inside.first_byte c.self.invariant
-    c.push.new.self.items c.args.keysym c.in_ok-push.ensures.items
+    with_keysyms c.self.inside.keysyms.items (string_bytes c.self.inside.texts) c.self.inside.spans.items c.self.inside.first_keysym c.self.inside.first_byte c.self.invariant
+    c.push.new.self.items (c.args.keysym ∷ []) c.in_ok-push.ensures.items
 
 pub returns-clause-pushed : goal.returns-clause-pushed
 returns-clause-pushed c =
-    draft_keysym c.self.inside.keysyms.items (string_bytes c.self.inside.texts) c.self.inside.spans.items c.self.inside.first_keysym c.self.inside.first_byte c.self.invariant
-    c.push.new.self.items c.args.keysym c.in_ok-push.ensures.items
+    draft_keysyms c.self.inside.keysyms.items (string_bytes c.self.inside.texts) c.self.inside.spans.items c.self.inside.first_keysym c.self.inside.first_byte c.self.invariant
+    c.push.new.self.items (c.args.keysym ∷ []) c.in_ok-push.ensures.items
     ∙ ap (λ (d : DraftRows). with_row d (record { sequence = d.row.sequence ++ c.args.keysym ∷ []; text = d.row.text })) c.self.view_is

@@ -4,7 +4,7 @@ use Rattle.compose_model.specs.Table.{Definition}
 use Rattle.compose_model.specs.Nodes.{nodes, node}
 use Rattle.compose_tree.specs.declared.packed.PackedNode.{PackedNode}
 use Rattle.compose_tree.specs.declared.packed.PackedEdge.{PackedEdge}
-use Rattle.compose_tree.specs.Packed.{IsPacked, packed_edge, unpacked}
+use Rattle.compose_tree.specs.Packed.{IsPacked, packed_edge}
 use Rattle.compose_tree.specs.Rows.{row_of}
 use Rattle.compose_tree.proofs.PackedLookups.{packed_as, node_entries, edges_between}
 use Rattle.compose_tree.proofs.lent_table.LentTable.edges_of.Goals as goal

@@ -1,4 +1,4 @@
-use Rattle.std.proofs.Common.{◌≡◌, length, arith}
+use Rattle.std.proofs.Common.{arith}
 use Rattle.compose_model.specs.Nodes.{node}
 use Rattle.compose_tree.specs.declared.packed.PackedNode.{PackedNode}
 use Rattle.compose_tree.proofs.Lookups.{node_few, node_listed}

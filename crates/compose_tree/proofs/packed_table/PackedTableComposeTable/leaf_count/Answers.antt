@@ -6,7 +6,7 @@ use Rattle.compose_tree.proofs.packed_table.PackedTableComposeTable.leaf_count.G
 
 pub overflow_sub-result : goal.overflow_sub-result
 overflow_sub-result c =
-    let p = packed_as c.self.inside.nodes.items c.self.inside.edges.items c.self.inside.offsets.items (string_bytes c.self.inside.texts) c.args.self.now c.self.invariant c.self.view_is in
+    let p = packed_as c.self.inside.nodes.items c.self.inside.edges.items c.self.inside.offsets.items (string_bytes c.self.inside.texts) c.args.self.now c.self.invariant.0 c.self.view_is in
     let n = offsets_counted c.self.inside.nodes.items c.self.inside.edges.items c.self.inside.offsets.items (string_bytes c.self.inside.texts) c.args.self.now p in
     let some = some_node c.args.self.now in
     let m = leaves_count c.args.self.now p.settled in
@@ -14,7 +14,7 @@ overflow_sub-result c =
 
 pub overflow_cast-result : goal.overflow_cast-result
 overflow_cast-result c =
-    let p = packed_as c.self.inside.nodes.items c.self.inside.edges.items c.self.inside.offsets.items (string_bytes c.self.inside.texts) c.args.self.now c.self.invariant c.self.view_is in
+    let p = packed_as c.self.inside.nodes.items c.self.inside.edges.items c.self.inside.offsets.items (string_bytes c.self.inside.texts) c.args.self.now c.self.invariant.0 c.self.view_is in
     let n = offsets_counted c.self.inside.nodes.items c.self.inside.edges.items c.self.inside.offsets.items (string_bytes c.self.inside.texts) c.args.self.now p in
     let some = some_node c.args.self.now in
     let m = leaves_count c.args.self.now p.settled in
@@ -22,7 +22,7 @@ overflow_cast-result c =
 
 pub returns : goal.returns
 returns c =
-    let p = packed_as c.self.inside.nodes.items c.self.inside.edges.items c.self.inside.offsets.items (string_bytes c.self.inside.texts) c.args.self.now c.self.invariant c.self.view_is in
+    let p = packed_as c.self.inside.nodes.items c.self.inside.edges.items c.self.inside.offsets.items (string_bytes c.self.inside.texts) c.args.self.now c.self.invariant.0 c.self.view_is in
     let n = offsets_counted c.self.inside.nodes.items c.self.inside.edges.items c.self.inside.offsets.items (string_bytes c.self.inside.texts) c.args.self.now p in
     let some = some_node c.args.self.now in
     let m = leaves_count c.args.self.now p.settled in

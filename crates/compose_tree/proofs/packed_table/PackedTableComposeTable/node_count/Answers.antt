@@ -5,7 +5,7 @@ use Rattle.compose_tree.proofs.packed_table.PackedTableComposeTable.node_count.G
 
 pub overflow_sub-result : goal.overflow_sub-result
 overflow_sub-result c =
-    let p = packed_as c.self.inside.nodes.items c.self.inside.edges.items c.self.inside.offsets.items (string_bytes c.self.inside.texts) c.args.self.now c.self.invariant c.self.view_is in
+    let p = packed_as c.self.inside.nodes.items c.self.inside.edges.items c.self.inside.offsets.items (string_bytes c.self.inside.texts) c.args.self.now c.self.invariant.0 c.self.view_is in
     let n = nodes_count c.self.inside.nodes.items c.self.inside.edges.items c.self.inside.offsets.items (string_bytes c.self.inside.texts) c.args.self.now p in
     let some = some_node c.args.self.now in
     let m = leaves_count c.args.self.now p.settled in
@@ -13,7 +13,7 @@ overflow_sub-result c =
 
 pub overflow_cast-result : goal.overflow_cast-result
 overflow_cast-result c =
-    let p = packed_as c.self.inside.nodes.items c.self.inside.edges.items c.self.inside.offsets.items (string_bytes c.self.inside.texts) c.args.self.now c.self.invariant c.self.view_is in
+    let p = packed_as c.self.inside.nodes.items c.self.inside.edges.items c.self.inside.offsets.items (string_bytes c.self.inside.texts) c.args.self.now c.self.invariant.0 c.self.view_is in
     let n = nodes_count c.self.inside.nodes.items c.self.inside.edges.items c.self.inside.offsets.items (string_bytes c.self.inside.texts) c.args.self.now p in
     let some = some_node c.args.self.now in
     let m = leaves_count c.args.self.now p.settled in
@@ -21,7 +21,7 @@ overflow_cast-result c =
 
 pub returns-clause-count : goal.returns-clause-count
 returns-clause-count c =
-    let p = packed_as c.self.inside.nodes.items c.self.inside.edges.items c.self.inside.offsets.items (string_bytes c.self.inside.texts) c.args.self.now c.self.invariant c.self.view_is in
+    let p = packed_as c.self.inside.nodes.items c.self.inside.edges.items c.self.inside.offsets.items (string_bytes c.self.inside.texts) c.args.self.now c.self.invariant.0 c.self.view_is in
     let n = nodes_count c.self.inside.nodes.items c.self.inside.edges.items c.self.inside.offsets.items (string_bytes c.self.inside.texts) c.args.self.now p in
     let some = some_node c.args.self.now in
     let m = leaves_count c.args.self.now p.settled in
@@ -29,7 +29,7 @@ returns-clause-count c =
 
 pub returns-clause-some : goal.returns-clause-some
 returns-clause-some c =
-    let p = packed_as c.self.inside.nodes.items c.self.inside.edges.items c.self.inside.offsets.items (string_bytes c.self.inside.texts) c.args.self.now c.self.invariant c.self.view_is in
+    let p = packed_as c.self.inside.nodes.items c.self.inside.edges.items c.self.inside.offsets.items (string_bytes c.self.inside.texts) c.args.self.now c.self.invariant.0 c.self.view_is in
     let n = nodes_count c.self.inside.nodes.items c.self.inside.edges.items c.self.inside.offsets.items (string_bytes c.self.inside.texts) c.args.self.now p in
     let some = some_node c.args.self.now in
     let m = leaves_count c.args.self.now p.settled in
@@ -37,7 +37,7 @@ returns-clause-some c =
 
 pub returns-clause-few : goal.returns-clause-few
 returns-clause-few c =
-    let p = packed_as c.self.inside.nodes.items c.self.inside.edges.items c.self.inside.offsets.items (string_bytes c.self.inside.texts) c.args.self.now c.self.invariant c.self.view_is in
+    let p = packed_as c.self.inside.nodes.items c.self.inside.edges.items c.self.inside.offsets.items (string_bytes c.self.inside.texts) c.args.self.now c.self.invariant.0 c.self.view_is in
     let n = nodes_count c.self.inside.nodes.items c.self.inside.edges.items c.self.inside.offsets.items (string_bytes c.self.inside.texts) c.args.self.now p in
     let some = some_node c.args.self.now in
     let m = leaves_count c.args.self.now p.settled in
