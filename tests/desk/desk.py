@@ -126,6 +126,8 @@ class Desk:
         for name in ("simple.xml", "gtkpanel.xml"):
             shutil.copy(f"/usr/share/ibus/component/{name}", self.path("component"))
         self.environment["GTK_IM_MODULE"] = "ibus"
+        # (the panel chooses the first of these as it starts, also after somebody else has chosen; without any, that of the keyboard's layout)
+        self.run("gsettings", "set", "org.freedesktop.ibus.general", "preload-engines", f"['{engine}']")
         self.start("ibus-daemon", "--config", "disable", "--emoji-extension", "disable", "--cache", "none", "--verbose")
         wait_for("ibus-daemon", lambda: self.told("ibus", "address").startswith("unix:"))
         # (as it comes, it ends what is pending)
