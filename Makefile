@@ -4,8 +4,8 @@
 # make test           the gate: proves what has changed since earlier runs on this machine, and runs all tests but `make real`
 # make test-anew      the gate from nothing
 # make test-whole     the gate with each must-fail edit in a check of its own, as the kit's `rt ci` tries them: for a release
-# make install        installs below PREFIX (/usr/local), in DESTDIR if that is set: the program, and the engine of IBus
-# make install-ibus   the engine of IBus, and the library of clients that it stands on
+# make install        installs below PREFIX (/usr/local), in DESTDIR if that is set: the program, the C libraries, and the engine of IBus where it can be built
+# make install-ibus   builds the engine of IBus and installs it, with the library of clients that it stands on
 # make install-fcitx5 builds the addon of fcitx5 and installs it, with the same library
 # make uninstall      takes away what `make install` put there
 # make dist           packs the proved program for others into packages/, as an archive
@@ -90,7 +90,10 @@ MODULES = $(shell $(PYTHON) -c 'import site, sys; print(next((it for it in site.
 IBUS_ID = org.freedesktop.ibus.engine.composecheck
 UNITS = composecheck.service composecheck.socket composecheck-update@.path composecheck-update@.service
 
-install: composecheck install-lib install-ibus
+# What the engine of IBus can't be built without, as far as it isn't there.
+IBUS_LACKS = $(shell for it in cmake c++ pkg-config; do command -v $$it > /dev/null || echo $$it; done; pkg-config --exists ibus-1.0 2> /dev/null || echo libibus-1.0-dev)
+
+install: composecheck install-lib $(if $(IBUS_LACKS),without-ibus,install-ibus)
 	install -D composecheck $(DESTDIR)$(PREFIX)/bin/composecheck
 	install -D -m 644 docs/composecheck.1 $(DESTDIR)$(PREFIX)/share/man/man1/composecheck.1
 	install -D -m 644 docs/composecheck.5 $(DESTDIR)$(PREFIX)/share/man/man5/composecheck.5
@@ -105,23 +108,19 @@ install: composecheck install-lib install-ibus
 	install -D -m 644 share/completions/composecheck.fish $(DESTDIR)$(PREFIX)/share/fish/vendor_completions.d/composecheck.fish
 	$(if $(MODULES),install -D -m 644 -t $(DESTDIR)$(MODULES) share/composecheck/composecheck_client.py share/composecheck/composecheck_typing.py)
 
-install-ibus: composecheck install-client
-	install -D -t $(DESTDIR)$(PREFIX)/share/ibus-composecheck share/ibus/ibus-engine-composecheck share/ibus/ibus-setup-composecheck
-	install -D -m 644 -t $(DESTDIR)$(PREFIX)/share/ibus-composecheck $(wildcard share/ibus/composecheck_*.py)
-	install -D -m 644 share/ibus/composecheck.xml.in $(DESTDIR)$(PREFIX)/share/ibus/component/composecheck.xml
-	sed -i "s|@PREFIX@|$(PREFIX)|; s|@VERSION@|$$(./composecheck --version | cut -d ' ' -f 2)|" $(DESTDIR)$(PREFIX)/share/ibus/component/composecheck.xml
-	install -D -m 644 share/ibus/ibus-composecheck.svg $(DESTDIR)$(PREFIX)/share/icons/hicolor/scalable/apps/ibus-composecheck.svg
-	install -D -m 644 share/ibus/$(IBUS_ID).gschema.xml $(DESTDIR)$(PREFIX)/share/glib-2.0/schemas/$(IBUS_ID).gschema.xml
-	install -D -m 644 share/ibus/$(IBUS_ID).metainfo.xml $(DESTDIR)$(PREFIX)/share/metainfo/$(IBUS_ID).metainfo.xml
-	$(if $(DESTDIR),,-glib-compile-schemas $(PREFIX)/share/glib-2.0/schemas)
+without-ibus:
+	@echo "The engine of IBus is left out, for lack of $(strip $(IBUS_LACKS)). With that, \`make install-ibus\` adds it."
 
-install-fcitx5: composecheck install-client lib-client
-	cmake -S fcitx5 -B packages/fcitx5 -DCMAKE_BUILD_TYPE=Release -DCOMPOSECHECK_CLIENT_FOLDER=$(CURDIR)/build/lib -DCMAKE_INSTALL_PREFIX=$(PREFIX) -DCOMPOSECHECK_VERSION=$$(./composecheck --version | cut -d ' ' -f 2)
-	cmake --build packages/fcitx5
-	cmake --install packages/fcitx5 --strip
+# (an engine of IBus has settings, whose schemas are compiled where they are installed)
+install-ibus install-fcitx5: install-%: composecheck install-client lib-client
+	cmake -S $* -B packages/$* -DCMAKE_BUILD_TYPE=Release -DCOMPOSECHECK_CLIENT_FOLDER=$(CURDIR)/build/lib -DCMAKE_INSTALL_PREFIX=$(PREFIX) -DCOMPOSECHECK_VERSION=$$(./composecheck --version | cut -d ' ' -f 2)
+	cmake --build packages/$*
+	cmake --install packages/$* --strip
+	$(if $(DESTDIR)$(filter fcitx5,$*),,-glib-compile-schemas $(PREFIX)/share/glib-2.0/schemas)
 
 uninstall:
-	rm -rf $(DESTDIR)$(PREFIX)/share/composecheck $(DESTDIR)$(PREFIX)/share/ibus-composecheck
+	rm -rf $(DESTDIR)$(PREFIX)/share/composecheck
+	rm -f $(DESTDIR)$(PREFIX)/libexec/ibus-engine-composecheck $(DESTDIR)$(PREFIX)/libexec/ibus-setup-composecheck
 	rm -f $(DESTDIR)$(PREFIX)/share/ibus/component/composecheck.xml $(DESTDIR)$(PREFIX)/share/icons/hicolor/scalable/apps/ibus-composecheck.svg
 	rm -f $(DESTDIR)$(PREFIX)/share/glib-2.0/schemas/$(IBUS_ID).gschema.xml $(DESTDIR)$(PREFIX)/share/metainfo/$(IBUS_ID).metainfo.xml
 	$(if $(MODULES),rm -f $(DESTDIR)$(MODULES)/composecheck_client.py $(DESTDIR)$(MODULES)/composecheck_typing.py)

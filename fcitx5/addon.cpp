@@ -2,7 +2,6 @@
 // method: so nobody has to choose it, and it is on as soon as it is installed.
 #include "following.h"
 
-#include <cstdlib>
 #include <fcitx-config/configuration.h>
 #include <fcitx-config/iniparser.h>
 #include <fcitx-utils/key.h>
@@ -74,15 +73,6 @@ std::unique_ptr<fcitx::CandidateList> candidates(const Listing &listing) {
     return list;
 }
 
-std::string socketPath() {
-    const char *path = std::getenv("COMPOSECHECK_SOCKET");
-    if (path && *path) {
-        return path;
-    }
-    const char *folder = std::getenv("XDG_RUNTIME_DIR");
-    return std::string(folder ? folder : "/run") + "/composecheck.socket";
-}
-
 void log(bool isFault, const std::string &what) {
     if (isFault) {
         FCITX_LOGC(composecheckLog, Warn) << what;
@@ -100,8 +90,7 @@ bool isTextField(const fcitx::InputContext &context) {
 class Composecheck : public fcitx::AddonInstance {
 public:
     explicit Composecheck(fcitx::Instance *instance)
-        : service_(socketPath(), log),
-          following_(composecheck::storedPath(), characterOf, nameOf, [](const std::string &why) { log(true, "the keys that can follow are not listed: " + why); }),
+        : service_(composecheck::socketPath(), log), following_(composecheck::storedPath(), characterOf, nameOf, log),
           places_([this](fcitx::InputContext &) { return new Place(service_, following_); }) {
         reloadConfig();
         instance->inputContextManager().registerProperty("composecheckPlace", &places_);

@@ -3,9 +3,9 @@
 
   package.py dist PROGRAM FOLDER    composecheck-VERSION-ARCH.tar.gz: the program, manual pages, share/, licence, SHA256SUMS and VERSION
   package.py deb PROGRAM FOLDER     composecheck_VERSION_ARCH.deb, by dpkg-deb
-  package.py ibus PROGRAM FOLDER    composecheck-ibus_VERSION_all.deb: the engine of IBus
-  package.py fcitx5 PROGRAM FOLDER  fcitx5-composecheck_VERSION_ARCH.deb: the addon of fcitx5, built by cmake where its headers are installed; else
-                                    it says that it isn't made
+  package.py ibus PROGRAM FOLDER    composecheck-ibus_VERSION_ARCH.deb: the engine of IBus, built by cmake where the headers of IBus are installed;
+                                    else it says that it isn't made
+  package.py fcitx5 PROGRAM FOLDER  fcitx5-composecheck_VERSION_ARCH.deb: the addon of fcitx5, likewise
   package.py library PROGRAM FOLDER  libcomposecheck1_VERSION_ARCH.deb, libcomposecheck-client0_VERSION_ARCH.deb and
                                     libcomposecheck-dev_VERSION_ARCH.deb: the C libraries, and what programs are built with
 
@@ -38,21 +38,13 @@ COMPLETIONS = {
     "composecheck.fish": "share/fish/vendor_completions.d/composecheck.fish",
 }
 UNITS = ("composecheck.service", "composecheck.socket", "composecheck-update@.path", "composecheck-update@.service")
-IBUS_ID = "org.freedesktop.ibus.engine.composecheck"
-# The files of the engine of IBus by their places.
-IBUS_FILES = {
-    "share/ibus-composecheck/ibus-engine-composecheck": "ibus-engine-composecheck",
-    "share/ibus-composecheck/ibus-setup-composecheck": "ibus-setup-composecheck",
-    "share/ibus-composecheck/composecheck_following.py": "composecheck_following.py",
-    "share/ibus-composecheck/composecheck_journal.py": "composecheck_journal.py",
-    "share/ibus-composecheck/composecheck_keys.py": "composecheck_keys.py",
-    "share/icons/hicolor/scalable/apps/ibus-composecheck.svg": "ibus-composecheck.svg",
-    f"share/glib-2.0/schemas/{IBUS_ID}.gschema.xml": f"{IBUS_ID}.gschema.xml",
-    f"share/metainfo/{IBUS_ID}.metainfo.xml": f"{IBUS_ID}.metainfo.xml",
-}
 # Which files of the C library programs are built with; the others are needed where they run.
 DEVELOPMENT = (".a", ".h", ".pc", "/libcomposecheck.so", "/libcomposecheck-client.so")
 PROGRAMS = ("bin/composecheck", "/ci.sh", "/update.sh", "/ibus-engine-composecheck", "/ibus-setup-composecheck")
+
+
+# What is built with the headers of an input method, by the folder of its sources: the name that pkg-config has for these, and the package of Debian.
+HEADERS = {"ibus": ("ibus-1.0", "libibus-1.0-dev"), "fcitx5": ("Fcitx5Core", "libfcitx5core-dev")}
 
 
 class Package(NamedTuple):
@@ -85,7 +77,7 @@ LIBRARY_DEV = Package("libcomposecheck-dev", "libdevel", "any", "libcomposecheck
  The headers, the static libraries and the pkg-config files of libcomposecheck
  and libcomposecheck-client, their guide and four examples.
 """)
-IBUS = Package("composecheck-ibus", "utils", "all", "composecheck (= VERSION), gir1.2-gtk-3.0, gir1.2-ibus-1.0, ibus, libcomposecheck-client0 (= VERSION), python3 (>= 3.9), python3-gi", """Compose sequences of a composecheck service, for IBus
+IBUS = Package("composecheck-ibus", "utils", "any", "composecheck (= VERSION), gir1.2-gtk-3.0, ibus, libc6, libcomposecheck-client0 (= VERSION), libglib2.0-0, libibus-1.0-5, libstdc++6, python3 (>= 3.9), python3-gi", """Compose sequences of a composecheck service, for IBus
  An engine of IBus that types by the Compose table of a running service. The
  table can be replaced while people type, also in the middle of a sequence.
  What is pending is shown where it will stand, and with libcomposecheck1 the
@@ -131,23 +123,14 @@ def files_of(program, prefix):
     return files
 
 
-def ibus_files(version):
-    """The same for the engine of IBus."""
-    files = {place: read(f"{TOP}/share/ibus/{name}") for place, name in IBUS_FILES.items()}
-    component = read(f"{TOP}/share/ibus/composecheck.xml.in")
-    files["share/ibus/component/composecheck.xml"] = component.replace(b"@PREFIX@", b"/usr").replace(b"@VERSION@", version.encode())
-    files[f"share/doc/{IBUS.name}/LICENSE"] = read(f"{TOP}/LICENSE")
-    return files
-
-
-def has_fcitx5():
-    """Whether the addon of fcitx5 can be built here."""
+def can_build(kind):
+    """Whether the engine of IBus, or the addon of fcitx5, can be built here."""
     tools = [shutil.which(it) for it in ("cmake", "c++", "pkg-config")]
-    return all(tools) and subprocess.run(["pkg-config", "--exists", "Fcitx5Core"], check=False).returncode == 0
+    return all(tools) and subprocess.run(["pkg-config", "--exists", HEADERS[kind][0]], check=False).returncode == 0
 
 
-def fcitx5_files(version):
-    """The same for the addon of fcitx5, which is built."""
+def built_files(kind, package, version):
+    """The same for the engine of IBus, or the addon of fcitx5, which is built."""
     sys.path.insert(0, f"{TOP}/lib")
     import build_library
 
@@ -155,7 +138,7 @@ def fcitx5_files(version):
         build_library.build_client(f"{room}/lib")
         settings = ("BUILD_TYPE=Release", "INSTALL_PREFIX=/usr", "INSTALL_LIBDIR=lib/" + text_of("gcc", "-print-multiarch"))
         steps = (
-            ["cmake", "-S", f"{TOP}/fcitx5", "-B", f"{room}/build", f"-DCOMPOSECHECK_VERSION={version}",
+            ["cmake", "-S", f"{TOP}/{kind}", "-B", f"{room}/build", f"-DCOMPOSECHECK_VERSION={version}",
              f"-DCOMPOSECHECK_CLIENT_FOLDER={room}/lib", *(f"-DCMAKE_{it}" for it in settings)],
             ["cmake", "--build", f"{room}/build"],
             ["cmake", "--install", f"{room}/build", "--strip"],
@@ -165,7 +148,7 @@ def fcitx5_files(version):
         top = f"{room}/installed/usr"
         places = [os.path.relpath(os.path.join(at, name), top) for at, _, names in os.walk(top) for name in names]
         files = {place: read(f"{top}/{place}") for place in places}
-    files[f"share/doc/{FCITX5.name}/LICENSE"] = read(f"{TOP}/LICENSE")
+    files[f"share/doc/{package.name}/LICENSE"] = read(f"{TOP}/LICENSE")
     return files
 
 
@@ -273,15 +256,15 @@ def main():
         print(make_dist(files_of(program, "/usr/local"), version, time, folder))
     elif kind == "deb":
         print(make_deb(THE_PROGRAM, files_of(program, "/usr"), version, time, folder))
-    elif kind == "ibus":
-        print(make_deb(IBUS, ibus_files(version), version, time, folder))
     elif kind == "library":
         for package, files in library_files().items():
             print(make_deb(package, files, version, time, folder))
-    elif not has_fcitx5():
-        print(f"{FCITX5.name} is not made: it needs cmake, c++, pkg-config and the headers of fcitx5 (in Debian libfcitx5core-dev)")
     else:
-        print(make_deb(FCITX5, fcitx5_files(version), version, time, folder))
+        package = {"ibus": IBUS, "fcitx5": FCITX5}[kind]
+        if can_build(kind):
+            print(make_deb(package, built_files(kind, package, version), version, time, folder))
+        else:
+            print(f"{package.name} is not made: it needs cmake, c++, pkg-config and the headers of {kind} (in Debian {HEADERS[kind][1]})")
 
 
 if __name__ == "__main__":

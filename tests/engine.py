@@ -1,8 +1,8 @@
 #!/usr/bin/env python3
 """engine.py PROGRAM: what the input methods do with keys, without a desktop: several requests in one write (composecheck_client.py), a session
-that survives a lost connection (composecheck_typing.py), what is taken, passed, committed and shown (share/ibus/composecheck_keys.py), what can
-follow (share/ibus/composecheck_following.py), and the same of the addon of fcitx5, compiled here where there is a compiler, on random keys.
-PROGRAM serves. The last line is `N passed, M failed`."""
+that survives a lost connection (composecheck_typing.py); and of the classes that the engines of IBus and fcitx5 share, compiled here where there is
+a compiler of C++ (engine/probe.cpp), what is taken, passed, committed, shown and logged, and what can follow, also on random keys beside second
+readings. PROGRAM serves. The last line is `N passed, M failed`."""
 import contextlib
 import logging
 import os
@@ -16,22 +16,44 @@ import sys
 import tempfile
 import threading
 import time
+from typing import NamedTuple
 
 from harness import CLIENT_LIBRARY, LIBRARY, Results
 from typing_service import TypingService
 
 TOP = os.path.dirname(os.path.dirname(os.path.abspath(__file__)))
-sys.path[:0] = [os.path.join(TOP, "share", "composecheck"), os.path.join(TOP, "share", "ibus")]
+sys.path.insert(0, os.path.join(TOP, "share", "composecheck"))
 from composecheck_client import Client, Fed, NoSession, Request, SessionTaken, State, TimedOut, UnexpectedReply
-from composecheck_following import PAGE_DOWN, PAGE_UP, Following, Listing, Row, stored_path
-from composecheck_journal import Journal
-from composecheck_keys import ACCENTS, Answer, Keys, Settings
 from composecheck_typing import Service, Typed, Typing
 
 GRAVE, ACUTE, CARON, MULTI, BACKSPACE, ESCAPE, RETURN, SHIFT = 0xFE50, 0xFE51, 0xFE5A, 0xFF20, 0xFF08, 0xFF1B, 0xFF0D, 0xFFE1
 APOSTROPHE, MINUS, A, B, C, E, X = map(ord, "'-abcex")
+PAGE_UP, PAGE_DOWN = 0xFF55, 0xFF56
 # In seconds: for a service that answers, however slow the machine is; and for one that hangs.
 AMPLE, PATIENCE, PAUSE = 30, 1, 0.5
+
+
+class Settings(NamedTuple):
+    """What people may choose."""
+
+    keep_accents: bool = True
+    commit_plain: bool = True
+
+
+class Answer(NamedTuple):
+    """Whether a key is taken, and the text that is committed before."""
+
+    taken: bool
+    text: str = ""
+
+
+class Row(NamedTuple):
+    """A key that can follow, and what it gives."""
+
+    key: str
+    gives: str
+
+
 KEEPS_NOTHING = Settings(keep_accents=False, commit_plain=False)
 
 
@@ -257,15 +279,105 @@ def check_log(service, results):
     results.expect("what is logged", [text.split(service.socket)[0] for _, text in lines], ["nobody listens on ", "", "no reply from "])
 
 
-def check_journal(_, results):
+# ---- the classes in C++
+
+PROBE = os.path.join(TOP, "tests", "engine", "probe.cpp")
+SOURCES = [os.path.join(TOP, it) for it in ("typing/client.cpp", "typing/typing.cpp", "typing/keys.cpp", "typing/following.cpp", "ibus/journal.cpp")]
+
+
+def compiled(folder, results):
+    """The path of the probe, which looks for its libraries in its folder; or None where it isn't compiled."""
+    probe, places = os.path.join(folder, "probe"), [f"-I{TOP}/{it}" for it in ("lib", "typing", "ibus")]
+    for it in (CLIENT_LIBRARY, LIBRARY):
+        os.symlink(it, os.path.join(folder, os.path.basename(it)))
+    words = ["c++", "-std=c++17", "-Wall", "-Wextra", "-Werror", *places, f"-Wl,-rpath,{folder}", "-o", probe, PROBE, *SOURCES, CLIENT_LIBRARY]
+    made = subprocess.run(words, capture_output=True, text=True)
+    results.expect("the classes in C++ are compiled", (made.returncode, made.stderr), (0, ""))
+    return None if made.returncode else probe
+
+
+class Probe:
+    """A probe that runs, and answers a line at a time; at the end `said` is what it logged."""
+
+    def __init__(self, *words, **environment):
+        pipe, self.errors = subprocess.PIPE, tempfile.TemporaryFile("w+", encoding="utf-8")
+        self.process = subprocess.Popen(words, stdin=pipe, stdout=pipe, stderr=self.errors, text=True, bufsize=1, env={**os.environ, **environment})
+
+    def __enter__(self):
+        return self
+
+    def __exit__(self, *_):
+        self.process.stdin.close()
+        self.process.stdout.close()
+        self.process.wait(60)
+        self.errors.seek(0)
+        self.said = self.errors.read()
+        self.errors.close()
+
+    def ask(self, *words):
+        self.process.stdin.write(" ".join(map(str, words)) + "\n")
+        return self.process.stdout.readline().rstrip("\n").split(" ")
+
+
+def text_of(hexadecimal):
+    return bytes.fromhex(hexadecimal).decode()
+
+
+class Keys(Probe):
+    """The keys of a place where somebody types."""
+
+    def __init__(self, probe, service, patience=AMPLE):
+        super().__init__(probe, "press", service.socket, str(int(patience * 1000)))
+        self.shown = ""
+
+    def press(self, keysym, settings=Settings(), is_text_field=True):
+        taken, text, shown = self.ask(keysym, *map(int, settings), int(is_text_field))
+        self.shown = text_of(shown)
+        return Answer(taken == "1", text_of(text))
+
+    def drop(self):
+        self.press(0)
+
+
+class Listing(Probe):
+    """What can follow in a place where somebody types, by a stored table: `rows` and `place` are what is listed."""
+
+    def __init__(self, probe, table):
+        super().__init__(probe, "list", table)
+
+    def look_up(self, *pending):
+        self.take(self.ask("look", *pending))
+        return self.rows
+
+    def turn(self, keysym):
+        return self.take(self.ask("turn", keysym))
+
+    def take(self, answer):
+        turned, place, *rows = answer
+        self.place, self.rows = text_of(place), [Row(*map(text_of, it.split("="))) for it in rows]
+        return turned == "1"
+
+
+# ---- where its messages go, and where the table is
+
+def check_journal(probe, _, results):
     with tempfile.TemporaryDirectory(prefix="engine-") as folder, socket.socket(socket.AF_UNIX, socket.SOCK_DGRAM) as journal:
         path = os.path.join(folder, "journal")
         journal.bind(path)
         journal.settimeout(30)
-        record = logging.LogRecord("composecheck", logging.WARNING, "", 0, "keys pass for %s s\nand then", (2,), None)
-        Journal("ibus-engine-composecheck", path).handle(record)
-        results.expect("a message to the journal", journal.recv(1000), b"PRIORITY=4\nSYSLOG_IDENTIFIER=ibus-engine-composecheck\nMESSAGE=keys pass for 2 s and then\n")
-    results.expect("without a journal nothing is raised", raised(Journal("engine", path).handle, record)[0], None)
+        with Probe(probe, "write", path) as engine:
+            engine.ask("keys pass for 2 s|and then")
+            results.expect("a message to the journal", journal.recv(1000), b"PRIORITY=4\nSYSLOG_IDENTIFIER=ibus-engine-composecheck\nMESSAGE=keys pass for 2 s and then\n")
+            journal.close()
+            engine.ask("keys pass")
+    results.expect("without a journal a message goes to standard error", engine.said, "ibus-engine-composecheck: keys pass\n")
+
+
+def check_state_folder(probe, _, results):
+    """Where a table is looked for: as `update` does."""
+    for changes, wanted in (({"XDG_STATE_HOME": "/s"}, "/s/composecheck/table"), ({"XDG_STATE_HOME": "", "HOME": "/h"}, "/h/.local/state/composecheck/table")):
+        with Probe(probe, "stored", **changes) as asked:
+            results.expect(f"the stored table with {changes}", asked.ask(), [wanted])
 
 
 # ---- keys
@@ -294,13 +406,11 @@ ROWS = {
 }
 
 
-def check_keys(service, results):
-    with session(service) as (_, typing):
+def check_keys(probe, service, results):
+    service.start("old")
+    with Keys(probe, service) as keys:
         for what, (keysyms, settings, is_text_field, wanted) in ROWS.items():
-            keys, got = Keys(typing), []
-            for it in keysyms:
-                got.append((keys.press(it, settings, is_text_field), keys.shown))
-            results.expect(what, got, wanted)
+            results.expect(what, [(keys.press(it, settings, is_text_field), keys.shown) for it in keysyms], wanted)
             keys.drop()
         keys.press(ACUTE)
         keys.drop()
@@ -310,93 +420,129 @@ def check_keys(service, results):
         results.expect("a sequence whose service has gone", (keys.press(E), keys.shown), (Answer(True, "´e"), ""))
         results.expect("a key after it", keys.press(E), Answer(False))
         results.expect("a dead key without a service is the toolkit's", keys.press(ACUTE), Answer(False))
-    results.expect("each dead key has an accent", sorted(ACCENTS), [*range(0xFE50, 0xFE70), *range(0xFE80, 0xFE8E), *range(0xFE90, 0xFE94)])
+        service.start("old")
+        results.expect("the service is back", keys.press(E), Answer(True, "e"))
+    results.expect("what is logged, once while it lasts", keys.said, f"nobody listens on {service.socket}; keys pass\n{service.socket} answers\n")
 
 
-def check_patience(service, results):
-    """However a service answers, no key waits longer than the patience."""
-    with session(service, patience=PATIENCE) as (_, typing):
-        keys = Keys(typing)
+def check_patience(probe, service, results):
+    """However a service answers, no key waits longer than the patience, and after one that did none waits."""
+    service.start("old")
+    with Keys(probe, service, PATIENCE) as keys:
         keys.press(ACUTE)
         service.stop()
         for what, keysym in {"a key": X, "BackSpace": BACKSPACE}.items():
             began = time.monotonic()
             keys.press(keysym)
             results.expect(f"{what} waits no longer than the patience", time.monotonic() - began < 2 * PATIENCE, True)
+    with Keys(probe, service, PATIENCE) as keys:
+        began = time.monotonic()
+        results.expect("keys pass a service that hangs", {keys.press(E) for _ in range(50)}, {Answer(False)})
+        results.expect("and wait once", time.monotonic() - began < 3 * PATIENCE, True)
+        service.go_on()
+    results.expect("that is logged once", (keys.said.count("no reply from "), keys.said.count("\n")), (1, 1))
+
+
+# The keys of a second reading, and the accents of those among them that are dead.
+PROBED = [GRAVE, ACUTE, CARON, MULTI, APOSTROPHE, MINUS, A, B, E, X, SHIFT, BACKSPACE, ESCAPE, RETURN, 0xE9, 0x1000101, 0xFE60]
+ACCENTS = {GRAVE: "`", ACUTE: "´", CARON: "ˇ", 0xFE60: "\u00a0\u0323"}
+
+
+def pressed(typing, keysym, settings, is_text_field):
+    """What docs/PROTOCOL.md says of a key ("What a client does with a reply"), on the client in Python."""
+    pending = typing.pending
+    if keysym == BACKSPACE and pending:
+        typing.erase()
+        return Answer(True)
+    accents, typed = "", typing.key(keysym)
+    if typed.accepted and typed.status == "cancelled":
+        if keysym == ESCAPE or not settings.keep_accents:
+            return Answer(True)
+        accents, typed = "".join(ACCENTS.get(it, "") for it in pending), typing.key(keysym)
+    is_printed = typed.text.isprintable() and typed.text != ""
+    if not typed.accepted:
+        return Answer(False, accents)
+    if typed.status != "nothing" or (is_printed and (accents or (settings.commit_plain and is_text_field))):
+        return Answer(True, accents + typed.text)
+    return Answer(not typed.text and (keysym in ACCENTS or keysym == MULTI), accents)
+
+
+def check_random_keys(probe, service, results):
+    chance, shown = random.Random(5), {**ACCENTS, MULTI: "·", 0x1000101: "ā"}
+    with session(service) as (_, typing), Keys(probe, service) as keys:
+        got, wanted = [], []
+        for _ in range(4000):
+            keysym, settings, is_text_field = chance.choice(PROBED), Settings(*chance.choices((False, True), k=2)), chance.random() < 0.5
+            got.append((keysym, keys.press(keysym, settings, is_text_field), keys.shown))
+            wanted.append((keysym, pressed(typing, keysym, settings, is_text_field), "".join(shown.get(it) or chr(it) for it in typing.pending)))
+        differ = [it for it in zip(got, wanted) if it[0] != it[1]]
+        results.expect("4,000 random keys, as a second reading has them", differ, [])
 
 
 # ---- what can follow
 
-# What is listed, and said of it, where there is no library.
-WITHOUT = """
-import logging
-from composecheck_following import Following
-logging.basicConfig()
-following = Following("table")
-print(following.rows((0xFE51,)), following.rows((0xFE51,)))
-"""
 # Keysyms of tables: with signs, of which some look alike, and with names alone.
 FOLLOWED = {"a": A, "e": E, "slash": 0x2F, "space": 0x20, "dead_acute": ACUTE, "dead_stroke": 0xFE63, "Multi_key": MULTI, "Left": 0xFF51, "KP_1": 0xFFB1,
             "eacute": 0xE9, "U0101": 0x1000101, **{it: ord(it) for it in "bcdfghij"}}
 LETTERS = {ord(it): it for it in "abcdefghij"}
-SIGNS = {**LETTERS, ACUTE: "´", 0xFE63: "/", MULTI: "·"}
+SIGNS = {**LETTERS, ACUTE: "´", 0xFE63: "/", MULTI: "·", 0x2F: "/", 0xFFB1: "1", 0xE9: "é", 0x1000101: "ā"}
 
 
-def check_following(service, results):
-    none = service.path("none")
-    with logged() as lines:
-        following = Following(none)
-        results.expect("without a table nothing follows", (following.rows((ACUTE,)), following.rows((GRAVE,))), ([], []))
-    results.expect("and that is logged once", [(level, none in text) for level, text in lines], [("WARNING", True)])
-    path = service.store_anew("old")
-    following = Following(path)
-    for pending, wanted in {
-        (MULTI,): [("'", "…")], (MULTI, APOSTROPHE): [("e", "ⓔ"), ("-", "…")], (GRAVE,): [("a", "à"), ("´", "…")], (X,): [], (MULTI, X): [], (ACUTE, E): [],
-    }.items():
-        results.expect(f"what follows {pending}", following.rows(pending), [Row(*it) for it in wanted])
-    service.store_anew("new")
-    results.expect("the table is read again", following.rows((ACUTE,)), [Row("a", "á"), Row("e", "é")])
-    service.write("shown.compose", '<a> <space> : "x"\n<a> <Left> : "y"\n<a> <1> : "1"\n<a> <KP_1> : "1"\n<a> <b> : "\\n"\n')
-    service.store_anew("shown")
-    shown = Following(path, lambda it: "1" if it == 0xFFB1 else chr(it) if it < 0x100 else "", {0x20: "space", 0xFF51: "Left"}.get)
-    wanted = [Row("b", "•"), Row("1", "1"), Row("space", "x"), Row("Left", "y")]
-    results.expect("letters first, and keys without a sign behind the others, by their names", shown.rows((A,)), wanted)
-    with open(path, "wb") as file:
-        file.write(b"compose")
-    with logged() as lines:
-        results.expect("what is no table", (following.rows((A,)), len(lines)), ([], 1))
+def check_following(probe, service, results):
+    none, unreadable = service.path("none"), service.path("unreadable")
+    for path in (none, unreadable):
+        with Listing(probe, path) as listing:
+            results.expect("without a table nothing follows", (listing.look_up(ACUTE), listing.look_up(GRAVE)), ([], []))
+        results.expect("and that is logged once", listing.said, f"the keys that can follow are not listed: there is no table in {path}\n")
+        service.write("unreadable", "compose")
+    with Listing(probe, service.store_anew("old")) as listing:
+        for pending, wanted in {
+            (MULTI,): [("'", "…")], (MULTI, APOSTROPHE): [("e", "ⓔ"), ("-", "…")], (GRAVE,): [("a", "à"), ("´", "…")], (X,): [], (MULTI, X): [], (ACUTE, E): [],
+        }.items():
+            results.expect(f"what follows {pending}", listing.look_up(*pending), [Row(*it) for it in wanted])
+        service.store_anew("new")
+        results.expect("the table is read again", listing.look_up(ACUTE), [Row("a", "á"), Row("e", "é")])
+        service.write("shown.compose", '<a> <space> : "x"\n<a> <Left> : "y"\n<a> <1> : "1"\n<a> <KP_1> : "1"\n<a> <b> : "\\n"\n')
+        service.store_anew("shown")
+        wanted = [Row("b", "•"), Row("1", "1"), Row("0x20", "x"), Row("0xff51", "y")]
+        results.expect("letters first, and keys without a sign behind the others, by their names", listing.look_up(A), wanted)
 
 
-def check_pages(service, results):
+def check_accents(probe, service, results):
+    """Each dead key that has a name is shown by an accent, and no other keysym is a dead key."""
+    with open(os.path.join(TOP, "crates", "builtin_names", "src", "lines.rt"), encoding="utf-8") as file:
+        names = {int(number, 16): name for name, number in re.findall(r"^#define XK_(dead_\w+) (0x\w+)", file.read(), re.M)}
+    service.write("dead.compose", "".join(f'<Multi_key> <{it}> : "x"\n' for it in names.values()))
+    with Listing(probe, service.store_anew("dead")) as listing:
+        rows = listing.look_up(MULTI)
+        for _ in range(len(names) // 10):
+            listing.turn(PAGE_DOWN)
+            rows += listing.rows
+    results.expect("each dead key has an accent", (len(rows), [it.key for it in rows if it.key.startswith("0x")]), (len(names), []))
+
+
+def check_pages(probe, service, results):
     service.write("pages.compose", "".join(f'<Multi_key> <{it}> : "{it}"\n' for it in "abcdefghijklmnopqrstuvwxy"))
-    listing = Listing(Following(service.store_anew("pages")))
-    seen = lambda: ("".join(it.key for it in listing.rows), listing.place)
-    listing.look_up((MULTI,))
-    results.expect("the first page", seen(), ("abcdefghij", "1–10 / 25"))
-    results.expect("another key doesn't turn it", (listing.turn(X), seen()), (False, ("abcdefghij", "1–10 / 25")))
-    results.expect("the next page", (listing.turn(PAGE_DOWN), seen()), (True, ("klmnopqrst", "11–20 / 25")))
-    results.expect("the last page", (listing.turn(PAGE_DOWN), seen()), (True, ("uvwxy", "21–25 / 25")))
-    results.expect("the first one again", (listing.turn(PAGE_DOWN), seen()), (True, ("abcdefghij", "1–10 / 25")))
-    results.expect("backwards", (listing.turn(PAGE_UP), seen()), (True, ("uvwxy", "21–25 / 25")))
-    listing.look_up(())
-    results.expect("of no keys nothing is listed", (seen(), listing.turn(PAGE_DOWN)), (("", ""), False))
+    with Listing(probe, service.store_anew("pages")) as listing:
+        seen = lambda: ("".join(it.key for it in listing.rows), listing.place)
+        listing.look_up(MULTI)
+        results.expect("the first page", seen(), ("abcdefghij", "1–10 / 25"))
+        results.expect("another key doesn't turn it", (listing.turn(X), seen()), (False, ("abcdefghij", "1–10 / 25")))
+        results.expect("the next page", (listing.turn(PAGE_DOWN), seen()), (True, ("klmnopqrst", "11–20 / 25")))
+        results.expect("the last page", (listing.turn(PAGE_DOWN), seen()), (True, ("uvwxy", "21–25 / 25")))
+        results.expect("the first one again", (listing.turn(PAGE_DOWN), seen()), (True, ("abcdefghij", "1–10 / 25")))
+        results.expect("backwards", (listing.turn(PAGE_UP), seen()), (True, ("uvwxy", "21–25 / 25")))
+        listing.look_up()
+        results.expect("of no keys nothing is listed", (seen(), listing.turn(PAGE_DOWN)), (("", ""), False))
 
 
-def check_without_library(_, results):
-    given = {**os.environ, "COMPOSECHECK_LIBRARY": "/nowhere.so", "PYTHONPATH": os.pathsep.join(sys.path[:2])}
-    ran = subprocess.run([sys.executable, "-B", "-c", WITHOUT], capture_output=True, text=True, timeout=60, env=given)
-    said = ran.stdout, ran.stderr.count("/nowhere.so"), ran.stderr.count("\n")
-    results.expect("without the library nothing follows, which is logged once", said, ("[] []\n", 1, 1))
-
-
-def check_state_folder(_, results):
-    """Where a table is looked for: as `update` does."""
-    before = dict(os.environ)
-    for changes, wanted in (({"XDG_STATE_HOME": "/s"}, "/s/composecheck/table"), ({"XDG_STATE_HOME": "", "HOME": "/h"}, "/h/.local/state/composecheck/table")):
-        os.environ.update(changes)
-        results.expect(f"the stored table with {changes}", stored_path(), wanted)
-    os.environ.clear()
-    os.environ.update(before)
+def check_without_library(probe, service, results):
+    """This comes last, as the probe's library is gone then."""
+    library = os.path.join(os.path.dirname(probe), os.path.basename(LIBRARY))
+    os.remove(library)
+    with open(library, "wb"), Listing(probe, service.path("old")) as listing:
+        results.expect("without the library nothing follows", (listing.look_up(ACUTE), listing.look_up(ACUTE)), ([], []))
+    results.expect("and that is logged once", listing.said, "the keys that can follow are not listed: there is no libcomposecheck.so.1\n")
 
 
 def random_table(chance):
@@ -412,115 +558,54 @@ def rows_after(table, pending):
     size = len(pending) + 1
     gives = {it[-1]: text for it, text in table.items() if it[:-1] == pending}
     gives.update((it[size - 1], "…") for it in table if len(it) > size and it[:size - 1] == pending)
-    return [Row(SIGNS.get(it, hex(it)), gives[it]) for it in sorted(gives, key=lambda it: (it not in LETTERS, it not in SIGNS, it))]
+    found = sorted(gives, key=lambda it: (it not in LETTERS, it not in SIGNS, it))
+    # (two keys may look alike)
+    return list(dict.fromkeys(Row(SIGNS.get(it, hex(it)), gives[it]) for it in found))
 
 
-def check_random_following(service, results):
-    table, text = random_table(random.Random(6))
-    service.write("random.compose", text)
-    following = Following(service.store_anew("random"), lambda it: LETTERS.get(it, ""))
-    every = sorted({it[:size] for it in table for size in range(1, 5)})
-    results.expect("what follows each beginning of random sequences", [following.rows(it) for it in every], [rows_after(table, it) for it in every])
-
-
-# ---- the addon of fcitx5
-
-PROBE = os.path.join(TOP, "fcitx5", "probe.cpp")
-SOURCES = [os.path.join(TOP, "fcitx5", it) for it in ("client.cpp", "typing.cpp", "keys.cpp", "following.cpp")]
-PROBED = [GRAVE, ACUTE, CARON, MULTI, APOSTROPHE, MINUS, A, B, E, X, SHIFT, BACKSPACE, ESCAPE, RETURN, 0xE9, 0x1000101, 0xFE60]
-
-
-def press_all(keys, presses):
-    """The answers of the engine of IBus, in the form of the probe."""
-    for keysym, keeps, commits, is_text_field in presses:
-        answer = keys.press(keysym, Settings(bool(keeps), bool(commits)), bool(is_text_field))
-        yield f"{int(answer.taken)} {answer.text.encode().hex()} {keys.shown.encode().hex()}"
-
-
-def compiled(folder, results):
-    """The addon's part without fcitx5, which looks for its libraries in its folder; or None where it isn't compiled."""
-    probe, words = os.path.join(folder, "probe"), ["-std=c++17", "-Wall", "-Wextra", "-Werror", f"-I{TOP}/lib", f"-Wl,-rpath,{folder}"]
-    for it in (CLIENT_LIBRARY, LIBRARY):
-        os.symlink(it, os.path.join(folder, os.path.basename(it)))
-    made = subprocess.run(["c++", *words, "-o", probe, PROBE, *SOURCES, CLIENT_LIBRARY], capture_output=True, text=True)
-    results.expect("the addon's keys are compiled", (made.returncode, made.stderr), (0, ""))
-    return None if made.returncode else probe
-
-
-def check_fcitx5(service, results):
-    if not shutil.which("c++"):
-        print("no c++ here: the addon of fcitx5 is not tried")
-        return
-    with tempfile.TemporaryDirectory(prefix="engine-") as folder:
-        probe = compiled(folder, results)
-        if probe:
-            check_addon_keys(probe, service, results)
-        if probe and os.path.exists(LIBRARY):
-            check_addon_list(probe, service, results)
-
-
-def check_addon_keys(probe, service, results):
-    chance = random.Random(5)
-    presses = [(chance.choice(PROBED), *(chance.randrange(2) for _ in range(3))) for _ in range(4000)]
-    with session(service) as (_, typing):
-        sent = "".join(" ".join(map(str, it)) + "\n" for it in [*presses, (0, 0, 0, 0), (E, 1, 1, 1)])
-        ran = subprocess.run([probe, service.socket, str(AMPLE * 1000)], input=sent, capture_output=True, text=True, timeout=300)
-        results.expect("the probe's status", (ran.returncode, ran.stderr), (0, ""))
-        wanted = [*press_all(Keys(typing), presses), "dropped", "1 65 "]
-        results.expect("4,000 random keys, and one after a drop, as the engine of IBus", ran.stdout.splitlines(), wanted)
-        service.stop()
-        began = time.monotonic()
-        ran = subprocess.run([probe, service.socket, str(PATIENCE * 1000)], input=f"{E} 1 1 1\n" * 50, capture_output=True, text=True, timeout=60)
-        results.expect("the addon's keys pass a service that hangs", (ran.stdout, time.monotonic() - began < 3 * PATIENCE), ("0  \n" * 50, True))
-        service.go_on()
-
-
-def list_all(listing, asked):
-    """What the engine of IBus lists, in the form of the probe."""
-    for turns, *pending in asked:
-        listing.look_up(pending)
-        for _ in range(abs(turns)):
-            listing.turn(PAGE_DOWN if turns > 0 else PAGE_UP)
-        yield " ".join([listing.place.encode().hex(), *(f"{it.key.encode().hex()}={it.gives.encode().hex()}" for it in listing.rows)])
-
-
-def told(probe, table, asked):
-    """What the addon's part prints of lists, and what it logs."""
-    ran = subprocess.run([probe, table], input=asked, capture_output=True, text=True, timeout=300)
-    return ran.stdout, ran.stderr
-
-
-def check_addon_list(probe, service, results):
-    chance = random.Random(7)
+def check_random_following(probe, service, results):
+    chance = random.Random(6)
     table, text = random_table(chance)
     service.write("random.compose", text)
-    path = service.store_anew("random")
-    begun = [(*chance.choice(list(table))[: chance.randrange(4)], *chance.choices(list(FOLLOWED.values()), k=chance.randrange(2))) for _ in range(1000)]
-    asked = [(chance.randrange(-3, 4), *it) for it in begun]
-    got = told(probe, path, "".join(" ".join(map(str, it)) + "\n" for it in asked))
-    results.expect("1,000 random lists, as those of the engine of IBus", (got[0].splitlines(), got[1]), ([*list_all(Listing(Following(path)), asked)], ""))
-    got = told(probe, f"{path}.none", f"0 {ACUTE}\n" * 2)
-    results.expect("without a table nothing follows, which the addon says once", got, ("\n\n", f"there is no table in {path}.none\n"))
-    library = os.path.join(os.path.dirname(probe), os.path.basename(LIBRARY))
-    os.remove(library)
-    with open(library, "wb"):
-        got = told(probe, path, f"0 {ACUTE}\n" * 2)
-    results.expect("nor without the library", got, ("\n\n", "there is no libcomposecheck.so.1\n"))
+    every = sorted({it[:size] for it in table for size in range(1, 5)})
+    with Listing(probe, service.store_anew("random")) as listing:
+        got, wanted = [], []
+        for pending in [*every, *((*it, chance.choice([*FOLLOWED.values()])) for it in every)]:
+            rows, page, turns = rows_after(table, pending), 0, chance.randrange(4)
+            listing.look_up(*pending)
+            for _ in range(turns):
+                keysym = chance.choice((PAGE_UP, PAGE_DOWN))
+                listing.turn(keysym)
+                page = (page + (1 if keysym == PAGE_DOWN else -1)) % max(-(-len(rows) // 10), 1)
+            got.append((pending, listing.rows))
+            wanted.append((pending, rows[10 * page: 10 * (page + 1)]))
+    results.expect("what follows each beginning of random sequences, on any page", got, wanted)
+    results.expect("nothing is logged", listing.said, "")
+
+
+def check_classes(service, results):
+    checks = [check_journal, check_state_folder, check_keys, check_patience, check_random_keys]
+    if os.path.exists(LIBRARY):
+        checks += [check_following, check_accents, check_pages, check_random_following]
+    else:
+        print("no libcomposecheck here: what can follow is not tried")
+    with tempfile.TemporaryDirectory(prefix="engine-") as folder:
+        probe = compiled(folder, results)
+        for check in [*checks, check_without_library] if probe else []:
+            check(probe, service, results)
 
 
 def main():
     logging.getLogger("composecheck").addHandler(logging.NullHandler())
     logging.getLogger("composecheck").setLevel(logging.INFO)
     results = Results()
-    checks = [check_exchange, check_document, check_deadline, check_session, check_loads, check_lost_connections, check_silence, check_full, check_others, check_log,
-              check_journal, check_keys, check_patience, check_without_library, check_state_folder, check_fcitx5]
-    if os.path.exists(LIBRARY):
-        checks += [check_following, check_pages, check_random_following]
-    else:
-        print("no libcomposecheck here: what can follow is not tried")
     with TypingService(sys.argv[1]) as service:
-        for check in checks:
+        for check in (check_exchange, check_document, check_deadline, check_session, check_loads, check_lost_connections, check_silence, check_full, check_others, check_log):
             check(service, results)
+        if shutil.which("c++"):
+            check_classes(service, results)
+        else:
+            print("no c++ here: the classes in C++ are not tried")
     return results.end()
 
 

@@ -63,6 +63,19 @@ def check_build(results):
         results.expect("make test runs the gate", tree.make("-n", "test"), ("python3 tools/gate.py\n", "", 0))
 
 
+def check_install(results):
+    """Without what the engine of IBus is built with, the rest is installed, and what is lacking is said."""
+    words = ("-n", "-o", "composecheck", "-o", "install-lib", "-o", "install-client", "-o", "lib-client", "install")
+    with Tree([]) as tree:
+        said = "The engine of IBus is left out, for lack of cmake c++ pkg-config libibus-1.0-dev."
+        printed = tree.make(*words)[0]
+        results.expect("make install without them", (said in printed.split("\n")[0], "install -D composecheck " in printed, "cmake -S" in printed), (True, True, False))
+        results.expect("make install-ibus without them", "cmake -S ibus " in tree.make(*words[:-1], "install-ibus")[0], True)
+    with Tree(["cmake", "c++", "pkg-config"]) as tree:
+        printed = tree.make(*words)[0]
+        results.expect("make install with them", (printed.startswith("cmake -S ibus "), "install -D composecheck " in printed), (True, True))
+
+
 def check_help(results):
     """Each target has a line, which is that of the comments."""
     with open(os.path.join(TOP, "Makefile"), encoding="utf-8") as file:
@@ -78,7 +91,7 @@ def check_help(results):
 
 def main():
     results = Results()
-    for check in (check_without_kit, check_build, check_help):
+    for check in (check_without_kit, check_build, check_install, check_help):
         check(results)
     return results.end()
 

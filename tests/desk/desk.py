@@ -78,9 +78,7 @@ class Desk:
 
     def install(self, target):
         """Has `make` install what is tried, beside the C libraries, which are built already."""
-        built = os.path.dirname(LIBRARY)
-        os.symlink(os.path.dirname(built), os.path.join(self.tree.top, "build"))
-        shutil.copytree(built, f"{self.prefix}/lib", symlinks=True)
+        shutil.copytree(os.path.dirname(LIBRARY), f"{self.prefix}/lib", symlinks=True)
         made = self.tree.make(target, f"PREFIX={self.prefix}", f"PYTHON={PYTHON}")
         if made.returncode:
             raise ChildProcessError(made.stderr)
@@ -124,19 +122,17 @@ class Desk:
     def start_ibus(self, engine="composecheck"):
         """Starts ibus-daemon with the engine and ibus' own ones, and chooses one of them."""
         self.install("install-ibus")
-        self.install_client()
         shutil.copy(f"{self.prefix}/share/ibus/component/composecheck.xml", self.path("component"))
         for name in ("simple.xml", "gtkpanel.xml"):
             shutil.copy(f"/usr/share/ibus/component/{name}", self.path("component"))
         self.environment["GTK_IM_MODULE"] = "ibus"
+        # (the panel chooses the first of these as it starts, also after somebody else has chosen; without any, that of the keyboard's layout)
+        self.run("gsettings", "set", "org.freedesktop.ibus.general", "preload-engines", f"['{engine}']")
         self.start("ibus-daemon", "--config", "disable", "--emoji-extension", "disable", "--cache", "none", "--verbose")
         wait_for("ibus-daemon", lambda: self.told("ibus", "address").startswith("unix:"))
         # (as it comes, it ends what is pending)
         wait_for("the panel", lambda: self.told(PYTHON, "-c", HAS_PANEL) == "True")
         self.choose(engine)
-
-    def install_client(self):
-        shutil.copytree(os.path.join(self.tree.top, "share", "composecheck"), f"{self.prefix}/share/composecheck")
 
     def choose(self, engine):
         """Makes an engine the one that all applications get. (`ibus engine NAME` has status 1 where the engine has no layout of its own.)"""

@@ -13,8 +13,8 @@ TOP = os.path.dirname(os.path.dirname(HERE))
 PICTURES = os.path.join(TOP, "packages", "pictures")
 NEEDED = (
     "cmake", "dbus-daemon", "fcitx5", "fcitx5-frontend-gtk3", "fcitx5-frontend-gtk4", "fonts-dejavu-core", "g++", "gir1.2-gtk-3.0", "gir1.2-gtk-4.0",
-    "gir1.2-ibus-1.0", "grim", "ibus", "ibus-gtk3", "ibus-gtk4", "imagemagick", "libfcitx5core-dev", "libglib2.0-bin", "pkg-config", "python3-gi", "sway",
-    "wtype", "x11-xkb-utils", "xdotool", "xvfb",
+    "gir1.2-ibus-1.0", "grim", "ibus", "ibus-gtk3", "ibus-gtk4", "imagemagick", "libfcitx5core-dev", "libglib2.0-bin", "libibus-1.0-dev", "pkg-config",
+    "python3-gi", "sway", "wtype", "x11-xkb-utils", "xdotool", "xvfb",
 )
 SHOWN = ("--pictures", PICTURES)
 TRIALS = (("trial.py", *SHOWN), ("trial.py", "--fcitx5", *SHOWN), ("trial.py", "--fcitx5", "--sway", *SHOWN), ("measure.py",))

@@ -1,5 +1,4 @@
-// Which keys can follow those that are pending, and what they give, by the table that `composecheck update` stored. It is what
-// composecheck_following.py is in Python, and knows nothing of fcitx5.
+// Which keys can follow those that are pending, and what they give, by the table that `composecheck update` stored. No toolkit is in it.
 #pragma once
 
 #include "keys.h"
@@ -17,12 +16,13 @@ struct Row {
 // Where `composecheck update` stores the table.
 std::string storedPath();
 
+// The keys that turn the page.
+constexpr uint32_t PageUp = 0xff55, PageDown = 0xff56;
+
 // What can follow, in all places where somebody types. libcomposecheck.so.1 reads the table, and again once that has changed.
 class Following {
 public:
-    // Told once why nothing is listed: there is no library, or no table.
-    using Log = std::function<void(const std::string &why)>;
-
+    // `log` is told once why nothing is listed: there is no library, or no table.
     Following(std::string path, CharacterOf characterOf, CharacterOf nameOf, Log log)
         : path_(std::move(path)), characterOf_(std::move(characterOf)), nameOf_(std::move(nameOf)), log_(std::move(log)) {}
 
@@ -31,6 +31,7 @@ public:
 
 private:
     std::shared_ptr<composecheck_table> read() const;
+    void tell(const std::string &why) const { log_(true, "the keys that can follow are not listed: " + why); }
     std::string sign(uint32_t keysym) const;
 
     std::string path_;

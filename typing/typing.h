@@ -25,12 +25,16 @@ struct Typed {
     std::string text;
 };
 
+// Where messages go.
+using Log = std::function<void(bool isFault, const std::string &what)>;
+
+// Where the service listens: $COMPOSECHECK_SOCKET, or composecheck.socket in $XDG_RUNTIME_DIR.
+std::string socketPath();
+
 // The way to a service. It is connected to when a key needs it.
 class Service {
 public:
-    // Told what keeps keys from the service, once while it lasts; and, where it is none, that the service answers again.
-    using Log = std::function<void(bool isFault, const std::string &what)>;
-
+    // `log` is told what keeps keys from the service, once while it lasts; and, where it is none, that the service answers again.
     Service(std::string path, Log log, std::chrono::milliseconds patience = Patience) : path_(std::move(path)), log_(std::move(log)), patience_(patience) {}
 
     // When a key that is asked about now is given up.

@@ -16,7 +16,6 @@ constexpr const char *LibraryName = "libcomposecheck.so.1";
 // What is shown in the place of a text where the sequence goes on; how many keys are listed at most, and how many a page has.
 constexpr const char *GoesOn = "…";
 constexpr size_t Most = 1000, PageSize = 10;
-constexpr uint32_t PageUp = 0xff55, PageDown = 0xff56;
 
 // What is called of libcomposecheck.
 struct Library {
@@ -33,7 +32,7 @@ bool find(void *opened, const char *name, Function &function) {
     return function != nullptr;
 }
 
-// The library, which stays open; null where it isn't installed. (So the addon types without it.)
+// The library, which stays open; null where it isn't installed. (So keys are typed without it.)
 const Library *library() {
     static Library found;
     static void *opened = dlopen(LibraryName, RTLD_NOW | RTLD_LOCAL);
@@ -99,7 +98,7 @@ std::vector<Row> Following::rows(const std::vector<uint32_t> &pending) {
 
 std::shared_ptr<composecheck_table> Following::read() const {
     if (!library()) {
-        log_(std::string("there is no ") + LibraryName);
+        tell(std::string("there is no ") + LibraryName);
         return nullptr;
     }
     std::ifstream file(path_, std::ios::binary);
@@ -111,7 +110,7 @@ std::shared_ptr<composecheck_table> Following::read() const {
     composecheck_fault fault{};
     std::shared_ptr<composecheck_table> table(library()->newTable(&input, &fault), library()->freeTable);
     if (!table) {
-        log_("there is no table in " + path_);
+        tell("there is no table in " + path_);
     }
     return table;
 }

@@ -1,8 +1,14 @@
 #include "typing.h"
 
+#include <cstdlib>
 #include <random>
 
 namespace composecheck {
+
+std::string socketPath() {
+    const char *path = std::getenv("COMPOSECHECK_SOCKET"), *folder = std::getenv("XDG_RUNTIME_DIR");
+    return path && *path ? path : std::string(folder ? folder : "/run") + "/composecheck.socket";
+}
 
 bool Service::connect() {
     if (!connection_ && Clock::now() >= silentUntil_) {

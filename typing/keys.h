@@ -1,5 +1,4 @@
-// What an input method does with a key: whether it takes it, which text it commits, and what it shows as pending. It is what
-// composecheck_keys.py is in Python, and knows nothing of fcitx5.
+// What an input method does with a key: whether it takes it, which text it commits, and what it shows as pending. No toolkit is in it.
 #pragma once
 
 #include "typing.h"
@@ -43,6 +42,8 @@ public:
     bool isPending() const { return !pending().empty(); }
     // Forgets the pending keys: the focus has left, or the application wants it.
     void drop() { typing_.reset(); }
+    // Ends the session: nobody types here any more.
+    void close() { typing_.close(); }
 
 private:
     Typing typing_;
