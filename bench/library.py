@@ -50,6 +50,7 @@ def main():
         print(f"{whose}: {number and round(number)} instructions a key")
     aims.add("a key, its status and text, from C", "time", 0.70, ratio(figures["ours"], figures["theirs"]))
     aims.add("a key, its status and text, from C", "instructions", 0.70, ratio(*counted))
+    aims.add("a table, from C", "time", 0.50, ratio(figures["our table"], figures["their table"]))
     print(aims.table())
 
 

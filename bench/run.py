@@ -20,6 +20,7 @@ import reference
 from aims import Aims, instructions, instructions_between, ratio
 
 SHORT_NAMES = os.path.join(TOP, "share", "composecheck", "short-unicode-names.h")
+BUILT_IN = os.path.join(TOP, "crates", "builtin_names", "src", "lines.rt")
 ENGLISH = "/usr/share/X11/locale/en_US.UTF-8/Compose"
 FINNISH = "/usr/share/X11/locale/fi_FI.UTF-8/Compose"
 TABLES = "/usr/share/X11/locale/*.UTF-8/Compose"
@@ -85,8 +86,9 @@ def read(path):
 
 
 def prepare(folder):
-    """The names, the manifests and the other program."""
-    write(folder, "names", read(reference.HEADER) + read(SHORT_NAMES))
+    """The names that are built in, and a header that is read; the manifests; and the other program."""
+    write(folder, "names", read(BUILT_IN).split('"')[1])
+    write(folder, "header", read(reference.HEADER) + read(SHORT_NAMES))
     write(folder, "english", f"root\t{ENGLISH}\n")
     write(folder, "nothing", "root\tempty\n")
     write(folder, "empty", "")
@@ -130,7 +132,7 @@ def feed_instructions(trials, folder, keys):
 
 def compare_typing(trials, folder, aims):
     """Ten million keys."""
-    keys = key_streams.stream(reference.sequences(ENGLISH, reference.header_values()), KEYS, 1)
+    keys = key_streams.stream(reference.sequences(ENGLISH, reference.header_values(BUILT_IN)), KEYS, 1)
     key_streams.write(keys, os.path.join(folder, "keys"))
     times = least_figures({"ours": [trials, "bench", "type", "names", ENGLISH, "keys"], "theirs": ["./xkb", "type", ENGLISH, "keys"]}, folder, 5)
     ours, theirs = times["ours"], times["theirs"]
@@ -145,15 +147,16 @@ def compare_typing(trials, folder, aims):
 def measure_calls(trials, folder):
     """Lexing, and reading names."""
     lexing = least_figures({"lex": [trials, "bench", "lex", ENGLISH]}, folder, 3)["lex"]["lex"]
-    names = least_figures({"names": [trials, "bench", "names", "names"]}, folder, 3)["names"]["names"]
+    headers = least_figures({it: [trials, "bench", "names", it] for it in ("header", "names")}, folder, 3)
     print(f"lexing: {lexing / 1e6:.3f} ms, {lexing / 1e6 / os.path.getsize(ENGLISH) * 100_000:.3f} ms for 100 KB")
-    print(f"reading {os.path.getsize(os.path.join(folder, 'names'))} bytes of names: {names / 1e6:.3f} ms")
+    print(f"reading {os.path.getsize(os.path.join(folder, 'header'))} bytes of names: {headers['header']['names'] / 1e6:.3f} ms")
+    print(f"the built-in names, which are compared and not read: {headers['names']['names'] / 1e6:.3f} ms")
 
 
 def compare_processes(program, folder, aims):
     """Whole processes."""
     keys = ["Multi_key", "apostrophe", "e"]
-    typing = [program, "type", "--names", "names"]
+    typing = [program, "type", "--names", "builtin"]
     times = least_processes(
         {
             "ours": [*typing, "english", *keys],
@@ -180,8 +183,8 @@ def measure_migration(program, folder, reading, aims):
     """Making and checking a certificate for a table with some more sequences."""
     characters = typed_characters()
     write(folder, "repertoire", "keys 0x20 0x1fffffff\n" + "".join(f"U+{ord(c):04X}\n" for c in characters))
-    make = [program, "make", "--names", "names", "english", "longer", "repertoire"]
-    check = [program, "check", "--names", "names", "english", "longer", "repertoire", "certificate"]
+    make = [program, "make", "--names", "builtin", "english", "longer", "repertoire"]
+    check = [program, "check", "--names", "builtin", "english", "longer", "repertoire", "certificate"]
     write(folder, "certificate", subprocess.run(make, cwd=folder, capture_output=True, text=True, check=True).stdout)
     times = least_processes({"make": make, "check": check}, folder, 40)
     print(f"reading names and two tables: {reading * 1000:.2f} ms")
@@ -209,9 +212,9 @@ def compare_keys(trials, service, folder, aims):
 def measure_service(program, trials, folder, aims):
     """Calls of a service: keys beside a bare `feed`, loads beside `check_bytes`, and opening and closing sessions."""
     write(folder, "nobody", "")
-    made = subprocess.run([program, "make", "--names", "names", "english", "english", "nobody"], cwd=folder, capture_output=True, text=True, check=True)
+    made = subprocess.run([program, "make", "--names", "builtin", "english", "english", "nobody"], cwd=folder, capture_output=True, text=True, check=True)
     write(folder, "itself", made.stdout)
-    keys = key_streams.stream(reference.sequences(ENGLISH, reference.header_values()), KEYS_IN_SESSIONS, 2)
+    keys = key_streams.stream(reference.sequences(ENGLISH, reference.header_values(BUILT_IN)), KEYS_IN_SESSIONS, 2)
     key_streams.write(keys, os.path.join(folder, "pressed"))
     service = ["names", ENGLISH, "itself"]
     compare_keys(trials, service, folder, aims)
@@ -255,7 +258,7 @@ def measure_differences(program, folder, aims):
     explain = [program, "explain", "--all", "--names", "builtin", "english", "finnish"]
     times = least_processes({"diff": [program, "diff", ENGLISH, FINNISH], "explain": explain}, folder, 15)
     print(f"diff of two tables: {times['diff'] * 1000:.2f} ms; explain --all {times['explain'] * 1000:.2f}; ratio {times['diff'] / times['explain']:.2f}")
-    aims.add("diff, of explain --all", "time", 1.5, times["diff"] / times["explain"])
+    aims.add("diff, of explain --all", "time", 1.2, times["diff"] / times["explain"])
     write(folder, "many old", many_definitions("a"))
     write(folder, "many new", many_definitions("b"))
     seconds, memory = process([program, "diff", "many old", "many new"], folder)
