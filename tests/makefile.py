@@ -1,6 +1,6 @@
 #!/usr/bin/env python3
-"""makefile.py: runs `make` with Makefile in an empty source tree, with and without a kit on the path, and compares what it says.
-The last line is `N passed, M failed`."""
+"""makefile.py: runs `make` with Makefile in an empty source tree, with and without a kit on the path, and compares what it says; and whether
+what `make names` writes is up to date. The last line is `N passed, M failed`."""
 import os
 import re
 import shutil
@@ -89,9 +89,15 @@ def check_help(results):
     results.expect("the comments at the top", text.startswith(re.sub("^", "# ", printed.rstrip("\n"), flags=re.M) + "\n"), True)
 
 
+def check_names(results):
+    """The tables of the built-in names, with their hints, of which no proof says that they are right, are those that `make names` writes."""
+    ran = subprocess.run([sys.executable, os.path.join(TOP, "packaging", "name_tables.py"), "--check", os.path.join(TOP, "crates")], capture_output=True, text=True, timeout=60)
+    results.expect("the tables of the built-in names", (ran.stdout, ran.returncode), ("\n", 0))
+
+
 def main():
     results = Results()
-    for check in (check_without_kit, check_build, check_install, check_help):
+    for check in (check_without_kit, check_build, check_install, check_help, check_names):
         check(results)
     return results.end()
 
