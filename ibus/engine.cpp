@@ -1,5 +1,7 @@
 #include "engine.h"
 
+#include <algorithm>
+
 namespace composecheck {
 
 namespace {
@@ -120,18 +122,18 @@ void Place::showList() {
 
 // ---- the object
 
-struct Engine {
+struct ComposecheckEngine {
     IBusEngine parent;
     Place *place;
 };
 
-struct EngineClass {
+struct ComposecheckEngineClass {
     IBusEngineClass parent;
 };
 
-G_DEFINE_TYPE(Engine, engine, IBUS_TYPE_ENGINE)
+G_DEFINE_TYPE(ComposecheckEngine, engine, IBUS_TYPE_ENGINE)
 
-Place &placeOf(gpointer engine) { return *static_cast<Engine *>(engine)->place; }
+Place &placeOf(gpointer engine) { return *static_cast<ComposecheckEngine *>(engine)->place; }
 
 gboolean processKeyEvent(IBusEngine *engine, guint keysym, guint, guint state) { return placeOf(engine).press(keysym, state); }
 
@@ -152,7 +154,7 @@ void finalize(GObject *engine) {
     G_OBJECT_CLASS(engine_parent_class)->finalize(engine);
 }
 
-void engine_class_init(EngineClass *made) {
+void engine_class_init(ComposecheckEngineClass *made) {
     G_OBJECT_CLASS(made)->finalize = finalize;
     IBUS_OBJECT_CLASS(made)->destroy = destroy;
     auto &engine = made->parent;
@@ -162,7 +164,7 @@ void engine_class_init(EngineClass *made) {
     engine.page_down = pageDown;
 }
 
-void engine_init(Engine *) {}
+void engine_init(ComposecheckEngine *) {}
 
 } // namespace
 
@@ -178,7 +180,7 @@ std::string nameOf(uint32_t keysym) {
 }
 
 IBusEngine *newEngine(GDBusConnection *connection, const std::string &path, const Shared &shared) {
-    auto made = static_cast<Engine *>(g_object_new(engine_get_type(), "object-path", path.c_str(), "connection", connection, nullptr));
+    auto made = static_cast<ComposecheckEngine *>(g_object_new(engine_get_type(), "object-path", path.c_str(), "connection", connection, nullptr));
     made->place = new Place(&made->parent, shared);
     return &made->parent;
 }

@@ -23,7 +23,7 @@ Journal::Journal(std::string name, const std::string &path) : name_(std::move(na
 Journal::~Journal() { close(descriptor_); }
 
 void Journal::write(bool isFault, std::string message) const {
-    // (a line of it would be another field)
+    // (a further line would be another field)
     std::replace(message.begin(), message.end(), '\n', ' ');
     std::string fields = std::string("PRIORITY=") + (isFault ? Warning : Information) + "\nSYSLOG_IDENTIFIER=" + name_ + "\nMESSAGE=" + message + "\n";
     if (sendto(descriptor_, fields.data(), fields.size(), MSG_NOSIGNAL, reinterpret_cast<const sockaddr *>(&address_), sizeof(address_)) < 0) {

@@ -20,6 +20,13 @@ The socket is $COMPOSECHECK_SOCKET, or composecheck.socket in $XDG_RUNTIME_DIR. 
 `journalctl --user -t ibus-engine-composecheck`; without a journal to standard error.
 )";
 
+// What IBus has just made, which goes with the last that refers to it.
+template <typename Object>
+std::unique_ptr<Object, decltype(&g_object_unref)> owned(Object *made) {
+    g_object_ref_sink(made);
+    return {made, g_object_unref};
+}
+
 gboolean end(gpointer loop) {
     g_main_loop_quit(static_cast<GMainLoop *>(loop));
     return G_SOURCE_CONTINUE;
@@ -43,21 +50,21 @@ private:
 };
 
 bool Process::serve() {
-    auto bus = static_cast<IBusBus *>(g_object_ref_sink(ibus_bus_new()));
-    if (!ibus_bus_is_connected(bus)) {
+    auto bus = owned(ibus_bus_new());
+    if (!ibus_bus_is_connected(bus.get())) {
         return false;
     }
-    auto loop = g_main_loop_new(nullptr, FALSE);
-    g_signal_connect_swapped(bus, "disconnected", G_CALLBACK(g_main_loop_quit), loop);
+    g_autoptr(GMainLoop) loop = g_main_loop_new(nullptr, FALSE);
+    g_signal_connect_swapped(bus.get(), "disconnected", G_CALLBACK(g_main_loop_quit), loop);
     for (int it : {SIGTERM, SIGINT}) {
         g_unix_signal_add(it, end, loop);
     }
-    auto factory = static_cast<IBusFactory *>(g_object_ref_sink(ibus_factory_new(ibus_bus_get_connection(bus))));
-    g_signal_connect(factory, "create-engine", G_CALLBACK(create), this);
-    ibus_bus_request_name(bus, BusName, 0);
+    auto factory = owned(ibus_factory_new(ibus_bus_get_connection(bus.get())));
+    g_signal_connect(factory.get(), "create-engine", G_CALLBACK(create), this);
+    ibus_bus_request_name(bus.get(), BusName, 0);
     g_main_loop_run(loop);
     // (with it go the engines, each of which ends its session)
-    ibus_object_destroy(IBUS_OBJECT(factory));
+    ibus_object_destroy(IBUS_OBJECT(factory.get()));
     return true;
 }
 
