@@ -1,5 +1,5 @@
 //! Compiling: a table is read, and its arrays are put into the caller's memory.
-ghost use Rattle.std.specs.Prelude.{◌≡◌, ◌≢◌, ◌≤◌, true, false, List, length, take, MatchResult};
+ghost use Rattle.std.specs.Prelude.{◌≡◌, ◌≢◌, ◌≤◌, ◌*◌, true, false, List, length, take, MatchResult};
 ghost use Rattle.compose_model.specs.Table.{Definition};
 ghost use Rattle.compose_tree.specs.Packed.{IsPacked, unpacked};
 ghost use Rattle.compose_c.specs.Compiled.{IsRead, AreSizes, AreSizesOf, Fits, rule_of};
@@ -68,7 +68,8 @@ fn sizes_of(arrays: &LentArrays<'_>) -> Sizes
     ensures hints { result.hints ≡ length arrays.now.hints.now }
     ensures table { (table : List Definition)
         → IsPacked arrays.now.nodes.now arrays.now.edges.now arrays.now.offsets.now
-        arrays.now.texts.now table → AreSizes table result }
+        arrays.now.texts.now table
+        → length arrays.now.hints.now ≡ 4 * length arrays.now.edges.now → AreSizes table result }
 {
     Sizes {
         nodes: arrays.nodes.len(),
@@ -84,7 +85,7 @@ fn sizes_of(arrays: &LentArrays<'_>) -> Sizes
 pub fn measure(table: &PackedTable, sizes: &mut Sizes)
     ensures { AreSizes table.now sizes.new }
 {
-    *sizes = sizes_of(&table.lend().arrays());
+    *sizes = sizes_of(&table.arrays());
 }
 
 /// Puts the arrays of the table into the caller's, and the number of entries of each into `sizes`.
@@ -112,8 +113,7 @@ pub fn put_table(
     ensures untouched { result ≡ false → (nodes.new ≡ nodes.old) × (edges.new ≡ edges.old)
         × (offsets.new ≡ offsets.old) × (texts.new ≡ texts.old) × (hints.new ≡ hints.old) }
 {
-    let lent = table.lend();
-    let arrays = lent.arrays();
+    let arrays = table.arrays();
     let needed = sizes_of(&arrays);
     *sizes = needed;
     if needed.nodes > nodes.len()

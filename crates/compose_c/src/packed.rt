@@ -215,8 +215,7 @@ pub fn is_table(
     let Some(table) = read(alloc, &source)? else {
         return Ok(false);
     };
-    let lent = table.lend();
-    let arrays = lent.arrays();
+    let arrays = table.arrays();
     let is = same_nodes(arrays.nodes, nodes)
         && same_edges(arrays.edges, edges)
         && arrays.offsets == offsets
