@@ -104,6 +104,30 @@ static void arrays(const struct composecheck_table *table)
     printf("%d other tables among the damaged ones\n", tables);
 }
 
+/* Arrays of which one depth or one target is another number are the arrays of no table. */
+static void other_numbers(const struct composecheck_table *table)
+{
+    struct composecheck_table t = *table;
+    struct composecheck_node *nodes = copied(t.nodes, t.sizes.nodes * sizeof *nodes);
+    struct composecheck_edge *edges = copied(t.edges, t.sizes.edges * sizeof *edges);
+    t.nodes = nodes;
+    t.edges = edges;
+    for (size_t i = 0; i < t.sizes.nodes; i++) {
+        nodes[i].depth++;
+        expect(composecheck_table_is_table(&t) == 0, "another depth");
+        nodes[i].depth--;
+    }
+    for (size_t i = 0; i < t.sizes.edges; i++) {
+        edges[i].target++;
+        expect(composecheck_table_is_table(&t) == 0, "another target");
+        edges[i].target--;
+    }
+    expect(composecheck_table_is_table(&t) == 1, "the numbers of the table");
+    expect(t.sizes.hints == 4 * t.sizes.edges, "four hints for each edge");
+    free(nodes);
+    free(edges);
+}
+
 static void rooms(const struct composecheck_input *input)
 {
     size_t header, length;
@@ -243,6 +267,7 @@ int main(int count, char **arguments)
         return 1;
     states(table, 20000);
     arrays(table);
+    other_numbers(table);
     rooms(&input);
     lines();
     searches();

@@ -5,3 +5,11 @@ pub mod NewPaths
 pub mod AnswerLists
 pub mod Searched
 pub mod ArraySizes
+pub mod SequencesFrom
+pub mod FirstDefinitions
+pub mod EdgeTargets
+pub mod SettledAgain
+pub mod LooseParts
+pub mod NextDefinition
+pub mod NextEdge
+pub mod WholeTable

@@ -10,6 +10,7 @@
 ghost use Rattle.std.specs.Prelude.{◌≡◌, ◌≢◌, ◌≤◌, ◌<◌, ◌+◌, ℕ, List, true, false, take, map, length, slice_get, Some, None, option_map};
 ghost use Rattle.compose_model.specs.Nodes.{edges as keys_behind};
 ghost use Rattle.compose_model.specs.Step.{effect};
+ghost use Rattle.compose_model.specs.Table.{Definition};
 ghost use Rattle.compose_model.specs.Session.{rest, fed, loaded};
 ghost use Rattle.compose_state.specs.Answers.{sequence_text};
 ghost use Rattle.compose_tree.specs.Packed.{IsPacked, unpacked};
@@ -37,6 +38,7 @@ mod following;
 mod include;
 mod load;
 mod locale;
+mod loose;
 mod packed;
 mod pieces;
 mod results;
@@ -57,7 +59,8 @@ use include::include;
 use keysym_core::Keysym;
 use load::{check, load};
 use locale::locale_file;
-pub use packed::LooseEdge;
+use loose::LooseArrays;
+pub use loose::LooseEdge;
 use packed::is_table;
 use results::{compile_with_results, result_of};
 pub use state::State;
@@ -505,8 +508,9 @@ pub extern "C" fn composecheck_load(
 }
 
 /// Returns 1 if these arrays, of any numbers, are a table as `composecheck_compile` writes one, 0
-/// if they are not, and 2 if memory runs out. The hints of a table are not checked, since any bytes
-/// are hints. Takes about as long as compiling the table.
+/// if they are the arrays of no table, and 2 if memory runs out. The hints of a table are not
+/// checked, since any bytes are hints. Takes about as long as compiling the
+/// table.
 #[unsafe(no_mangle)]
 pub extern "C" fn composecheck_is_table(
     alloc: Global,
@@ -517,9 +521,17 @@ pub extern "C" fn composecheck_is_table(
 ) -> u32
     ensures packed { result ≡ 1 → IsPacked nodes.now (map edge_of edges.now) offsets.now texts.now
         (unpacked nodes.now (map edge_of edges.now) offsets.now texts.now) }
+    ensures refused { result ≡ 0 → (table : List Definition)
+        → IsPacked nodes.now (map edge_of edges.now) offsets.now texts.now table → ⊥ }
     ensures few { result ≤ 2 }
 {
-    match is_table(alloc, nodes, edges, offsets, texts) {
+    let arrays = LooseArrays {
+        nodes,
+        edges,
+        offsets,
+        texts,
+    };
+    match is_table(alloc, &arrays) {
         Ok(true) => 1,
         Ok(false) => 0,
         Err(_) => 2,

@@ -1,175 +1,43 @@
 //! Tests whether arrays of unchecked numbers are a table.
 //!
-//! The sequences that the arrays spell are written as a Compose file, and the file is read: the
-//! arrays are a table if they equal the arrays of the table that is read. So the proof needs no
-//! fact about how the arrays are walked here.
-ghost use Rattle.std.specs.Prelude.{◌≡◌, true, IfOk, map};
-ghost use Rattle.compose_tree.specs.Packed.{IsPacked, unpacked};
-ghost use Rattle.compose_c.specs.Arrays.{edge_of};
+//! The arrays are a table if they equal the arrays of the table of the definitions that they spell.
+ghost use Rattle.std.specs.Prelude.{◌≡◌, ◌≤◌, true, false, List, length, map, IfOk, MatchOption};
+ghost use Rattle.compose_model.specs.Table.{Definition};
+ghost use Rattle.compose_model.specs.Nodes.{nodes};
+ghost use Rattle.compose_read.specs.Settle.{IsSettled};
+ghost use Rattle.compose_tree.specs.Packed.{unpacked};
+ghost use Rattle.compose_tree.specs.Targets.{max_nodes};
+ghost use Rattle.compose_c.specs.Arrays.{AreOf, edge_of};
 
-use compose_lex::{LexFault, quote};
+use crate::loose::{LooseArrays, LooseEdge, definitions_of};
 use compose_model::Rule;
-use compose_read::{SourceFault, Sources};
-use compose_tree::{PackedEdge, PackedNode, PackedTable, TableFault, read_first_table};
-use keysym_core::Names;
+use compose_read::{Definitions, SettleFault, settle};
+use compose_tree::{BuildFault, ComposeTable, PackedEdge, PackedNode, PackedTable};
 use std::alloc::{AllocError, Global};
-use std::fmt::Write;
 
-/// The greatest number of keysyms in a sequence.
-const MOST_KEYSYMS: usize = 32;
-
-/// An edge of unchecked numbers.
-#[repr(C)]
-#[derive(Clone, Copy)]
-pub struct LooseEdge {
-    /// The number of the keysym; it may be too large for one.
-    pub keysym: u32,
-    /// The target, as in `PackedEdge`; it may be out of range.
-    pub target: u32,
-}
-
-/// The start of an edge: its node, and the keysym's number.
-#[derive(Clone, Copy)]
-struct Origin {
-    node: usize,
-    keysym: u32,
-}
-
-/// For each node and for each leaf, the start of an edge that leads to it, if there is one.
-#[derive(Drop)]
-struct Origins {
-    nodes: Vec<Option<Origin>>,
-    leaves: Vec<Option<Origin>>,
-}
-
-/// Notes an origin at this index, if the index is in range. O(1).
-fn note(origins: &mut [Option<Origin>], index: usize, origin: Origin) {
-    if index < origins.len() {
-        origins[index] = Some(origin);
-    }
-}
-
-/// Notes the edges of a node at their targets. O(edges).
-fn note_edges(edges: &[LooseEdge], node: usize, origins: &mut Origins) {
-    for edge in edges {
-        let index = (edge.target / 2) as usize;
-        let origin = Origin {
-            node,
-            keysym: edge.keysym,
-        };
-        if edge.target % 2 == 0 {
-            note(&mut origins.nodes, index, origin);
-        } else {
-            note(&mut origins.leaves, index, origin);
-        }
-    }
-}
-
-/// Returns the origins of all nodes and leaves, by the edges of these nodes. O(nodes + edges +
-/// leaves).
-fn origins_of(
-    alloc: Global,
-    nodes: &[PackedNode],
-    edges: &[LooseEdge],
-    leaves: usize,
-) -> Result<Origins, AllocError> {
-    let mut origins = Origins {
-        nodes: Vec::from_elem(alloc, None, nodes.len())?,
-        leaves: Vec::from_elem(alloc, None, leaves)?,
+/// Returns the table of these definitions, or `None` if they are not settled or have too many
+/// nodes.
+fn table_of(alloc: Global, definitions: Definitions) -> Result<Option<PackedTable>, AllocError>
+    ensures { IfOk result
+        (λ found. IsSettled definitions → length (nodes definitions) ≤ max_nodes
+        → MatchOption found ⊥ (λ table. table ≡ definitions)) }
+{
+    let sequences = match settle(alloc, definitions, Rule::Refuse) {
+        Ok(sequences) => sequences,
+        Err(SettleFault::NoMemory) => return Err(AllocError),
+        Err(SettleFault::Overlap { .. }) => return Ok(None),
     };
-    for (node, pair) in nodes.windows(2).enumerate() {
-        let (first, end) = (pair[0].first as usize, pair[1].first as usize);
-        if let Some(own) = edges.get(first..end) {
-            note_edges(own, node, &mut origins);
-        }
-    }
-    Ok(origins)
-}
-
-/// Returns the numbers of the keysyms that lead to a leaf, the last one first, at most 32.
-/// O(keysyms).
-fn path_to(alloc: Global, origins: &Origins, leaf: Option<Origin>) -> Result<Vec<u32>, AllocError> {
-    let mut path = Vec::new(alloc);
-    let mut origin = leaf;
-    for _ in 0..MOST_KEYSYMS {
-        let Some(step) = origin else {
-            return Ok(path);
-        };
-        path.push(step.keysym)?;
-        origin = match origins.nodes.get(step.node) {
-            Some(before) => *before,
-            None => None,
-        };
-    }
-    Ok(path)
-}
-
-/// Adds a line of a Compose file for these keysyms, the last one first, and this text; adds nothing
-/// if the bytes are not UTF-8.
-fn push_line(
-    alloc: Global,
-    source: &mut String,
-    path: &[u32],
-    bytes: &[u8],
-) -> Result<(), AllocError> {
-    let Ok(text) = std::str::from_utf8(bytes) else {
-        return Ok(());
-    };
-    for keysym in path.iter().rev() {
-        let event = format!(in alloc; "<{:#x}> ", *keysym).map_err(|_| AllocError)?;
-        source.push_str(&event)?;
-    }
-    let quoted = quote(alloc, text).map_err(|_| AllocError)?;
-    source.push_str(": ")?;
-    source.push_str(&quoted)?;
-    source.push_str("\n")
-}
-
-/// Returns the sequences that the arrays spell, as a Compose file. O(nodes + edges + keysyms of all
-/// sequences + bytes).
-fn written(
-    alloc: Global,
-    nodes: &[PackedNode],
-    edges: &[LooseEdge],
-    offsets: &[u32],
-    texts: &[u8],
-) -> Result<String, AllocError> {
-    let origins = origins_of(alloc, nodes, edges, offsets.len())?;
-    let mut source = String::new(alloc);
-    for (leaf, pair) in offsets.windows(2).enumerate() {
-        let origin = match origins.leaves.get(leaf) {
-            Some(origin) => *origin,
-            None => None,
-        };
-        let path = path_to(alloc, &origins, origin)?;
-        if let Some(text) = texts.get(pair[0] as usize..pair[1] as usize) {
-            push_line(alloc, &mut source, &path, text)?;
-        }
-    }
-    Ok(source)
-}
-
-/// Returns the table of a Compose file, or `None` if it is faulty.
-fn read(alloc: Global, source: &str) -> Result<Option<PackedTable>, AllocError> {
-    let Ok(names) = Names::core(alloc) else {
-        return Err(AllocError);
-    };
-    let mut bytes = Vec::with_capacity(alloc, source.len())?;
-    bytes.extend_from_slice(source.as_bytes())?;
-    let mut sources = Sources::new(alloc);
-    if sources.add("table", bytes).is_err() {
-        return Err(AllocError);
-    }
-    match read_first_table(alloc, &names, &sources, Rule::Refuse) {
+    match PackedTable::build(alloc, sequences) {
         Ok(table) => Ok(Some(table)),
-        Err(TableFault::NoMemory) => Err(AllocError),
-        Err(_) => Ok(None),
+        Err(BuildFault::NoMemory) => Err(AllocError),
+        Err(BuildFault::TooManyNodes) => Ok(None),
     }
 }
 
 /// Returns whether these are the same nodes. O(nodes).
 fn same_nodes(nodes: &[PackedNode], others: &[PackedNode]) -> bool
-    ensures { result ≡ true → nodes.now ≡ others.now }
+    ensures same { result ≡ true → nodes.now ≡ others.now }
+    ensures different { result ≡ false → nodes.now ≡ others.now → ⊥ }
 {
     if nodes.len() != others.len() {
         return false;
@@ -185,7 +53,8 @@ fn same_nodes(nodes: &[PackedNode], others: &[PackedNode]) -> bool
 
 /// Returns whether these are the same edges. O(edges).
 fn same_edges(edges: &[PackedEdge], others: &[LooseEdge]) -> bool
-    ensures { result ≡ true → edges.now ≡ map edge_of others.now }
+    ensures same { result ≡ true → edges.now ≡ map edge_of others.now }
+    ensures different { result ≡ false → edges.now ≡ map edge_of others.now → ⊥ }
 {
     if edges.len() != others.len() {
         return false;
@@ -199,26 +68,32 @@ fn same_edges(edges: &[PackedEdge], others: &[LooseEdge]) -> bool
     true
 }
 
-/// Returns whether the arrays are a table, for `composecheck_is_table`. `Err` if memory runs out.
-pub fn is_table(
-    alloc: Global,
-    nodes: &[PackedNode],
-    edges: &[LooseEdge],
-    offsets: &[u32],
-    texts: &[u8],
-) -> Result<bool, AllocError>
-    ensures { IfOk result (λ is. is ≡ true
-        → IsPacked nodes.now (map edge_of edges.now) offsets.now texts.now
-        (unpacked nodes.now (map edge_of edges.now) offsets.now texts.now)) }
+/// Returns whether the arrays are those of the table. O(arrays).
+fn are_arrays_of(table: &PackedTable, arrays: &LooseArrays<'_>) -> bool
+    ensures are { result ≡ true → AreOf arrays.now table.now }
+    ensures differ { result ≡ false → AreOf arrays.now table.now → ⊥ }
 {
-    let source = written(alloc, nodes, edges, offsets, texts)?;
-    let Some(table) = read(alloc, &source)? else {
+    let own = table.arrays();
+    same_nodes(own.nodes, arrays.nodes)
+        && same_edges(own.edges, arrays.edges)
+        && own.offsets == arrays.offsets
+        && own.texts == arrays.texts
+}
+
+/// Returns whether the arrays are a table, for `composecheck_is_table`. `Err` if memory runs out.
+pub fn is_table(alloc: Global, arrays: &LooseArrays<'_>) -> Result<bool, AllocError>
+    ensures packed { IfOk result (λ is. is ≡ true
+        → AreOf arrays.now
+        (unpacked arrays.now.nodes.now
+        (map edge_of arrays.now.edges.now) arrays.now.offsets.now arrays.now.texts.now)) }
+    ensures refused { IfOk result
+        (λ is. is ≡ false → (table : List Definition) → AreOf arrays.now table → ⊥) }
+{
+    let Some(definitions) = definitions_of(alloc, arrays)? else {
         return Ok(false);
     };
-    let arrays = table.arrays();
-    let is = same_nodes(arrays.nodes, nodes)
-        && same_edges(arrays.edges, edges)
-        && arrays.offsets == offsets
-        && arrays.texts == texts;
-    Ok(is)
+    let Some(table) = table_of(alloc, definitions)? else {
+        return Ok(false);
+    };
+    Ok(are_arrays_of(&table, arrays))
 }
