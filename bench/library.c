@@ -1,6 +1,7 @@
 /* library TABLE KEYS ROUNDS: types a stream of keys, four bytes each, on one table by libcomposecheck and by libxkbcommon, in turns in one process.
  * Prints a figure a line, a name, a tab and a number: the nanoseconds of the quickest round of each, of keys with their status and text, of feeding
- * alone, and of reading the table; and at how many keys the two answer otherwise. Ends with 2 where a table can't be read.
+ * alone, of compiling the table into arrays that are kept, and of reading it with its result keysyms; and at how many keys the two answer
+ * otherwise. Ends with 2 where a table can't be read.
  *
  *   library ours|theirs TABLE KEYS   types the keys once by the one or the other, with status and text: for counts of instructions */
 #define _GNU_SOURCE
@@ -123,6 +124,42 @@ static void our_reading(void)
     composecheck_table_free(our_table());
 }
 
+/* A bundle of the one source, and arrays for its table, which the caller keeps. */
+static uint8_t *bundle;
+static size_t bundle_length;
+static struct composecheck_node *nodes;
+static struct composecheck_edge *edges;
+static uint32_t *offsets;
+static uint8_t *texts, *hints;
+
+static void keep_arrays(void)
+{
+    const uint8_t head[] = { 0, 1, 0, 1, 'r', (uint8_t) (length >> 24), (uint8_t) (length >> 16), (uint8_t) (length >> 8), (uint8_t) length };
+    const struct composecheck_sizes *sizes = &table->sizes;
+    bundle_length = sizeof head + length + 4;
+    bundle = calloc(1, bundle_length);
+    nodes = calloc(sizes->nodes, sizeof *nodes);
+    edges = calloc(sizes->edges, sizeof *edges);
+    offsets = calloc(sizes->offsets, sizeof *offsets);
+    texts = calloc(1, sizes->texts);
+    hints = calloc(1, sizes->hints);
+    if (!bundle || !nodes || !edges || !offsets || !texts || !hints)
+        exit(2);
+    memcpy(bundle, head, sizeof head);
+    memcpy(bundle + sizeof head, bytes, length);
+}
+
+static void our_compiling(void)
+{
+    size_t header_length;
+    const uint8_t *header = composecheck_builtin_names(&header_length);
+    struct composecheck_sizes sizes = table->sizes;
+    struct composecheck_fault fault;
+    if (composecheck_compile(header, header_length, bundle, bundle_length, true, nodes, sizes.nodes, edges, sizes.edges, offsets, sizes.offsets, texts,
+                             sizes.texts, hints, sizes.hints, &sizes, &fault) != COMPOSECHECK_DONE)
+        exit(2);
+}
+
 static void their_reading(void)
 {
     xkb_compose_table_unref(their_table());
@@ -134,6 +171,7 @@ static void begin(const char *table_path, const char *key_path)
     context = xkb_context_new(XKB_CONTEXT_NO_DEFAULT_INCLUDES);
     xkb_context_set_log_level(context, XKB_LOG_LEVEL_CRITICAL);
     table = our_table();
+    keep_arrays();
     their_state = xkb_compose_state_new(their_table(), XKB_COMPOSE_STATE_NO_FLAGS);
     keys = read_file(key_path, &key_count);
     key_count /= sizeof *keys;
@@ -148,8 +186,8 @@ int main(int count, char **words)
         (words[1][0] == 'o' ? ours : theirs)();
         return 0;
     }
-    static void (*const parts[])(void) = { ours, theirs, our_feed, their_feed, our_reading, their_reading };
-    static const char *const names[] = { "ours", "theirs", "our feed", "their feed", "our table", "their table" };
+    static void (*const parts[])(void) = { ours, theirs, our_feed, their_feed, our_compiling, our_reading, their_reading };
+    static const char *const names[] = { "ours", "theirs", "our feed", "their feed", "our compiling", "our table", "their table" };
     enum { PARTS = sizeof parts / sizeof *parts };
     uint64_t least[PARTS];
     memset(least, 0xff, sizeof least);

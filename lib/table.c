@@ -114,10 +114,10 @@ static size_t block_size(const struct composecheck_sizes *sizes)
            + 2 * sizes->offsets * sizeof(uint32_t) + sizes->texts + sizes->hints;
 }
 
-/* A block with room for this number of entries. */
+/* A block with room for this number of entries, which may hold anything. */
 static uint8_t *new_block(const struct composecheck_sizes *sizes, struct room *room)
 {
-    uint8_t *block = calloc(1, block_size(sizes));
+    uint8_t *block = malloc(block_size(sizes));
     if (block)
         lay_out(block, sizes, room);
     return block;
@@ -137,21 +137,25 @@ static struct composecheck_table *table_of(const struct room *wide, const struct
     memcpy(room.hints, wide->hints, sizes->hints);
     memcpy(room.results, wide->results, result_count * sizeof *room.results);
     struct composecheck_table *table = (struct composecheck_table *) (void *) block;
-    table->sizes = *sizes;
-    table->nodes = room.nodes;
-    table->edges = room.edges;
-    table->offsets = room.offsets;
-    table->texts = room.texts;
-    table->hints = room.hints;
-    table->results = room.results;
-    table->result_count = result_count;
+    *table = (struct composecheck_table) {
+        .sizes = *sizes,
+        .nodes = room.nodes,
+        .edges = room.edges,
+        .offsets = room.offsets,
+        .texts = room.texts,
+        .hints = room.hints,
+        .results = room.results,
+        .result_count = result_count,
+    };
     return table;
 }
 
-/* Room that the table of a source of this number of bytes hardly exceeds: an event has three bytes, a line five. */
+/* Room for the table of most sources of this number of bytes. An event has three bytes and a line five, so only the edges and their hints can be too
+ * few: the room of edges is cleared, and most tables have far fewer than one for each three bytes. A table with more is read once more. */
 static struct composecheck_sizes guess(size_t bytes)
 {
-    struct composecheck_sizes sizes = { bytes / 3 + 2, bytes / 3 + 1, bytes / 5 + 2, bytes + 1, 4 * (bytes / 3 + 1), { 0 } };
+    size_t edges = bytes / 12 + 1;
+    struct composecheck_sizes sizes = { bytes / 3 + 2, edges, bytes / 5 + 2, bytes + 1, 4 * edges, { 0 } };
     return sizes;
 }
 
@@ -202,6 +206,8 @@ static uint32_t read_into(const struct composecheck_table *in_use, const struct 
     *fault = fault_of(COMPOSECHECK_MEMORY, 0);
     if (!block)
         return COMPOSECHECK_REFUSED;
+    /* (an edge holds a keysym before the call too; the other entries may hold anything) */
+    memset(room.edges, 0, sizes->edges * sizeof *room.edges);
     uint32_t done = in_use ? load(in_use, input, bundle, &room, sizes, fault) : COMPOSECHECK_DONE;
     if (done == COMPOSECHECK_DONE)
         done = fill(input, bundle, &room, sizes, &result_count, fault);

@@ -172,6 +172,24 @@ static void rooms(const struct composecheck_input *input)
     composecheck_table_free(table);
 }
 
+/* A source of short lines, whose table has more entries than sources of its length mostly have: it is read once more, with more room. */
+static void short_lines(void)
+{
+    enum { COUNT = 1000, LINE = 10 };
+    static char text[COUNT * LINE + 1];
+    for (int i = 0; i < COUNT; i++)
+        snprintf(text + i * LINE, LINE + 1, "<U%04X>:a\n", 0x4e00 + i);
+    struct composecheck_source source = { "root", text, COUNT * LINE };
+    struct composecheck_input input = { .sources = &source, .source_count = 1, .longest = true };
+    struct composecheck_fault fault;
+    struct composecheck_table *table = composecheck_table_new(&input, &fault);
+    expect(table && fault.part == 0 && table->sizes.edges == COUNT && table->result_count == COUNT, "a table of short lines");
+    expect(table && composecheck_table_is_table(table) == 1, "short lines make a table");
+    struct composecheck_table *same = table ? composecheck_table_load(table, &input, &fault) : NULL;
+    expect(!same && fault.part != 0, "without a certificate it is no load");
+    composecheck_table_free(table);
+}
+
 static void lines(void)
 {
     static const char good[] = " include \"%S/en\\\"x\" # more";
@@ -269,6 +287,7 @@ int main(int count, char **arguments)
     arrays(table);
     other_numbers(table);
     rooms(&input);
+    short_lines();
     lines();
     searches();
     if (count > 1)
