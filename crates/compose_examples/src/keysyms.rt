@@ -229,12 +229,20 @@ fn expect_same(
 ) -> Result<(), NameFault> {
     let keysym = one.lookup(name).unwrap_or_default();
     assert_eq!(rt; other.lookup(name), Some(keysym), "{name}");
-    assert_eq!(rt; one.print(alloc, keysym)?, other.print(alloc, keysym)?, "{name}");
+    assert_eq!(rt;
+        one.print(alloc, keysym)?,
+        other.print(alloc, keysym)?,
+        "{name}"
+    );
     assert_eq!(rt; one.text_of(keysym), other.text_of(keysym), "{name}");
     if let Some(character) = one.text_of(keysym) {
         let before = one.next_of(character, None);
         assert_eq!(rt; before, other.next_of(character, None), "{name}");
-        assert_eq!(rt; one.next_of(character, before), other.next_of(character, before), "{name}");
+        assert_eq!(rt;
+            one.next_of(character, before),
+            other.next_of(character, before),
+            "{name}"
+        );
     }
     Ok(())
 }
