@@ -205,6 +205,7 @@ def compare_keys(trials, service, folder, aims):
         print(f"keys in {sessions} sessions: {bare:.1f} ns a key by a bare feed")
         for column, name, aim in ((1, "its status and text read", 1.2), (2, "its reply handed out whole", 1.5)):
             ratios = sorted(row[column] / row[0] for row in rounds)
+            served = statistics.median(row[column] for row in rounds)
             aims.add(f"a key in {sessions} sessions, {name}, of a bare feed", "time", aim, statistics.median(ratios))
             print(f"  through a service, {name}: {served:.1f} ns; ratio {statistics.median(ratios):.2f} ({ratios[0]:.2f} to {ratios[-1]:.2f})")
 
