@@ -160,8 +160,8 @@ uint32_t composecheck_load(const uint8_t *header, size_t header_length,
                            uint32_t *offsets, size_t offset_room, uint8_t *texts, size_t text_room, uint8_t *hints, size_t hint_room,
                            struct composecheck_sizes *sizes, struct composecheck_fault *fault);
 
-/* Whether arrays of any numbers are a table: 1 they are, 0 they are the arrays of no table, 2 no memory. About as dear as
- * compiling the table. MALLOC */
+/* Whether arrays of any numbers are a table: 1 they are, 0 they are the arrays of no table, 2 no memory. At most as dear as compiling the
+ * table. MALLOC */
 uint32_t composecheck_is_table(const struct composecheck_node *nodes, size_t node_count, const struct composecheck_edge *edges, size_t edge_count,
                                const uint32_t *offsets, size_t offset_count, const uint8_t *texts, size_t text_count);
 
