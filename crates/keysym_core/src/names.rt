@@ -147,8 +147,8 @@ impl Names {
     }
 
     /// Returns the keysym of a name: by the table, else by the form `U00E9`, else by the form
-    /// `0xe9`. O(n) in the bytes of the name: a test of the form, then one comparison with the name
-    /// at the index that the table has for it.
+    /// `0xe9`. O(n) in the bytes of the name: a test of the form, then a comparison with the name at
+    /// the hinted index, and a hash only if that is another name.
     #[inline(always)]
     pub fn lookup(&self, name: &str) -> Option<Keysym>
         ensures { result ≡ value self.now name.now }
