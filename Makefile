@@ -119,7 +119,7 @@ install-ibus install-fcitx5: install-%: composecheck install-client lib-client
 	$(if $(DESTDIR)$(filter fcitx5,$*),,-glib-compile-schemas $(PREFIX)/share/glib-2.0/schemas)
 
 uninstall:
-	rm -rf $(DESTDIR)$(PREFIX)/share/composecheck
+	rm -rf $(DESTDIR)$(PREFIX)/share/composecheck $(DESTDIR)$(PREFIX)/share/ibus-composecheck
 	rm -f $(DESTDIR)$(PREFIX)/libexec/ibus-engine-composecheck $(DESTDIR)$(PREFIX)/libexec/ibus-setup-composecheck
 	rm -f $(DESTDIR)$(PREFIX)/share/ibus/component/composecheck.xml $(DESTDIR)$(PREFIX)/share/icons/hicolor/scalable/apps/ibus-composecheck.svg
 	rm -f $(DESTDIR)$(PREFIX)/share/glib-2.0/schemas/$(IBUS_ID).gschema.xml $(DESTDIR)$(PREFIX)/share/metainfo/$(IBUS_ID).metainfo.xml

@@ -28,7 +28,8 @@ Where each public call that takes memory is called with ample memory, and its an
   write_bundle, read_bundle                          here (read_bundle by the loads)
   Feeder::feed, Feeder::next_request                 here; compose_examples/frames
   Service::start                                     here; service.py
-  Service::answer (Open, Load, LoadLongest)          here; service.py, streams.py
+  Service::answer and answer_into (Open, Load,
+    LoadLongest)                                     here; service.py, streams.py
   Service::run                                       here
   Service::serve                                     devices.py, service.py
   begin, allow_fresh, end_text, unprinted_text, unprinted_after,

@@ -206,7 +206,7 @@ class Trial:
         self.last = last
         self.rt, self.crate, self.kept, self.room, self.results, self.prepare = rt, crate, kept, room, results, prepare or self.proof
         self.files = [it for it in rt.edits_of(crate)[0] if is_asked(os.path.basename(it).removesuffix(".edit"))]
-        self.left, self.told, self.earlier, self.is_proved = collections.deque(), {}, {}, False
+        self.left, self.told, self.earlier, self.is_proved, self.taking = collections.deque(), {}, {}, False, threading.Lock()
         # the functions that are edited in batches, the crate with refused answers of them, and whether an edit was tried alone
         self.functions, self.answered, self.is_alone = [], crate, False
 
@@ -260,8 +260,10 @@ class Trial:
         need not find it again."""
         for judged in glob.glob(f"{glob.escape(kept)}/*/judged"):
             at = f"{self.kept}/{os.path.relpath(judged, kept)}"
-            if os.path.isdir(os.path.dirname(at)) and not os.path.exists(at):
-                os.replace(judged, at)
+            # (two checks of a crate can end at the same time)
+            with self.taking:
+                if os.path.isdir(os.path.dirname(at)) and not os.path.exists(at):
+                    os.replace(judged, at)
 
     def begin(self):
         """Plans the checks of the crate's edits, but for those whose results earlier runs kept."""

@@ -17,6 +17,7 @@ import os
 import shutil
 import sys
 import time
+import traceback
 
 import edits
 import kit
@@ -158,9 +159,18 @@ class Gate:
             crate = crates[name.partition(" ")[0]]
             seconds = work if kind == "edits" else work and measured.seconds_of(crate, kind)
             least = 2 if kind == "proof" and name in on_chains else 1
-            return waits, seconds, measured.memory_of(crate, memory), lambda given, jobs: call(given, max(jobs, least))
+            return waits, seconds, measured.memory_of(crate, memory), lambda given, jobs: named(f"{name} {kind}", lambda: call(given, max(jobs, least)))
 
         return self.in_lanes({it: weighed(*it, *task) for it, task in tasks.items()})
+
+
+def named(task, call):
+    """Calls the call of a task, and says which task it was where an exception ends it."""
+    try:
+        return call()
+    except Exception as error:
+        error.add_note(f"proofs: this was the task '{task}'")
+        raise
 
 
 def on_long_chains(crates):
@@ -180,7 +190,11 @@ def main():
     file, *words = sys.argv[1:]
     rt, is_anew = edits.load_rt(), "--anew" in words
     Gate(rt, os.path.abspath(file), None if kit.has_store(rt) else store.Store(rt, is_anew))
-    return kit.ci(rt, is_anew, [it for it in words if it != "--anew"])
+    try:
+        return kit.ci(rt, is_anew, [it for it in words if it != "--anew"])
+    except Exception as error:
+        # (what stands above the last frames are rt's lanes, whatever went wrong in them)
+        sys.exit("".join(traceback.format_exception(error, limit=-3)))
 
 
 if __name__ == "__main__":

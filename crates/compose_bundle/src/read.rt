@@ -1,5 +1,5 @@
 //! Reading a bundle from a payload.
-ghost use Rattle.std.specs.Prelude.{◌≡◌, ◌<◌, ◌≤◌, [], Some, None, length, IfOk, MatchOption, MatchResult, option_map};
+ghost use Rattle.std.specs.Prelude.{◌≡◌, ◌<◌, ◌≤◌, [], Some, None, length, MatchOption, MatchResult, option_map};
 ghost use Rattle.std.specs.Int.{from_be_bytes, w16, w32};
 ghost use Rattle.compose_bundle.specs.Bundle.{IsBundle};
 ghost use Rattle.compose_bundle.specs.Decoded as words;
@@ -8,7 +8,7 @@ ghost use Rattle.compose_bundle.specs.Written.{NotRead, NotDecoded};
 
 use crate::BundleFault;
 use compose_read::{SourceFault, Sources};
-use std::alloc::{AllocError, Global};
+use std::alloc::Global;
 
 /// The largest number of sources in a bundle.
 const MOST_SOURCES: u16 = 64;
@@ -17,7 +17,7 @@ const MOST_SOURCES: u16 = 64;
 #[derive(Drop)]
 pub struct Bundle<'b> {
     /// The sources of the table; the first one is its root.
-    pub sources: Sources,
+    pub sources: Sources<'b>,
     /// The text of the certificate.
     pub certificate: &'b [u8],
 }
@@ -27,8 +27,8 @@ pub struct Bundle<'b> {
 /// A payload is two bytes with the number of sources, 1 to 64; for each source two bytes with the
 /// length of its name, the name, four bytes with the length of its content, and the content; four
 /// bytes with the length of the certificate, and the certificate. Nothing follows. All numbers are
-/// big-endian; the names are UTF-8 and distinct. O(bytes); the contents are copied, the certificate
-/// is borrowed.
+/// big-endian; the names are UTF-8 and distinct. O(bytes); the contents and the certificate are
+/// borrowed.
 ///
 /// Errors: `Form` if the payload is not a bundle, `NoMemory` if memory runs out.
 pub fn read_bundle(alloc: Global, payload: &[u8]) -> Result<Bundle<'_>, BundleFault>
@@ -70,7 +70,11 @@ fn decode(alloc: Global, bytes: &[u8]) -> Result<Bundle<'_>, BundleFault>
 }
 
 /// Reads `count` sources, and returns them with the bytes after them.
-fn read_sources(alloc: Global, count: u16, bytes: &[u8]) -> Result<(Sources, &[u8]), BundleFault>
+fn read_sources(
+    alloc: Global,
+    count: u16,
+    bytes: &[u8],
+) -> Result<(Sources<'_>, &[u8]), BundleFault>
     requires { count ≤ 64 }
     ensures { MatchResult result (λ p. sources_at count [] bytes.now ≡ Some (p.0, p.1.now))
         (λ fault. NotDecoded fault (sources_at count [] bytes.now)) }
@@ -89,7 +93,7 @@ fn read_sources(alloc: Global, count: u16, bytes: &[u8]) -> Result<(Sources, &[u
 /// Adds the source at the beginning of the bytes, and returns the bytes after it.
 fn read_source<'b>(
     alloc: Global,
-    sources: &mut Sources,
+    sources: &mut Sources<'b>,
     bytes: &'b [u8],
 ) -> Result<&'b [u8], BundleFault>
     requires { length sources.old < 64 }
@@ -106,23 +110,11 @@ fn read_source<'b>(
     let Some((content, rest)) = split_by_4(rest) else {
         return Err(BundleFault::Form);
     };
-    let Ok(content) = copied(alloc, content) else {
-        return Err(BundleFault::NoMemory);
-    };
-    match sources.add(name, content) {
+    match sources.add_borrowed(name, content) {
         Ok(()) => Ok(rest),
         Err(SourceFault::NoMemory) => Err(BundleFault::NoMemory),
         Err(SourceFault::NameTaken | SourceFault::TooManySources) => Err(BundleFault::Form),
     }
-}
-
-/// Returns a copy of these bytes, in one allocation of their size. Linear.
-fn copied(alloc: Global, bytes: &[u8]) -> Result<Vec<u8>, AllocError>
-    ensures { IfOk result (λ copy. copy.items ≡ bytes.now) }
-{
-    let mut copy = Vec::with_capacity(alloc, bytes.len())?;
-    copy.extend_from_slice(bytes).unwrap();
-    Ok(copy)
 }
 
 /// Splits off a number of two bytes.

@@ -1,6 +1,8 @@
 //! The search for the files of a table, over the answers from C.
-ghost use Rattle.std.specs.Prelude.{◌≡◌, ◌<◌, ◌≤◌, ◌≢◌, ◌⊎◌, ◌∷◌, [], IfOk, MatchResult, length, take, option_copied, option_map};
+ghost use Rattle.std.specs.Prelude.{◌≡◌, ◌<◌, ◌≤◌, ◌≢◌, ◌⊎◌, ◌∷◌, [], IfOk, MatchResult, length, map, take, option_copied, option_map};
 ghost use Rattle.compose_find.specs.FindReturns.{words};
+ghost use Rattle.compose_find.specs.Found.{held};
+ghost use Rattle.compose_find.specs.Sources.{AreHeld};
 ghost use Rattle.compose_c.specs.Faults as numbers;
 ghost use Rattle.compose_c.specs.Finds as finds;
 ghost use Rattle.compose_c.specs.Finds.{IsBundled, IsSearchResult, IsSearchResultOf, FailsSearch, Finds, Wants, Needs, ReportsFind, search_by, search_of, words_of};
@@ -10,7 +12,9 @@ use crate::copies::put;
 use crate::fault::{FaultRecord, of_lexical, of_part};
 use crate::pieces::text_of;
 use compose_bundle::{BundleFault, write_bundle};
-use compose_find::{FindFault, IncludeFault, Meanings, find_table};
+use compose_find::{
+    Files, FindFault, FoundSource, FoundTable, IncludeFault, Meanings, find_sources,
+};
 use compose_messages::fault_position;
 use compose_read::{ReadFault, Sources};
 use std::alloc::{AllocError, Global};
@@ -200,8 +204,8 @@ fn search_over(
     let Ok(files) = files_of(alloc, answers) else {
         return Err(of_part(6, 0));
     };
-    match find_table(alloc, &files, meanings, root) {
-        Ok(table) => bundle_of(alloc, &table.sources, certificate),
+    match find_sources(alloc, &files, meanings, root) {
+        Ok(found) => bundle_found(alloc, files, found, certificate),
         Err(FindFault::Wanted { path }) => Ok(SearchResult::Wanted(path)),
         Err(FindFault::MissingRoot { path }) => Err(of_missing_root(answers, &path)),
         Err(FindFault::MissingFile { from, line, .. }) => {
@@ -211,6 +215,24 @@ fn search_over(
             Err(of_include(alloc, answers, &from, line, fault))
         }
         Err(FindFault::NoMemory) => Err(of_part(6, 0)),
+    }
+}
+
+/// Returns the bundle of the sources that were found among these files, and of this certificate.
+fn bundle_found(
+    alloc: Global,
+    files: Files,
+    found: Vec<FoundSource>,
+    certificate: &[u8],
+) -> Result<SearchResult, FaultRecord>
+    requires { AreHeld files found.items }
+    ensures { IsBundled
+        (record { sources = map (held files) found.items; certificate = certificate.now })
+        result }
+{
+    match FoundTable::new(alloc, files, found) {
+        Ok(table) => bundle_of(alloc, &table.sources, certificate),
+        Err(_) => Err(of_part(6, 0)),
     }
 }
 
@@ -369,7 +391,7 @@ fn column_in(
 }
 
 /// Returns one source of these bytes, without a name. `Err` if memory runs out.
-fn alone(alloc: Global, bytes: &[u8]) -> Result<Sources, AllocError>
+fn alone(alloc: Global, bytes: &[u8]) -> Result<Sources<'static>, AllocError>
     ensures { IfOk result (λ sources. sources ≡ record { name = []; bytes = bytes.now } ∷ []) }
 {
     let mut sources = Sources::new(alloc);

@@ -26,9 +26,9 @@ pub struct CheckInput<'a> {
     /// A header of keysym names, which are added to the core names.
     pub header: &'a [u8],
     /// The sources of the old table.
-    pub old: &'a Sources,
+    pub old: &'a Sources<'a>,
     /// The sources of the new table.
-    pub new: &'a Sources,
+    pub new: &'a Sources<'a>,
     /// What is done in the old table if a sequence is a prefix of another one.
     pub old_rule: Rule,
     /// What is done in the new table if a sequence is a prefix of another one.

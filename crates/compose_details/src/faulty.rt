@@ -67,7 +67,7 @@ fn push_others(
 }
 
 /// Returns the name of the first source, or an empty text if there is none.
-pub(crate) fn root_of(sources: &Sources) -> &str
+pub(crate) fn root_of<'a>(sources: &'a Sources) -> &'a str
     ensures { result.now ≡ faulty.root_of sources.now }
 {
     sources.name(0).unwrap_or("")

@@ -50,7 +50,11 @@ pub fn add(
 
 /// Returns the sources `r` and `%L`.
 /// Errors: `NoMemory` if memory runs out.
-pub fn two_sources(alloc: Global, root: &[u8], included: &str) -> Result<Sources, SourceFault> {
+pub fn two_sources(
+    alloc: Global,
+    root: &[u8],
+    included: &str,
+) -> Result<Sources<'static>, SourceFault> {
     let mut sources = Sources::new(alloc);
     add(&mut sources, alloc, "r", root)?;
     add(&mut sources, alloc, "%L", included.as_bytes())?;

@@ -24,6 +24,8 @@ mod faults;
 #[cfg(test)]
 mod faulty_lines;
 #[cfg(test)]
+mod finding;
+#[cfg(test)]
 mod forms;
 #[cfg(test)]
 mod frames;

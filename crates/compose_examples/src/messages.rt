@@ -63,7 +63,7 @@ static FAULTY: [(&str, &str, &str); 38] = [
 ];
 
 /// Returns the sources `r` and `%L`.
-fn two_sources(alloc: Global, root: &[u8], included: &str) -> Result<Sources, Fail> {
+fn two_sources(alloc: Global, root: &[u8], included: &str) -> Result<Sources<'static>, Fail> {
     let mut sources = Sources::new(alloc);
     sources.add("r", Vec::from_slice(alloc, root)?)?;
     sources.add("%L", Vec::from_slice(alloc, included.as_bytes())?)?;

@@ -425,7 +425,7 @@ fn expect_written_in(
 
 /// Returns the root with this line between two others, and the included source with this line
 /// alone.
-fn written_sources(alloc: Global, line: &str) -> Result<Sources, SourceFault> {
+fn written_sources(alloc: Global, line: &str) -> Result<Sources<'static>, SourceFault> {
     let mut root = String::from_str(alloc, "\u{feff}<b> : \"x\"\n")?;
     root.push_str(line)?;
     root.push_str("\n<c> : \"x\"")?;
@@ -465,7 +465,7 @@ fn written_lines_by_number(rt: HostRuntime) -> Result<(), SourceFault> {
 }
 
 /// Returns a source with a line that is not UTF-8, and one that is.
-fn with_bytes(alloc: Global) -> Result<Sources, SourceFault> {
+fn with_bytes(alloc: Global) -> Result<Sources<'static>, SourceFault> {
     let mut sources = Sources::new(alloc);
     add(&mut sources, alloc, "r", b"<a> : \"x\" # \xe9\n<b> : \"x\"")?;
     Ok(sources)

@@ -379,7 +379,7 @@ fn hinted_orders(rt: HostRuntime) -> Result<(), SourceFault> {
 }
 
 /// Returns the source `r` alone.
-fn one_source(alloc: Global, root: &[u8]) -> Result<Sources, SourceFault> {
+fn one_source(alloc: Global, root: &[u8]) -> Result<Sources<'static>, SourceFault> {
     let mut sources = Sources::new(alloc);
     add(&mut sources, alloc, "r", root)?;
     Ok(sources)
@@ -437,7 +437,7 @@ fn add_listed(sources: &mut Sources, alloc: Global, listed: &[Lines]) -> Result<
     Ok(())
 }
 
-fn listed_sources(alloc: Global, listed: &[Lines]) -> Result<Sources, SourceFault> {
+fn listed_sources(alloc: Global, listed: &[Lines]) -> Result<Sources<'static>, SourceFault> {
     let mut sources = Sources::new(alloc);
     add_listed(&mut sources, alloc, listed)?;
     Ok(sources)
@@ -510,7 +510,7 @@ fn expect_refused(
 }
 
 /// 64 sources, each of which includes the next one.
-fn most_sources(alloc: Global) -> Result<Sources, SourceFault> {
+fn most_sources(alloc: Global) -> Result<Sources<'static>, SourceFault> {
     let mut sources = Sources::new(alloc);
     add_most(&mut sources, alloc)?;
     Ok(sources)

@@ -13,7 +13,7 @@ use std::test::Fail;
 
 /// Returns the sources with this text alone.
 /// Errors: memory runs out.
-pub fn one_source(alloc: Global, text: &str) -> Result<Sources, Fail> {
+pub fn one_source(alloc: Global, text: &str) -> Result<Sources<'static>, Fail> {
     let mut sources = Sources::new(alloc);
     sources.add("root", Vec::from_slice(alloc, text.as_bytes())?)?;
     Ok(sources)

@@ -1,21 +1,30 @@
 -- The sources that were found, with the bytes of their files.
-use Rattle.std.proofs.Common.{◌≡◌, ℕ, suc, zero, ◌<◌, ◌≤◌, List, [], ◌∷◌, Bool, true, false, cond, map, take, length, Some, None, refl, sym, ◌∙◌, ap, arith}
-use Rattle.std.specs.Prelude.{slice_get, bytes_eq, nat_lt, nat_le}
+use Rattle.std.proofs.Common.{◌≡◌, ℕ, suc, zero, ◌<◌, ◌≤◌, List, [], ◌∷◌, Bool, true, false, cond, map, take, get_or, length, Some, None, refl, sym, ◌∙◌, ap, arith}
+use Rattle.std.specs.Prelude.{Ok, is_some, slice_get, bytes_eq, nat_lt, nat_le}
 use Rattle.std.specs.List.{IsDistinct, AllByRecursion}
 use Rattle.std.proofs.lemmas.Bool.{le-ltb, lt-leb}
 use Rattle.std.proofs.lemmas.List.{length-map, length-take-le}
+use Rattle.std.proofs.lemmas.List.Elements.{Contains-get_or}
 use Rattle.std.proofs.lemmas.Option.{slice_get_within}
 use Rattle.std.proofs.lemmas.Slice.Eq.{bytes_eq-Decides}
 use Rattle.compose_read.specs.Lines.{source_named}
 use Rattle.compose_read.specs.Sources.{add_fault}
 use Rattle.compose_read.specs.declared.sources.SourceFault.TheVariants.{NameTaken, TooManySources}
-use Rattle.compose_find.specs.Found.{TriedFile, FoundSource, held}
-use Rattle.compose_find.specs.Sources.{FindsBytes}
+use Rattle.compose_find.specs.Expand.{Words}
+use Rattle.compose_find.specs.Found.{TriedFile, FoundSource, held, held_at, found}
+use Rattle.compose_find.specs.Sources.{FindsBytes, AreHeld}
 use Rattle.compose_find.proofs.Followed.{finds_sources}
 
 -- there are bytes at the path of each source that is found
 pub finds_bytes : FindsBytes
 finds_bytes files words root sources e source listed = let followed = (finds_sources files words root sources e).followed source listed in rw followed.there refl
+
+-- there is a file for each source that is found, and their names are distinct
+pub finds_held : (files : List TriedFile) (words : Words) (root : List ℕ) (sources : List FoundSource) → found files words root ≡ Ok sources → AreHeld files sources
+finds_held files words root sources e =
+    let sound = finds_sources files words root sources e in
+    let there : (k : ℕ) (d : FoundSource) → k < length sources → is_some (held_at files (get_or sources k d).path) ≡ true = λ k d within. rw (sound.followed (get_or sources k d) (Contains-get_or sources k d within)).there refl in
+    record { there = there; distinct = sound.distinct; few = sound.few }
 
 -- ---- names
 

@@ -1,3 +1,4 @@
+mod AnyLocale
 mod Percents
 mod IncludeLines
 mod Folders
@@ -5,5 +6,6 @@ mod Searches
 mod Places
 mod Followed
 mod Held
+mod Taken
 mod TablePaths
 mod Below

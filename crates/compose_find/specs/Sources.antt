@@ -1,5 +1,5 @@
 -- What the search finds: the sources of a table, each of which is the root or included by another one.
-use Rattle.std.specs.Prelude.{◌≡◌, ◌+◌, ◌<◌, ◌≤◌, ℕ, List, length, Some, None, Ok, Contains, map, slice_get, bytes_eq}
+use Rattle.std.specs.Prelude.{◌≡◌, ◌+◌, ◌<◌, ◌≤◌, ℕ, List, length, Option, Some, None, IsSome, Ok, All, Contains, map, slice_get, bytes_eq}
 use Rattle.std.specs.List.{IsDistinct}
 use Rattle.compose_read.specs.Sources.{max_sources}
 use Rattle.compose_find.specs.Expand.{Words, include_path}
@@ -45,6 +45,12 @@ pub record AreSources (files : List TriedFile) (words : Words) (root : List ℕ)
   pub distinct : IsDistinct bytes_eq (map (λ m. m.name) sources)
   pub few : length sources ≤ max_sources
 
+-- there is a file at the path of each of these sources, no two have the same name, and there are not too many
+pub record AreHeld (files : List TriedFile) (sources : List FoundSource) : Type 0 where
+  pub there : All (λ m. IsSome (held_at files m.path)) sources
+  pub distinct : IsDistinct bytes_eq (map (λ m. m.name) sources)
+  pub few : length sources ≤ max_sources
+
 -- the result of a search that succeeds
 abbrev pub FindsSources : Type 0
 FindsSources = (files : List TriedFile) (words : Words) (root : List ℕ) (sources : List FoundSource) → found files words root ≡ Ok sources → AreSources files words root sources
@@ -54,3 +60,8 @@ abbrev pub FindsBytes : Type 0
 FindsBytes =
     (files : List TriedFile) (words : Words) (root : List ℕ) (sources : List FoundSource) → found files words root ≡ Ok sources → (source : FoundSource) → Contains sources source
     → held_at files source.path ≡ Some (held files source).bytes
+
+-- a table that is found without a locale is found with any: no text of its includes has `%L`
+abbrev pub FindsWithAny : Type 0
+FindsWithAny = (files : List TriedFile) (words : Words) (root : List ℕ) (locale : Option (List ℕ)) (sources : List FoundSource)
+    → found files (record words { locale = None }) root ≡ Ok sources → found files (record words { locale = locale }) root ≡ Ok sources

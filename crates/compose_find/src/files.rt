@@ -1,6 +1,6 @@
 //! Files that were looked for: their bytes and their includes.
-ghost use Rattle.std.specs.Prelude.{◌≡◌, ◌++◌, ◌∷◌, [], OnOk, OnErr, IfOk, option_copied, bytes_eq, string_bytes};
-ghost use Rattle.std.specs.List.{find};
+ghost use Rattle.std.specs.Prelude.{◌≡◌, ◌++◌, ◌∷◌, [], List, ℕ, false, None, OnOk, OnErr, IfOk, option_copied, bytes_eq, string_bytes};
+ghost use Rattle.std.specs.List.{find, position};
 ghost use Rattle.std.specs.Option.{option_map};
 ghost use Rattle.compose_find.specs.Includes.{includes_of};
 ghost use Rattle.compose_find.specs.Found as found;
@@ -106,6 +106,17 @@ impl Files {
         self.looked(path)?.bytes()
     }
 
+    /// Takes out the bytes of the file at this path, if one was found there: from now on there is
+    /// no file. O(f) in the files.
+    pub(crate) fn take_at(&mut self, path: &str) -> Option<Vec<u8>>
+        ensures bytes { option_map (λ b. b.items) result ≡ found.held_at self.old path.now }
+        ensures others { (other : List ℕ) → bytes_eq path.now other ≡ false
+            → found.held_at self.new other ≡ found.held_at self.old other }
+    {
+        let index = self.index_of(path)?;
+        self.files[index].take_bytes()
+    }
+
     /// Returns the includes of the file at this path, or `None` if there is no file. Errors:
     /// `Wanted` if the path was not looked for yet, or `NoMemory`.
     pub(crate) fn found_includes(
@@ -137,6 +148,13 @@ impl Files {
         ensures { option_copied result ≡ find (λ f. bytes_eq path.now f.path) self.now }
     {
         self.files.iter().find(|file| has_path(file, path))
+    }
+
+    /// Returns the index of the entry of this path, if it was looked for.
+    fn index_of(&self, path: &str) -> Option<usize>
+        ensures { result ≡ position (λ f. bytes_eq path.now f.path) self.now }
+    {
+        self.files.iter().position(|file| has_path(file, path))
     }
 }
 
@@ -170,6 +188,14 @@ impl TriedFile {
         ensures { option_copied result ≡ self.now.bytes }
     {
         Some(self.file.as_ref()?.bytes())
+    }
+
+    /// Takes out the bytes of the file, if there is one: from now on there is no file.
+    fn take_bytes(&mut self) -> Option<Vec<u8>>
+        ensures bytes { option_map (λ b. b.items) result ≡ self.old.bytes }
+        ensures gone { self.new ≡ record { path = self.old.path; bytes = None } }
+    {
+        Some(self.file.take()?.bytes)
     }
 
     /// Returns the includes of the file, if there is one.

@@ -1,9 +1,10 @@
 //! The search for the files of a table, following includes.
-ghost use Rattle.std.specs.Prelude.{◌≡◌, ◌≤◌, ◌<◌, length, string_bytes, bytes_eq, slice_get, OnOk, Ok, Some, [], ◌∷◌};
+ghost use Rattle.std.specs.Prelude.{◌≡◌, ◌≤◌, ◌<◌, length, string_bytes, bytes_eq, slice_get, OnOk, IfOk, Ok, Some, [], ◌∷◌};
 ghost use Rattle.std.specs.List.{find};
 ghost use Rattle.compose_find.specs.Found as found;
 ghost use Rattle.compose_find.specs.Expand as paths;
 ghost use Rattle.compose_find.specs.FindReturns.{words, FindReturns};
+ghost use Rattle.compose_find.specs.Sources.{AreHeld};
 
 use crate::files::Files;
 use crate::found_source::{FindFault, FoundSource, known, missing_file, refused};
@@ -17,7 +18,8 @@ use std::alloc::Global;
 const MAX_DEPTH: usize = 8;
 
 /// Finds every source of the table whose root is at this path, the root first: one for each
-/// different raw text of an include, with its path.
+/// different raw text of an include, with its path. There is a file at each of these paths, as
+/// [`FoundTable::new`](crate::FoundTable::new) asks.
 ///
 /// The file of an include is looked for in three places: an absolute path first below the root
 /// folder of these meanings, if there is one; then the path itself; then beside the including file.
@@ -34,8 +36,9 @@ pub fn find_sources(
     meanings: Meanings<'_>,
     root: &str,
 ) -> Result<Vec<FoundSource>, FindFault>
-    ensures { FindReturns (λ sources. sources.items) result
+    ensures found { FindReturns (λ sources. sources.items) result
         (found.found files.now (words meanings.entry) root.now) }
+    ensures held { IfOk result (λ sources. AreHeld files.now sources.items) }
 {
     let mut sources = Vec::new(alloc);
     sources.push(root_source(alloc, root)?)?;

@@ -3,9 +3,10 @@ ghost use Rattle.std.specs.Prelude.{None};
 
 use crate::reading::{Folder, Unread};
 use std::alloc::Global;
-use std::io::Read;
+use std::fs::{File, OpenFile};
+use std::io;
+use std::io::{ErrorKind, Read};
 use std::rt::Files;
-use std::{fs, io};
 
 /// The files of the disk, and standard input, whose path is `-`. No contract says what they hold.
 #[derive(Drop)]
@@ -29,11 +30,11 @@ impl<R: Files + Input + AllocGlobal> Folder for Disk<'_, R> {
         let read = if path == "-" {
             standard_input(self.rt, alloc)
         } else {
-            fs::read(self.rt, path)
+            read_file(self.rt, alloc, path)
         };
         match read {
             Ok(bytes) => Ok(bytes),
-            Err(error) if error.kind() == io::ErrorKind::OutOfMemory => Err(Unread::NoMemory),
+            Err(error) if error.kind() == ErrorKind::OutOfMemory => Err(Unread::NoMemory),
             Err(error) => Err(Unread::Refused(error.kind())),
         }
     }
@@ -43,5 +44,15 @@ impl<R: Files + Input + AllocGlobal> Folder for Disk<'_, R> {
 fn standard_input(rt: &impl Input, alloc: Global) -> io::Result<Vec<u8>> {
     let mut bytes = Vec::new(alloc);
     rt.reader().read_to_end(&mut bytes)?;
+    Ok(bytes)
+}
+
+/// Reads a file to its end, into one allocation of its size and a byte more, so that a file that
+/// didn't grow meanwhile never has to be moved.
+fn read_file(rt: &impl Files, alloc: Global, path: &str) -> io::Result<Vec<u8>> {
+    let mut file = File::open(rt, path)?;
+    let size = file.metadata()?.len();
+    let mut bytes = Vec::with_capacity(alloc, (size as usize).saturating_add(1))?;
+    file.read_to_end(&mut bytes)?;
     Ok(bytes)
 }

@@ -1,3 +1,4 @@
+mod AnyLocale
 pub mod Failing
 pub mod Listed
 pub mod NamesRead

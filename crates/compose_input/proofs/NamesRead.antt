@@ -1,7 +1,6 @@
 -- Files of names that were read.
 use Rattle.std.proofs.Common.{◌≡◌, ◌∙◌, ◌<◌, ◌+◌, ap, sym, subst, ℕ, List, [], ◌∷◌, ◌++◌, map, take, length, get_or, Bor, arith}
-use Rattle.std.specs.Prelude.{Option, flat_map}
-use Rattle.std.proofs.lemmas.Grind.{flat_map-append}
+use Rattle.std.specs.Prelude.{Option}
 use Rattle.std.proofs.lemmas.List.{map-append, flat_map_more, take_more}
 use Rattle.std.proofs.lemmas.List.Elements.{All-append, All-cons}
 use Rattle.compose_folder.specs.Content.{Entry}

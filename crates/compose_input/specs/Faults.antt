@@ -1,6 +1,6 @@
 -- Why an input of a command can't be read, by what the folder has (this project's profile). Memory may run out at any
 -- time; nothing more is known then.
-use Rattle.std.specs.Prelude.{◌≡◌, ◌⊎◌, ℕ, if◌then◌else◌, List, [], ◌∷◌, ◌++◌, Option, Some, None, Result, Ok, Err, MatchBool, bytes_eq, string_bytes, codes}
+use Rattle.std.specs.Prelude.{◌≡◌, ◌⊎◌, ℕ, if◌then◌else◌, List, [], ◌∷◌, ◌++◌, Option, Some, None, Result, Err, MatchBool, bytes_eq, string_bytes, codes}
 use Rattle.std.specs.List.{cons_option}
 use Rattle.std.specs.declared.io.ErrorKind.{ErrorKind}
 use Rattle.std.specs.declared.io.ErrorKind.TheVariants.{NotFound}

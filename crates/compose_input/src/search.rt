@@ -1,24 +1,60 @@
 //! The files of a Compose file as it lies on a system.
-ghost use Rattle.std.specs.Prelude.{◌≡◌, map, option_copied, IfOk, IfErr, string_bytes};
+ghost use Rattle.std.specs.Prelude.{◌≡◌, None, map, option_copied, IfOk, IfErr, string_bytes};
 ghost use Rattle.compose_find.specs.FindReturns.{words};
 ghost use Rattle.compose_input.specs.Faults as faults;
 ghost use Rattle.compose_input.specs.Faults.{AreUnopened, FailsFound, FailsSearch, IsKind, IsMissingRoot, IsTriedFault, IsUnopened};
+ghost use Rattle.compose_input.specs.Places.{words_with};
 ghost use Rattle.compose_input.specs.Search.{IsTable, IsSystemTable, opened};
 
 use crate::fault::{Fault, Unopened};
 use crate::places::{Places, found, joined};
-use compose_find::{FindFault, FoundTable, Meanings, beside, find_table};
+use compose_find::{FindFault, FoundTable, Meanings, beside, find_sources, law_any_locale};
 use compose_folder::{Folder, ReadOnce, Unread};
 use std::alloc::{AllocError, Global};
 use std::io::ErrorKind;
 
 /// Finds and reads the files of the Compose file at this path, includes followed; `-` is standard
 /// input. O(bytes), and O(s * i) in the sources and their includes for each file that is searched
-/// for.
+/// for. The files that list the tables of locales are read only if the search fails without them,
+/// as it does at a `%L`.
 ///
 /// Errors: `Unread` if the file itself can't be read, `Find` if an include has no file or leads
 /// nowhere, or `NoMemory` if memory runs out.
 pub fn find_files<F: Folder>(
+    files: &mut ReadOnce<F>,
+    alloc: Global,
+    places: Places<'_>,
+    file: &str,
+) -> Result<FoundTable, Fault>
+    ensures kept { files.new.holds ≡ files.old.holds }
+    ensures found { IfOk result
+        (λ table. IsSystemTable files.old.holds places.entry file.now table) }
+    ensures fault { IfErr result
+        (λ fault. FailsFound files.old.holds places.entry file.now fault) }
+{
+    law_any_locale();
+    match search_without_locale(files, alloc, places, file) {
+        Ok(table) => Ok(table),
+        Err(_) => search_with_locale(files, alloc, places, file),
+    }
+}
+
+/// Does the same without a table of the locale: an include with `%L` leads nowhere.
+fn search_without_locale<F: Folder>(
+    files: &mut ReadOnce<F>,
+    alloc: Global,
+    places: Places<'_>,
+    file: &str,
+) -> Result<FoundTable, Fault>
+    ensures kept { files.new.holds ≡ files.old.holds }
+    ensures found { IfOk result
+        (λ table. IsTable files.old.holds (words_with places.entry None) file.now table) }
+{
+    search(files, alloc, places.meanings(None), file)
+}
+
+/// Does the same with the table of the locale, which is found first.
+fn search_with_locale<F: Folder>(
     files: &mut ReadOnce<F>,
     alloc: Global,
     places: Places<'_>,
@@ -50,8 +86,8 @@ fn search<F: Folder>(
 {
     let mut looked = compose_find::Files::new(alloc);
     for _ in 0..u64::MAX {
-        match find_table(alloc, &looked, meanings, root) {
-            Ok(table) => return Ok(table),
+        match find_sources(alloc, &looked, meanings, root) {
+            Ok(sources) => return Ok(FoundTable::new(alloc, looked, sources)?),
             Err(FindFault::Wanted { path }) => {
                 let bytes = found(files, alloc, opened(&path, root))?;
                 looked.add(alloc, &path, bytes)?;

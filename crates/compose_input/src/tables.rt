@@ -27,7 +27,7 @@ pub struct TableFiles {
     /// The path of each source's file, in the order of the sources.
     pub paths: Vec<String>,
     /// The sources.
-    pub sources: Sources,
+    pub sources: Sources<'static>,
     /// The rule for overlaps.
     pub rule: Rule,
     /// Notes on the places of its files, as lines.
@@ -107,7 +107,7 @@ impl TableFiles {
     }
 
     /// Returns the sources, and the rule for their overlaps.
-    pub fn into_parts(self) -> (Sources, Rule)
+    pub fn into_parts(self) -> (Sources<'static>, Rule)
         ensures sources { result.0 ≡ self.sources }
         ensures rule { result.1 ≡ self.rule }
     {
@@ -233,7 +233,7 @@ fn read_listing<F: Folder>(
 #[derive(Drop)]
 struct ReadEntries {
     paths: Vec<String>,
-    sources: Sources,
+    sources: Sources<'static>,
 }
 
 /// Reads the files of a manifest; `at` is the path of the manifest.

@@ -21,7 +21,7 @@ pub enum LintForm {
 #[derive(Clone, Copy)]
 pub struct LintTable<'a> {
     /// The sources of the table.
-    pub sources: &'a Sources,
+    pub sources: &'a Sources<'a>,
     /// The path of each source's file, in the order of the sources.
     pub paths: &'a [&'a str],
     /// Whether faulty lines are skipped, and so are not findings.

@@ -21,7 +21,7 @@ const MOST_FAULTS: usize = 1000;
 /// A finding, the sources, the paths and the first faults of its table, and the bytes of its line.
 #[derive(Drop)]
 pub(crate) struct Row<'a> {
-    pub(crate) sources: &'a Sources,
+    pub(crate) sources: &'a Sources<'a>,
     pub(crate) paths: &'a [&'a str],
     pub(crate) faults: &'a [ReadFault],
     pub(crate) finding: Finding,
@@ -219,7 +219,7 @@ fn first_faults(
 
 /// Returns the name of the first source, from which a table is read; an empty text if there is
 /// none.
-fn root_of(sources: &Sources) -> &str
+fn root_of<'a>(sources: &'a Sources) -> &'a str
     ensures { result.now ≡ words.root_of sources.now }
 {
     sources.name(0).unwrap_or("")

@@ -8,7 +8,7 @@ ghost use Rattle.compose_many.specs.Steps.{IsNextRequest, HasRoom, HasSpace, Nex
 
 use crate::owners::{Owner, note};
 use compose_serve::Responder;
-use compose_wire::{Body, Feeder, Request, WireFault, put_reply};
+use compose_wire::{Body, Feeder, Reply, ReplyBody, Request, WireFault, put_reply};
 use std::alloc::Global;
 use std::marker::Model;
 
@@ -119,7 +119,8 @@ impl Connection {
     ///
     /// Memory for the reply and for the owner of a session is reserved first, so that no request is
     /// answered whose reply or owner can't be kept. `number` is the number of this connection: a
-    /// session that is opened is owned by it.
+    /// session that is opened is owned by it. `reply` is what the answer is put into; what it was
+    /// before is of no effect.
     fn answer_next<S: Responder>(
         &mut self,
         service: &mut S,
@@ -127,6 +128,7 @@ impl Connection {
         alloc: Global,
         limit: usize,
         number: u64,
+        reply: &mut Reply,
     ) -> Result<(), Stop>
         requires { self.old.refused ≡ false }
         ensures { NextAs limit number owners.old.items owners.new.items S.reading
@@ -151,9 +153,9 @@ impl Connection {
         if full {
             return Err(Stop::TooManyFrames);
         }
-        let reply = service.answer(alloc, &request);
-        note(owners, number, &request, &reply);
-        append(&mut self.unsent, put_reply(&reply).as_slice());
+        service.answer_into(alloc, &request, reply);
+        note(owners, number, &request, reply);
+        append(&mut self.unsent, put_reply(reply).as_slice());
         self.answered += 1;
         after_reply(&request)
     }
@@ -172,8 +174,13 @@ impl Connection {
         ensures { AnswersAs limit number owners.old.items owners.new.items S.reading
             (S.state service.old) (S.state service.new) self.old self.new result }
     {
+        // a reply is large: one is kept, and filled for each request
+        let mut reply = Reply {
+            session: 0,
+            answer: ReplyBody::Opened,
+        };
         'answers: loop {
-            match self.answer_next(service, owners, alloc, limit, number) {
+            match self.answer_next(service, owners, alloc, limit, number, &mut reply) {
                 Ok(()) => {}
                 Err(stop) => return stop,
             }

@@ -90,16 +90,26 @@ fn first_own(owners: &[Owner], number: u64) -> Option<u32>
 pub fn close_own<A: Responder>(owners: &mut Vec<Owner>, service: &mut A, alloc: Global, number: u64)
     ensures { ClosesAs number owners.old.items owners.new.items A.reading (A.state service.old) (A.state service.new) }
 {
+    let mut reply = Reply {
+        session: 0,
+        answer: Answered::Opened,
+    };
     'sessions: loop {
         let Some(session) = first_own(owners.as_slice(), number) else {
             return;
         };
-        close(owners, service, alloc, session);
+        close(owners, service, alloc, session, &mut reply);
     }
 }
 
-/// Answers a Close of this session, and drops the reply.
-fn close<A: Responder>(owners: &mut Vec<Owner>, service: &mut A, alloc: Global, session: u32)
+/// Answers a Close of this session into the reply.
+fn close<A: Responder>(
+    owners: &mut Vec<Owner>,
+    service: &mut A,
+    alloc: Global,
+    session: u32,
+    reply: &mut Reply,
+)
     ensures so { (x : Exchange) × (x.request.session ≡ session) × (x.request.body ≡ close)
         × Step A.reading (A.state service.old) x.request x.reply (A.state service.new) }
     ensures owners { owners.new.items ≡ without session owners.old.items }
@@ -108,6 +118,6 @@ fn close<A: Responder>(owners: &mut Vec<Owner>, service: &mut A, alloc: Global, 
         session,
         body: Body::Close,
     };
-    let _reply = service.answer(alloc, &request);
+    service.answer_into(alloc, &request, reply);
     forget(owners, session);
 }

@@ -9,7 +9,7 @@ use compose_text::first_line;
 
 /// Returns the line with this number, counted from 1, of the source with this index; nothing if
 /// there is none. O(bytes of the source).
-pub(crate) fn source_line(sources: &Sources, source: usize, line: usize) -> &[u8]
+pub(crate) fn source_line<'a>(sources: &'a Sources, source: usize, line: usize) -> &'a [u8]
     ensures { result.now ≡ line_at sources.now source line }
 {
     if source >= sources.count() {

@@ -47,7 +47,7 @@ pub fn read_message<'a>(sources: &'a Sources, fault: &ReadFault) -> Message<'a>
 }
 
 /// Returns the name of the source with this index; nothing if there is none.
-fn name_of(sources: &Sources, source: usize) -> &str
+fn name_of<'a>(sources: &'a Sources, source: usize) -> &'a str
     ensures { result.now ≡ messages.name_of sources.now source }
 {
     sources.name(source).unwrap_or("")

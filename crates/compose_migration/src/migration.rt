@@ -19,7 +19,7 @@ use std::alloc::Global;
 #[derive(Clone, Copy)]
 pub struct TableInput<'a> {
     /// The sources; the first one is the root.
-    pub sources: &'a Sources,
+    pub sources: &'a Sources<'a>,
     /// What is done if a sequence is a prefix of another one.
     pub rule: Rule,
 }

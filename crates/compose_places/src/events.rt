@@ -39,7 +39,7 @@ pub(crate) fn line_events(line: &[u8]) -> Option<Events<'_>>
 }
 
 /// Returns the line at this place, if there is one.
-fn line_at(sources: &Sources, place: DefinitionPlace) -> Option<&[u8]>
+fn line_at<'a>(sources: &'a Sources, place: DefinitionPlace) -> Option<&'a [u8]>
     ensures { option_copied result ≡ line_at sources.now place }
 {
     if place.source >= sources.count() {

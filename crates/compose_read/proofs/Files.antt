@@ -3,7 +3,8 @@ use Rattle.std.proofs.Common.{◌≡◌, ℕ, ◌+◌, ◌≤◌, List, [], ◌�
 use Rattle.std.specs.Prelude.{Option, Some, None, is_some, position, string_bytes, option_map, slice_get, IsUtf8}
 use Rattle.std.specs.declared.alloc.Global.{Global}
 use Rattle.std.specs.declared.string.String.{String}
-use Rattle.std.specs.declared.vec.Vec.{Vec}
+use Rattle.std.specs.declared.borrow.CowSlice.{CowSlice}
+use Rattle.std.specs.Cow.{cow_slice_items}
 use Rattle.std.specs.List.{prefix_len, AllByRecursion, IsDistinct}
 use Rattle.std.specs.String.{string_eq}
 use Rattle.std.proofs.lemmas.Str.{IsUtf8-string_bytes}
@@ -15,7 +16,7 @@ use Rattle.compose_read.specs.Lines.{Source}
 use Rattle.compose_read.specs.Sources.{sources_of, AreSources}
 
 abbrev Files : Type 0
-Files = List (String Global × Vec ℕ Global)
+Files = List (String Global × CowSlice ℕ Global)
 
 module _ (name : List ℕ) where
   same_prefix : (files : Files)
@@ -42,15 +43,15 @@ module _ (name : List ℕ) where
       none_from (lookup (λ k. bytes_eq name (string_bytes k)) files) (sym there ∙ ap is_some (same_index files ∙ h))
 
 -- the bytes of the source at an index are those that the map keeps there
-pub bytes_at : (files : Files) (i : ℕ) (v : Vec ℕ Global) → slice_get (values_of files) i ≡ Some v → option_map (λ (s : Source). s.bytes) (slice_get (sources_of files) i) ≡ Some v.items
+pub bytes_at : (files : Files) (i : ℕ) (v : CowSlice ℕ Global) → slice_get (values_of files) i ≡ Some v → option_map (λ (s : Source). s.bytes) (slice_get (sources_of files) i) ≡ Some (cow_slice_items v)
 bytes_at files i v h =
-    ap (option_map (λ (s : Source). s.bytes)) (slice_get-map (λ (f : String Global × Vec ℕ Global). let s : Source = record { name = string_bytes f.0; bytes = f.1.items } in s) files i)
-    ∙ through (slice_get files i) (sym (slice_get-map (λ (f : String Global × Vec ℕ Global). f.1) files i) ∙ h)
+    ap (option_map (λ (s : Source). s.bytes)) (slice_get-map (λ (f : String Global × CowSlice ℕ Global). let s : Source = record { name = string_bytes f.0; bytes = cow_slice_items f.1 } in s) files i)
+    ∙ through (slice_get files i) (sym (slice_get-map (λ (f : String Global × CowSlice ℕ Global). f.1) files i) ∙ h)
   where
-    through : (o : Option (String Global × Vec ℕ Global)) → option_map (λ f. f.1) o ≡ Some v
-        → option_map (λ (s : Source). s.bytes) (option_map (λ f. let s : Source = record { name = string_bytes f.0; bytes = f.1.items } in s) o) ≡ Some v.items
+    through : (o : Option (String Global × CowSlice ℕ Global)) → option_map (λ f. f.1) o ≡ Some v
+        → option_map (λ (s : Source). s.bytes) (option_map (λ f. let s : Source = record { name = string_bytes f.0; bytes = cow_slice_items f.1 } in s) o) ≡ Some (cow_slice_items v)
     through None e = cc
-    through (Some f) e = ap (λ (w : Vec ℕ Global). Some w.items) (same_Some f.1 v e)
+    through (Some f) e = ap (λ (w : CowSlice ℕ Global). Some (cow_slice_items w)) (same_Some f.1 v e)
 
 -- ---- the keys of the map are the names of the sources
 

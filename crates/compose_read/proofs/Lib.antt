@@ -24,3 +24,4 @@ pub mod TextLines
 pub mod Faultless
 pub mod Again
 pub mod KeptSources
+pub mod Copies

@@ -4,13 +4,14 @@ use Rattle.std.specs.List.{AllByRecursion, IsDistinct}
 use Rattle.std.specs.Str.{bytes_eq}
 use Rattle.std.specs.declared.alloc.Global.{Global}
 use Rattle.std.specs.declared.string.String.{String}
-use Rattle.std.specs.declared.vec.Vec.{Vec}
+use Rattle.std.specs.declared.borrow.CowSlice.{CowSlice}
+use Rattle.std.specs.Cow.{cow_slice_items}
 use Rattle.compose_read.specs.Lines.{Source, source_named}
 use Rattle.compose_read.specs.declared.sources.SourceFault.{SourceFault}
 use Rattle.compose_read.specs.declared.sources.SourceFault.TheVariants.{NameTaken, TooManySources}
 
-abbrev pub sources_of : List (String Global × Vec ℕ Global) → List Source
-sources_of files = map (λ f. record { name = string_bytes f.0; bytes = f.1.items }) files
+abbrev pub sources_of : List (String Global × CowSlice ℕ Global) → List Source
+sources_of files = map (λ f. record { name = string_bytes f.0; bytes = cow_slice_items f.1 }) files
 
 abbrev pub max_sources : ℕ
 max_sources = 64

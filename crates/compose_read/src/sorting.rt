@@ -1,6 +1,7 @@
 //! The order in which definitions are settled: by their sequences, and those of one sequence in
 //! reading order. Sort keys do most of it.
-ghost use Rattle.std.specs.Prelude.{◌≡◌, ◌≤◌, ◌<◌, ◌+◌, ◌*◌, ◌%◌, ℕ, List, length, map, slice_index, slice_index_or, IfOk, OnOk};
+ghost use Rattle.std.specs.Prelude.{◌≡◌, ◌≤◌, ◌<◌, ◌+◌, ◌*◌, ◌%◌, ℕ, List, length, map, slice_index, slice_index_or, IfOk, OnOk, IsTrue};
+ghost use Rattle.compose_model.specs.Table as words;
 ghost use Rattle.compose_model.specs.Table.{IsSameTable};
 ghost use Rattle.compose_read.specs.Read.{max_definitions};
 ghost use Rattle.compose_read.specs.Neighbours.{SequencesAscend};
@@ -79,19 +80,47 @@ fn sort_runs(
 }
 
 /// Sorts spans by their sequences; those of one sequence keep their order. O(n log n) comparisons,
-/// O(n) if they are sorted already.
+/// n - 1 if they are sorted already.
 fn sort_run(alloc: Global, keysyms: &[Keysym], run: &mut [RowSpan]) -> Result<(), AllocError>
     ensures permutation { IsPermutation run.old run.new }
     ensures sorted { OnOk result (IsSortedBy (by_sequence keysyms.now) run.new) }
     ensures stable { IsStableBy (by_sequence keysyms.now) run.old run.new }
 {
-    if run.len() < 2 {
+    if are_sorted(keysyms, run) {
         return Ok(());
     }
     run.sort_by(
         alloc,
         |a, b| keysyms_at(keysyms, *a).cmp(&keysyms_at(keysyms, *b)),
     )
+}
+
+/// Returns whether spans are sorted by their sequences. O(n) comparisons.
+fn are_sorted(keysyms: &[Keysym], run: &[RowSpan]) -> bool
+    ensures { IsTrue result → IsSortedBy (by_sequence keysyms.now) run.now }
+{
+    for index in 1..run.len() {
+        let before = keysyms_at(keysyms, run[index - 1]);
+        if comes_before(keysyms_at(keysyms, run[index]), before) {
+            return false;
+        }
+    }
+    true
+}
+
+/// Returns whether one sequence comes before another. O(keysyms). Sequences are short: a comparison
+/// of slices, which is made for long ones, costs more.
+fn comes_before(one: &[Keysym], other: &[Keysym]) -> bool
+    ensures { result ≡ words.comes_before one.now other.now }
+{
+    let mut index = 0;
+    while index < one.len() && index < other.len() {
+        if one[index] != other[index] {
+            return one[index] < other[index];
+        }
+        index += 1;
+    }
+    one.len() < other.len()
 }
 
 /// Returns the spans at the indexes in the low 17 bits of these sort keys.

@@ -34,7 +34,7 @@ type OpenSources<'a> = ArrayVec<OpenSource<'a>, 9>;
 /// lines that are visited).
 #[derive(Drop)]
 pub struct Visits<'a> {
-    sources: &'a Sources,
+    sources: &'a Sources<'a>,
     opened: OpenSources<'a>,
 }
 
@@ -50,7 +50,7 @@ impl<'a> Model for Visits<'a> {
     ghost invariant = { λ v. length v.opened.items ≤ 9 };
 }
 
-impl Sources {
+impl Sources<'_> {
     ghost use Rattle.std.specs.Prelude.{◌≡◌, nat_lt, if◌then◌else◌, length, Some, None};
     ghost use Rattle.compose_read.specs.Lines.{source_named, visits};
 
@@ -62,13 +62,20 @@ impl Sources {
             (visits self.now (source_named self.now root.now)) else None) }
     {
         let source = self.index_of(root)?;
-        let mut opened = ArrayVec::new();
-        opened.push(OpenSource::new(self, source));
         Some(Visits {
             sources: self,
-            opened,
+            opened: one_open(OpenSource::new(self, source)),
         })
     }
+}
+
+/// Returns a list in which this source alone is open.
+fn one_open<'a>(source: OpenSource<'a>) -> OpenSources<'a>
+    ensures { result.items ≡ source.entry ∷ [] }
+{
+    let mut opened = ArrayVec::new();
+    opened.push(source);
+    opened
 }
 
 impl<'a> Iterator for Visits<'a> {

@@ -7,7 +7,7 @@ use Rattle.compose_model.specs.declared.Rule.TheVariants.{Refuse, Longest}
 use Rattle.compose_answer.specs.declared.answer.Answer.{Answer}
 use Rattle.compose_migration.specs.declared.refusal.Refusal.{Refusal}
 use Rattle.compose_arguments.specs.declared.table_arguments.TableArguments.{TableArguments}
-use Rattle.compose_details.specs.Given.{IsGiven, parts_of}
+use Rattle.compose_details.specs.Given.{GivenParts, IsGiven, parts_of}
 use Rattle.compose_details.specs.declared.given.Given.{Given}
 use Rattle.compose_input.specs.Names.{AreNames}
 use Rattle.compose_input.specs.Tables.{IsFoundOnSystem}
@@ -50,11 +50,15 @@ abbrev pub is_refused : Result Answer Refusal → Bool
 is_refused (Ok answer) = false
 is_refused (Err refusal) = true
 
--- the answer, or each faulty line of the input; for people unless `numbered`, after the notes; the
--- input has these key names, and the repertoire at this path with this text
+-- the input: the files of names and the table, these key names, and the repertoire at this path with
+-- this text
+abbrev pub table_given : TableRead → List (List ℕ) → List ℕ → List ℕ → GivenParts
+table_given read keys repertoire text = record (parts_of read.names keys (read.table ∷ [])) { repertoire = repertoire; repertoire_text = text }
+
+-- the answer, or each faulty line of this input; for people unless `numbered`, after the notes
 pub record IsTableOutcome (numbered : Bool) (read : TableRead) (keys : List (List ℕ)) (repertoire text : List ℕ) (answered : Result Answer Refusal) (outcome : Outcome) : Type 0 where
   pub given : Given
-  pub parts : IsGiven (record (parts_of read.names keys (read.table ∷ [])) { repertoire = repertoire; repertoire_text = text }) given
+  pub parts : IsGiven (table_given read keys repertoire text) given
   pub reported : Outcome
   pub is : IsWorded numbered (is_refused answered) given answered reported
   pub noted : IsNoted (string_bytes read.notes) reported outcome

@@ -296,7 +296,7 @@ fn input_of<'a>(
 /// The sources of a table, the paths of their files, and whether its faulty lines are skipped.
 #[derive(Drop)]
 struct PathedTable<'a> {
-    sources: &'a Sources,
+    sources: &'a Sources<'a>,
     paths: Vec<&'a str>,
     skip_faulty: bool,
 }

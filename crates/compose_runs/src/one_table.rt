@@ -4,9 +4,10 @@ ghost use Rattle.compose_runs.specs.Environment as spec;
 ghost use Rattle.compose_runs.specs.Environment.{ReturnsPlaces};
 ghost use Rattle.compose_runs.specs.Faults.{FailsChosen, FailsChosenTable, OrMemory};
 ghost use Rattle.compose_runs.specs.OneTable as words;
-ghost use Rattle.compose_runs.specs.OneTable.{IsNotedTable, table_places, rule_unless};
+ghost use Rattle.compose_runs.specs.OneTable.{IsNotedTable, table_given, table_places, rule_unless};
 ghost use Rattle.compose_runs.specs.Own as own;
 ghost use Rattle.compose_runs.specs.Own.{IsChosen, IsOwnFile, own_note};
+ghost use Rattle.compose_runs.specs.Reports.{IsReport};
 
 use crate::differing::read_names;
 use crate::environment::{Environment, PlaceArguments};
@@ -87,17 +88,44 @@ impl<'n> TableRead<'n> {
             (λ outcome. IsTableOutcome numbered self.entry (map (λ name. name.now) key_names.now)
             repertoire.now repertoire_text.now answered outcome) }
     {
-        let verbose = is_refused(&answered);
-        let tables = [GivenTable::of(&self.table)];
-        let listed = Given::of(&self.names, key_names, &tables);
-        let given = Given {
+        let outcome = table_report::<T>(
+            alloc,
+            numbered,
+            &self,
+            key_names,
             repertoire,
             repertoire_text,
-            ..listed
-        };
-        let outcome = worded_outcome::<T>(alloc, numbered, verbose, &given, answered)?;
+            answered,
+        )?;
         Ok(outcome.with_notes(self.notes))
     }
+}
+
+/// Returns the outcome of an answer or of a refusal on the same input, without the notes.
+fn table_report<T: ComposeTable>(
+    alloc: Global,
+    numbered: bool,
+    read: &TableRead<'_>,
+    key_names: &[&str],
+    repertoire: &str,
+    repertoire_text: &[u8],
+    answered: Result<Answer, Refusal>,
+) -> Result<Outcome, AllocError>
+    ensures { IfOk result
+        (λ outcome. IsReport numbered (words.is_refused answered)
+        (table_given read.now
+        (map (λ name. name.now) key_names.now) repertoire.now repertoire_text.now)
+        answered outcome) }
+{
+    let verbose = is_refused(&answered);
+    let tables = [GivenTable::of(&read.table)];
+    let listed = Given::of(&read.names, key_names, &tables);
+    let given = Given {
+        repertoire,
+        repertoire_text,
+        ..listed
+    };
+    worded_outcome::<T>(alloc, numbered, verbose, &given, answered)
 }
 
 /// Returns whether there is no answer. O(1).

@@ -354,7 +354,7 @@ fn intended_answer<T: ComposeTable>(
 }
 
 /// Returns the names of the sources.
-fn source_names(alloc: Global, sources: &Sources) -> Result<Vec<&str>, AllocError>
+fn source_names<'a>(alloc: Global, sources: &'a Sources) -> Result<Vec<&'a str>, AllocError>
     ensures { IfOk result
         (λ names. map (λ name. name.now) names.items ≡ map (λ source. source.name) sources.now) }
 {
@@ -366,7 +366,7 @@ fn source_names(alloc: Global, sources: &Sources) -> Result<Vec<&str>, AllocErro
 }
 
 /// Returns the name of the source at this index.
-fn source_name(sources: &Sources, index: usize) -> &str
+fn source_name<'a>(sources: &'a Sources, index: usize) -> &'a str
     requires { index < length sources.now }
     ensures { option_map (λ source. source.name) (slice_get sources.now index) ≡ Some result.now }
 {

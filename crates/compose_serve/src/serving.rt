@@ -9,7 +9,7 @@ ghost use Rattle.compose_serve.specs.Ends.{Serves, EndsBy};
 use crate::ends::{ServeFault, StreamEnd};
 use crate::next::{Stop, next_request};
 use crate::streams::{Pull, Push, push_all};
-use compose_wire::{Feeder, Reply, Request, put_reply};
+use compose_wire::{Feeder, Reply, ReplyBody, Request, put_reply};
 use std::alloc::Global;
 
 /// The greatest number of requests that are answered on one stream.
@@ -23,11 +23,12 @@ pub trait Responder {
     /// The state of the machine that it models.
     ghost state: { Self → ServiceState };
 
-    /// Answers one request.
-    fn answer(&mut self, alloc: Global, request: &Request) -> Reply
+    /// Answers one request, and replaces the reply by the answer. What the reply was before is of no
+    /// effect: a caller may keep one reply for all its requests.
+    fn answer_into(&mut self, alloc: Global, request: &Request, reply: &mut Reply)
         ensures { (expected : words.Reply)
             × Step reading (state self.old) (request_of request.now) expected (state self.new)
-            × HasReplyValue result expected };
+            × HasReplyValue reply.new expected };
 }
 
 /// Ends the stream if no request follows, and writes the refusal of a faulty frame.
@@ -79,10 +80,15 @@ pub fn serve<S: Responder, R: Pull, W: Push>(
     ensures write_mark { result ≢ Err ServeFault.Write → W.failed writer.new ≡ W.failed writer.old }
 {
     let mut feeder = Feeder::new(alloc);
+    // a reply is large: one is kept, and filled for each request
+    let mut reply = Reply {
+        session: 0,
+        answer: ReplyBody::Opened,
+    };
     'answers: for count in 0..MAX_FRAMES {
         match next_request(&mut feeder, alloc, reader) {
             Ok(request) => {
-                let reply = service.answer(alloc, &request);
+                service.answer_into(alloc, &request, &mut reply);
                 let bytes = put_reply(&reply);
                 match push_all(writer, bytes.as_slice()) {
                     Ok(()) => {}

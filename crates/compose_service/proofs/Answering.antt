@@ -1,5 +1,5 @@
 -- Each answer of the service is one that the late service may give.
-use Rattle.std.proofs.Common.{◌≡◌, ℕ, ◌<◌, ◌≤◌, List, [], ◌∷◌, ◌++◌, map, length, not, refl, sym, ◌∙◌, ap, subst}
+use Rattle.std.proofs.Common.{◌≡◌, ℕ, ◌<◌, ◌≤◌, List, [], ◌∷◌, ◌++◌, Bool, map, length, not, refl, sym, ◌∙◌, ap, subst}
 use Rattle.std.proofs.Common.{leb-true, leb-false, inl, inr}
 use Rattle.std.proofs.lemmas.Bool.{cases_Bool}
 use Rattle.std.proofs.Common.{true, rules}
@@ -20,6 +20,7 @@ use Rattle.compose_model.proofs.Lift.{lift}
 use Rattle.compose_model.specs.Table.{Definition, is_prefix_free}
 use Rattle.compose_model.specs.Certificate.{Certificate, IsValid}
 use Rattle.compose_model.specs.declared.Rule.{Rule}
+use Rattle.compose_model.specs.declared.Status.{Status}
 use Rattle.compose_read.specs.declared.settling.SettleFault.TheVariants as settle_faults
 use Rattle.compose_tree.specs.TableReturns.{NoTable, first_table, TableReturns}
 use Rattle.compose_tree.specs.declared.table.BuildFault.TheVariants as build_faults
@@ -62,6 +63,11 @@ keysym_is k x r is some none = elim (cases_Bool (is_keysym k)) [
   | inl e ↦ (let k_is : r ≡ Some k = some (leb-true k 0x1fffffff e) in cc, e)
   | inr e ↦ absurd (let no : r ≡ None = none (leb-false k 0x1fffffff e) in cc)
 ]
+
+-- an answer to a key says what equals what it says
+pub fed_says : (answer : ReplyBody) (s s' : Status) (a a' : Bool) (t t' : List ℕ) → s ≡ s' → a ≡ a' → t ≡ t' → HasAnswerValue answer (words.fed s a t) → HasAnswerValue answer (words.fed s' a' t')
+fed_says answer s s' a a' t t' es ea et h =
+    subst (λ y. HasAnswerValue answer (words.fed y a' t')) es (subst (λ y. HasAnswerValue answer (words.fed s y t')) ea (subst (λ y. HasAnswerValue answer (words.fed s a y)) et h))
 
 module _ (old : ServiceState) (n : ℕ) where
   -- ---- Open

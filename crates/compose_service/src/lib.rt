@@ -8,7 +8,9 @@
 //! ```text
 //! let mut service: Service<PackedTable> =
 //!     Service::start(alloc, names, repertoire, sources, rule, &certificate)?;
-//! service.answer(alloc, &Request { session: 7, body: Body::Open })
+//! let mut reply = service.answer(alloc, &Request { session: 7, body: Body::Open });
+//! // a reply may be kept, and filled again for each request
+//! service.answer_into(alloc, &Request { session: 7, body: Body::Key(0x65) }, &mut reply);
 //! ```
 #![tactic(auto)]
 

@@ -1,4 +1,8 @@
 //! The service: sessions over one current table.
+ghost use Rattle.compose_state.specs.Texts.{text_bytes};
+ghost use Rattle.compose_wire.specs.Messages as words;
+ghost use Rattle.compose_wire.specs.Replies.{HasAnswerValue};
+
 use crate::allowed::Allowed;
 use crate::refusal::RefusalCode;
 use crate::sessions::Sessions;
@@ -9,6 +13,7 @@ use compose_check::{CheckFault, Verdict, check};
 use compose_model::Rule;
 use compose_read::Sources;
 use compose_serve::{Pull, Push, ServeFault, StreamEnd, serve};
+use compose_state::Fed;
 use compose_tree::{ComposeTable, TableFault, read_first_table};
 use compose_wire::{Body, Reply, ReplyBody, Request};
 use keysym_core::{Keysym, Names};
@@ -149,12 +154,12 @@ impl<T: ComposeTable> Service<T> {
         alloc: Global,
         names: Names,
         repertoire: Repertoire,
-        sources: Sources,
+        sources: Sources<'_>,
         rule: Rule,
         certificate: &[u8],
     ) -> Result<Service<T>, StartFault>
         ensures { StartReturns names repertoire result
-            (started names repertoire (first_table names sources rule)
+            (started names repertoire (first_table names sources.entry rule)
             (certificate_of certificate.now)) }
     {
         let table: T = read_first_table(alloc, &names, &sources, rule)?;
@@ -242,17 +247,7 @@ impl<T: ComposeTable> Service<T> {
     /// Answers one request, which is one step of the machine. A Key, a Reset, a Close and an Ask
     /// take no memory and never fail for lack of it. A request that is refused changes nothing.
     ///
-    /// Costs:
-    ///
-    /// - Open: O(1), amortized.
-    /// - Key: what `ComposeState::refeed_and_feed` costs. If no load came since the session was
-    ///   last used, that is what `feed` costs. The pending keys are walked once more only after a
-    ///   load, and when the key breaks off a sequence. The session is looked up where one with the
-    ///   same last twelve bits of its number was found last, and failing that by its hash.
-    /// - Reset, Ask: O(1) besides refeeding.
-    /// - Close: the same, and O(sessions opened later), since the order of opening is kept.
-    /// - Load: the cost of reading, settling, building and checking. An accepted load touches no
-    ///   session, unless its certificate has fresh keysyms; then it refeeds each.
+    /// It costs what `answer_into` costs, and a new reply, which is some 270 bytes long.
     #[inline(always)]
     pub fn answer(&mut self, alloc: Global, request: &Request) -> Reply
         ensures stored { (expected : words.ReplyBody)
@@ -264,18 +259,51 @@ impl<T: ComposeTable> Service<T> {
             × Step reading (seen self.old) (request_of request.now) expected (seen self.new)
             × HasReplyValue result expected }
     {
+        let mut reply = Reply {
+            session: request.session,
+            answer: ReplyBody::Opened,
+        };
+        self.answer_into(alloc, request, &mut reply);
+        reply
+    }
+
+    /// Answers one request as `answer` does, and replaces a reply by the answer. What the reply was
+    /// before is of no effect: a caller may keep one reply for all its requests.
+    ///
+    /// Costs:
+    ///
+    /// - Open: O(1), amortized.
+    /// - Key: what `ComposeState::refeed_and_feed` costs. If no load came since the session was
+    ///   last used, that is what `feed` costs. The pending keys are walked once more only after a
+    ///   load, and when the key breaks off a sequence. The session is looked up where one with the
+    ///   same last twelve bits of its number was found last, and failing that by its hash. If the
+    ///   reply was one to a key, only its status and the bytes of its text are written, and
+    ///   otherwise a whole reply is.
+    /// - Reset, Ask: O(1) besides refeeding.
+    /// - Close: the same, and O(sessions opened later), since the order of opening is kept.
+    /// - Load: the cost of reading, settling, building and checking. An accepted load touches no
+    ///   session, unless its certificate has fresh keysyms; then it refeeds each.
+    #[inline(always)]
+    pub fn answer_into(&mut self, alloc: Global, request: &Request, reply: &mut Reply)
+        ensures stored { (expected : words.ReplyBody)
+            × LateAnswers reading self.old (request_of request.now).session
+            (request_of request.now).body expected self.new
+            × HasReplyValue reply.new
+            (record { session = (request_of request.now).session; answer = expected }) }
+        ensures step { (expected : words.Reply)
+            × Step reading (seen self.old) (request_of request.now) expected (seen self.new)
+            × HasReplyValue reply.new expected }
+    {
         // the stored state is sound: its invariant says so
         let _sessions = &self.sessions;
-        let session = request.session;
-        // a reply is large and most requests are keys: the reply to a key is made in place and not moved
+        reply.session = request.session;
+        // a reply is large and most requests are keys: the reply to a key is written in place, and other answers are
+        // made in calls of their own: room for one of them here would be cleared at every key
         if let Body::Key(keysym) = &request.body {
-            return Reply {
-                session,
-                answer: self.key(session, *keysym),
-            };
+            self.key_into(request.session, *keysym, &mut reply.answer);
+            return;
         }
-        let answer = self.answer_body(alloc, session, &request.body);
-        Reply { session, answer }
+        self.body_into(alloc, request.session, &request.body, &mut reply.answer);
     }
 
     /// Answers requests in order, each by `answer`. It costs the sum of what the requests cost, and
@@ -325,8 +353,15 @@ impl<T: ComposeTable> Service<T> {
         serve(self, alloc, reader, writer)
     }
 
-    /// Answers this request to the session.
+    /// Answers this request to the session, and replaces an answer by that.
     #[inline(never)]
+    fn body_into(&mut self, alloc: Global, number: u32, body: &Body, answer: &mut ReplyBody)
+        ensures { Answered self.old number (body_of body.now) answer.new self.new }
+    {
+        *answer = self.answer_body(alloc, number, body);
+    }
+
+    /// Answers this request to the session.
     fn answer_body(&mut self, alloc: Global, number: u32, body: &Body) -> ReplyBody
         ensures { Answered self.old number (body_of body.now) result self.new }
     {
@@ -362,32 +397,41 @@ impl<T: ComposeTable> Service<T> {
     }
 
     /// Types a key in the session.
-    #[inline(always)]
     fn key(&mut self, number: u32, keysym: u32) -> ReplyBody
         ensures { Answered self.old number (words.key keysym) result self.new }
     {
+        let mut answer = ReplyBody::Opened;
+        self.key_into(number, keysym, &mut answer);
+        answer
+    }
+
+    /// Types a key in the session, and replaces an answer by that to the key.
+    #[inline(always)]
+    fn key_into(&mut self, number: u32, keysym: u32, answer: &mut ReplyBody)
+        ensures { Answered self.old number (words.key keysym) answer.new self.new }
+    {
         let Some(keysym) = Keysym::new(keysym) else {
-            return self.refuse_key(number, keysym);
+            *answer = ReplyBody::Refused(self.refuse_key(number, keysym));
+            return;
         };
         let fed = self.sessions.feed(number, &self.table, &self.names, keysym);
         let Some(fed) = fed else {
-            return ReplyBody::Refused(RefusalCode::NoSession.code());
+            *answer = ReplyBody::Refused(RefusalCode::NoSession.code());
+            return;
         };
-        // made only after the key is fed: a new `ArrayString` clears all of its bytes, and the key would wait for that
-        let mut text = ArrayString::new();
-        fed.text_into(&mut text);
-        ReplyBody::Fed(fed.status, fed.accepted, text)
+        put_fed(&fed, answer);
     }
 
-    /// Refuses a key whose number is not a keysym's.
-    fn refuse_key(&mut self, number: u32, keysym: u32) -> ReplyBody
+    /// Returns the code with which a key is refused whose number is not a keysym's.
+    #[inline(never)]
+    fn refuse_key(&mut self, number: u32, keysym: u32) -> u16
         requires { IsFalse (is_keysym keysym) }
-        ensures { Answered self.old number (words.key keysym) result self.new }
+        ensures { Answered self.old number (words.key keysym) (ReplyBody.Refused result) self.new }
     {
         if !self.sessions.refeed(number, &self.table, &self.names) {
-            return ReplyBody::Refused(RefusalCode::NoSession.code());
+            return RefusalCode::NoSession.code();
         }
-        ReplyBody::Refused(RefusalCode::BadKeysym.code())
+        RefusalCode::BadKeysym.code()
     }
 
     /// Resets the session.
@@ -512,4 +556,23 @@ impl<T: ComposeTable> Service<T> {
         self.sessions.leave(certificate, &self.table, &self.names);
         self.table = table;
     }
+}
+
+/// Replaces an answer by that to a key which was fed. In an answer to a key it writes the status
+/// and the bytes of the text, and nothing else; in the place of any other answer it puts a new one.
+/// It comes after the key is fed, since a new `ArrayString` clears all of its bytes.
+#[inline(always)]
+fn put_fed(fed: &Fed<'_>, answer: &mut ReplyBody)
+    ensures { HasAnswerValue answer.new
+        (words.fed fed.now.status fed.now.accepted (text_bytes fed.now.text)) }
+{
+    if let ReplyBody::Fed(status, accepted, text) = answer {
+        *status = fed.status;
+        *accepted = fed.accepted;
+        fed.text_into(text);
+        return;
+    }
+    let mut text = ArrayString::new();
+    fed.text_into(&mut text);
+    *answer = ReplyBody::Fed(fed.status, fed.accepted, text);
 }

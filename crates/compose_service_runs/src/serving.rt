@@ -255,7 +255,7 @@ fn kept_parts(alloc: Global, path: String, bundle: Bundle<'_>) -> Result<KeptBun
         kept) }
 {
     let certificate = Vec::from_slice(alloc, bundle.certificate)?;
-    let table = kept_table(alloc, path, bundle.sources)?;
+    let table = kept_table(alloc, path, bundle.sources.owned(alloc)?)?;
     Ok(KeptBundle { table, certificate })
 }
 
@@ -268,8 +268,12 @@ fn place_of(alloc: Global, path: &str) -> Result<String, AllocError>
 
 /// Returns a table with these sources that is kept at this path. The path of each file is the name
 /// that its source had when the table was taken into use.
-fn kept_table(alloc: Global, path: String, sources: Sources) -> Result<TableFiles, AllocError>
-    ensures sources { IfOk result (λ table. table.sources ≡ sources) }
+fn kept_table(
+    alloc: Global,
+    path: String,
+    sources: Sources<'static>,
+) -> Result<TableFiles, AllocError>
+    ensures sources { IfOk result (λ table. table.sources ≡ sources.entry) }
     ensures kept { IfOk result (λ table. IsKeptTable (string_bytes path) table) }
 {
     let paths = source_names(alloc, &sources)?;
@@ -296,7 +300,7 @@ fn source_names(alloc: Global, sources: &Sources) -> Result<Vec<String>, AllocEr
 }
 
 /// Returns the name of the source at this index.
-fn source_name(sources: &Sources, index: usize) -> &str
+fn source_name<'a>(sources: &'a Sources, index: usize) -> &'a str
     requires { index < length sources.now }
     ensures { option_map (λ source. source.name) (slice_get sources.now index) ≡ Some result.now }
 {

@@ -46,10 +46,10 @@ pub enum BeginFault {
 pub fn begin<T: ComposeTable>(
     alloc: Global,
     input: &BeginInput<'_>,
-    sources: Sources,
+    sources: Sources<'_>,
 ) -> Result<Service<T>, BeginFault>
     ensures { BeginReturns input.entry.now.header.now input.entry.now.repertoire.now
-        (start_over sources input.entry.now.rule input.entry.now.certificate.now) result }
+        (start_over sources.entry input.entry.now.rule input.entry.now.certificate.now) result }
 {
     match Names::read(alloc, input.header) {
         Ok(names) => begin_with(alloc, input, sources, names),
@@ -61,12 +61,12 @@ pub fn begin<T: ComposeTable>(
 fn begin_with<T: ComposeTable>(
     alloc: Global,
     input: &BeginInput<'_>,
-    sources: Sources,
+    sources: Sources<'_>,
     names: Names,
 ) -> Result<Service<T>, BeginFault>
     ensures { names_of input.entry.now.header.now ≡ Ok names
         → BeginReturns input.entry.now.header.now input.entry.now.repertoire.now
-        (start_over sources input.entry.now.rule input.entry.now.certificate.now) result }
+        (start_over sources.entry input.entry.now.rule input.entry.now.certificate.now) result }
 {
     match Repertoire::read(alloc, input.repertoire) {
         Ok(repertoire) => start_with(alloc, input, sources, names, repertoire),
@@ -78,13 +78,13 @@ fn begin_with<T: ComposeTable>(
 fn start_with<T: ComposeTable>(
     alloc: Global,
     input: &BeginInput<'_>,
-    sources: Sources,
+    sources: Sources<'_>,
     names: Names,
     repertoire: Repertoire,
 ) -> Result<Service<T>, BeginFault>
     ensures { AreRead input.entry.now.header.now input.entry.now.repertoire.now names repertoire
         → BeginReturns input.entry.now.header.now input.entry.now.repertoire.now
-        (start_over sources input.entry.now.rule input.entry.now.certificate.now) result }
+        (start_over sources.entry input.entry.now.rule input.entry.now.certificate.now) result }
 {
     match Service::start(
         alloc,

@@ -11,7 +11,7 @@ use std::alloc::{AllocError, Global};
 #[derive(Drop)]
 pub struct OtherLines {
     /// The sources, with their names and in their order; all other lines keep their numbers.
-    pub sources: Sources,
+    pub sources: Sources<'static>,
     /// The faults, in the order of the sources and of their lines.
     pub faults: Vec<ReadFault>,
 }

@@ -38,8 +38,8 @@ pub fn kept_table(
 }
 
 /// Returns the table with these sources.
-fn with_sources(table: TableFiles, sources: Sources) -> TableFiles
-    ensures { IsOtherTable table sources result }
+fn with_sources(table: TableFiles, sources: Sources<'static>) -> TableFiles
+    ensures { IsOtherTable table sources.entry result }
 {
     TableFiles { sources, ..table }
 }

@@ -19,8 +19,8 @@ pub struct Parts {
 /// The sources of both tables.
 #[derive(Drop)]
 struct Tables {
-    old: Sources,
-    new: Sources,
+    old: Sources<'static>,
+    new: Sources<'static>,
 }
 
 /// Reads the parts from the files. Errors: see [`Failure`].

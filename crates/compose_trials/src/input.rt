@@ -38,7 +38,7 @@ pub fn read_repertoire(rt: &HostRuntime) -> Result<Repertoire, Failure> {
 
 /// Reads the sources of a table that is one file, under its path. `Err(File)` if the file can't be
 /// read, `Err(Input)` if it can't be added.
-pub fn read_sources(rt: &HostRuntime, path: &str) -> Result<Sources, Failure> {
+pub fn read_sources(rt: &HostRuntime, path: &str) -> Result<Sources<'static>, Failure> {
     let bytes = read_file(rt, path)?;
     let mut sources = Sources::new(rt.alloc());
     match sources.add(path, bytes) {
@@ -66,7 +66,7 @@ pub fn read_table<T: ComposeTable>(
 pub struct Start {
     names: Names,
     repertoire: Repertoire,
-    sources: Sources,
+    sources: Sources<'static>,
 }
 
 /// Reads the repertoire, the old table and the names. `Err(File)` if a file can't be read,

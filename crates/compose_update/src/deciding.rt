@@ -23,9 +23,9 @@ pub struct UpdateInput<'a, 'w> {
     pub fresh: &'a [&'w str],
     /// The sources of the table that is in use, the root first; `None` if there is no such table
     /// yet.
-    pub current: Option<&'a Sources>,
+    pub current: Option<&'a Sources<'a>>,
     /// The sources of the new table, the root first.
-    pub new: &'a Sources,
+    pub new: &'a Sources<'a>,
     /// The characters that people need, and their keys.
     pub repertoire: &'a [u8],
 }
@@ -131,7 +131,7 @@ fn store<T: ComposeTable>(
 }
 
 /// Describes the table of these sources; the longest of overlapping sequences counts.
-fn whole(sources: &Sources) -> TableInput<'_>
+fn whole<'a>(sources: &'a Sources) -> TableInput<'a>
     ensures sources { result.sources.now ≡ sources.now }
     ensures rule { result.rule ≡ Rule.Longest }
 {

@@ -1,6 +1,6 @@
 -- What look-ups find in the data of the built-in names.
 use Rattle.std.proofs.Common.{◌≡◌, ◌≢◌, ◌≤◌, ◌-◌, ℕ, zero, suc, Bool, true, false, cond, List, [], ◌∷◌, length, drop, take, Option, Some, None, refl, sym, ap, ◌∙◌, arith, subst, slice_get, nat_eq, nat_lt, option_map, eqb-true, eq-eqb, ◌⊎◌, inl, inr}
-use Rattle.std.specs.Prelude.{bytes_eq, not}
+use Rattle.std.specs.Prelude.{bytes_eq}
 use Rattle.std.specs.Option.{option_or}
 use Rattle.std.specs.List.{list_all}
 use Rattle.std.proofs.lemmas.Slice.Eq.{bytes_eq-Decides}
@@ -23,10 +23,6 @@ use Rattle.keysym_core.proofs.BuiltInFacts.{starts_rise, lengths, text_ascii, ar
 
 pub bytes_eq-same : (xs ys : List ℕ) → bytes_eq xs ys ≡ true → xs ≡ ys
 bytes_eq-same xs ys e = grind (arith, bytes_eq-Decides xs ys)
-
-pub not-false : (b : Bool) → not b ≡ false → b ≡ true
-not-false true e = refl
-not-false false e = absurd (true≢false e)
 
 pub bytes_eq-from : (xs ys : List ℕ) → xs ≡ ys → bytes_eq xs ys ≡ true
 bytes_eq-from xs ys e = grind (arith, bytes_eq-Decides xs ys)

@@ -1,6 +1,7 @@
 mod Examples
 pub mod Characters
 pub mod Digits
+pub mod Ends
 pub mod Forms
 pub mod Headers
 pub mod Index

@@ -5,7 +5,9 @@ ghost use Rattle.keysym_core.specs.Keysym.{max_keysym};
 ghost use Rattle.keysym_core.specs.Next.{IsLeastFrom};
 ghost use Rattle.keysym_core.specs.Printed.{first_name};
 ghost use Rattle.keysym_core.specs.BuiltIn.{built_in, built_in_rows, built_in_characters};
+ghost use Rattle.keysym_core.specs.Places.{index_of, name_hash};
 ghost use Rattle.keysym_core.specs.declared.built_in_rows.TheConstants.{TEXT, STARTS, KEYSYMS};
+ghost use Rattle.keysym_core.specs.declared.built_in_places.TheConstants.{NAME_SHIFTS, NAME_INDEXES};
 ghost use Rattle.keysym_core.specs.GivenCharacters.{HasCountingRows, ArePairsOfKeysyms, gives, is_fixed, rank};
 ghost use Rattle.std.specs.List.Sorted.{IsNonDecreasingBy};
 
@@ -20,6 +22,7 @@ use crate::form::form_value;
 use crate::hints::slot_of;
 use crate::keysym::Keysym;
 use crate::places::{index_of, keysym_hash, name_hash};
+use crate::same::is_same;
 use std::str;
 
 /// Returns the keysym of a name, by the built-in names or by its form. O(1) for most names, else
@@ -46,13 +49,16 @@ fn row_value(name: &str) -> Option<Keysym>
     }
 }
 
-/// Returns the keysym of the built-in name with this index, if it is this name. O(1).
+/// Returns the keysym of the built-in name with this index, if it is this name. If it is not, and
+/// the hash of this name leads to this index, then no row has this name. O(1).
 #[inline(always)]
 fn value_at(index: usize, name: &str) -> Option<Keysym>
-    ensures { IfSome result (λ k. row_value built_in_rows name.now ≡ Some k) }
+    ensures found { IfSome result (λ k. row_value built_in_rows name.now ≡ Some k) }
+    ensures placed { index ≡ index_of NAME_SHIFTS NAME_INDEXES (name_hash name.now)
+        → result ≡ row_value built_in_rows name.now }
 {
     let (known, keysym) = row_at(index)?;
-    if known != name.as_bytes() {
+    if !is_same(known, name.as_bytes()) {
         return None;
     }
     Keysym::new(keysym)
@@ -65,11 +71,7 @@ fn value_by_hash(name: &str) -> Option<Keysym>
     ensures { result ≡ row_value built_in_rows name.now }
 {
     let hash = name_hash(name.as_bytes());
-    let (known, keysym) = row_at(index_of(&NAME_SHIFTS, &NAME_INDEXES, hash))?;
-    if known != name.as_bytes() {
-        return None;
-    }
-    Keysym::new(keysym)
+    value_at(index_of(&NAME_SHIFTS, &NAME_INDEXES, hash), name)
 }
 
 /// Returns the index at which a name most likely stands. O(1).

@@ -35,6 +35,7 @@ mod names;
 mod next;
 mod places;
 mod read;
+mod same;
 mod shown;
 mod table;
 

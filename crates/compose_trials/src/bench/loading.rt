@@ -19,7 +19,7 @@ const LOADS: u32 = 100;
 #[derive(Drop)]
 struct Parts {
     header: Vec<u8>,
-    sources: Sources,
+    sources: Sources<'static>,
     certificate: Vec<u8>,
 }
 

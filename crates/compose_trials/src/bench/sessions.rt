@@ -63,7 +63,8 @@ fn measure_keys<T: ComposeTable>(
 }
 
 /// Prints the least times of typing the keys without a service, through it, and through it with
-/// each reply returned as a whole. The rounds alternate; each key has the same answer in all three.
+/// each reply handed out as a whole. The rounds alternate; each key has the same answer in all
+/// three.
 fn measure_rounds<T: ComposeTable>(
     rt: &HostRuntime,
     names: &Names,
@@ -188,19 +189,20 @@ fn answer_round<T: ComposeTable>(
     Ok(counts)
 }
 
-/// Has the service answer each key, and reads the status and the text each time.
+/// Has the service answer each key into one reply, and reads the status and the text each time.
 fn answer_all<T: ComposeTable>(
     rt: &HostRuntime,
     service: &mut Service<T>,
     presses: &[Press],
 ) -> Result<TestCounts, Failure> {
     let mut counts = TestCounts::new();
+    let mut reply = new_reply();
     for press in presses {
         let request = Request {
             session: press.session,
             body: Body::Key(press.keysym.value()),
         };
-        let reply = service.answer(rt.alloc(), &request);
+        service.answer_into(rt.alloc(), &request, &mut reply);
         let ReplyBody::Fed(status, _, text) = &reply.answer else {
             return Err(Failure::Input);
         };
@@ -209,7 +211,7 @@ fn answer_all<T: ComposeTable>(
     Ok(counts)
 }
 
-/// Does the same with each reply returned as a whole.
+/// Does the same with each reply handed out as a whole.
 fn whole_round<T: ComposeTable>(
     rt: &HostRuntime,
     service: &mut Service<T>,
@@ -225,19 +227,20 @@ fn whole_round<T: ComposeTable>(
     Ok(counts)
 }
 
-/// Has the service answer each key, with the reply returned as a whole each time.
+/// Has the service answer each key into one reply, which is handed out as a whole each time.
 fn answer_all_whole<T: ComposeTable>(
     rt: &HostRuntime,
     service: &mut Service<T>,
     presses: &[Press],
 ) -> Result<TestCounts, Failure> {
     let mut counts = TestCounts::new();
+    let mut reply = new_reply();
     for press in presses {
         let request = Request {
             session: press.session,
             body: Body::Key(press.keysym.value()),
         };
-        let reply = service.answer(rt.alloc(), &request);
+        service.answer_into(rt.alloc(), &request, &mut reply);
         let Some((status, text)) = fed_of(&reply) else {
             return Err(Failure::Input);
         };
@@ -246,8 +249,16 @@ fn answer_all_whole<T: ComposeTable>(
     Ok(counts)
 }
 
-/// Returns the status and the text of a reply to a key. It is never inlined, so that each reply is
-/// made as a whole.
+/// Makes the reply that a round keeps.
+fn new_reply() -> Reply {
+    Reply {
+        session: 0,
+        answer: ReplyBody::Opened,
+    }
+}
+
+/// Returns the status and the text of a reply to a key. It is never inlined, so that all of each
+/// reply has to be in memory, as for a caller of which nothing is known.
 #[inline(never)]
 fn fed_of(reply: &Reply) -> Option<(Status, &str)> {
     match &reply.answer {

@@ -12,12 +12,11 @@ returns-in_default-from_utf8 c = elim (cases_Bool (is_utf8 c.in-Some.name.now)) 
   | inr f ↦ no_text c.args.bytes.now c.in-Some.name.now c.in-Some.rest.now (sym c.in-Some.ensures) c.args.sources.now f
 ]
 
-pub returns-in-Ok-add : goal.returns-in-Ok-add
-returns-in-Ok-add c =
+pub returns-in-Ok-add_borrowed : goal.returns-in-Ok-add_borrowed
+returns-in-Ok-add_borrowed c =
     let text = c.in-Ok.ensures.cases in
-    let added = c.in-Ok-add.ensures.ok in
+    let added = c.in-Ok-add_borrowed.ensures.ok in
     one_more c.args.bytes.now c.in-Some.name.now c.in-Some.rest.now (sym c.in-Some.ensures)
     (is_utf8-from_IsUtf8 c.in-Some.name.now text.1) c.in-Some-split_by_4.content.now c.in-Some-split_by_4.rest.now (sym c.in-Some-split_by_4.ensures)
-    c.args.sources.now c.add.new.self (subst (λ (n : List ℕ). add_fault c.args.sources.now n ≡ None) text.0 added.0)
-    (added.1 ∙ ap (λ (n : List ℕ). c.args.sources.now ++ record { name = n; bytes = c.in-Ok-copied.content.items } ∷ []) text.0
-    ∙ ap (λ (b : List ℕ). c.args.sources.now ++ record { name = c.in-Some.name.now; bytes = b } ∷ []) c.in-Ok-copied.ensures)
+    c.args.sources.now c.add_borrowed.new.self (subst (λ (n : List ℕ). add_fault c.args.sources.now n ≡ None) text.0 added.0)
+    (added.1 ∙ ap (λ (n : List ℕ). c.args.sources.now ++ record { name = n; bytes = c.in-Some-split_by_4.content.now } ∷ []) text.0)

@@ -3,14 +3,15 @@ use Rattle.std.specs.Prelude.{Err, slice_get}
 use Rattle.std.proofs.lemmas.Option.{slice_get-get_or}
 use Rattle.compose_find.specs.Found.{FoundSource, search_from, with_includes_of}
 use Rattle.compose_find.specs.FindReturns.{words}
+use Rattle.compose_find.proofs.Held.{finds_held}
 use Rattle.compose_find.proofs.Searches.{search_ends, search_goes, search_stops, passed}
 use Rattle.compose_find.proofs.search.find_sources.Goals as goal
 
 abbrev no_source : FoundSource
 no_source = record { name = []; path = []; depth = 0 }
 
-pub returns-in_err-add_includes_of : goal.returns-in_err-add_includes_of
-returns-in_err-add_includes_of c =
+pub returns-in_err-add_includes_of-clause-found : goal.returns-in_err-add_includes_of-clause-found
+returns-in_err-add_includes_of-clause-found c =
     let files = c.args.files.now in let words = words c.args.meanings in let index = c.loop-index.index in let sources = c.loop-index.sources.items in
     let from = get_or sources index no_source in
     let within : index < length sources = omega (arith, c.loop-index-test.true) in
@@ -36,6 +37,11 @@ loop-index-preserved c =
       c.in_ok-add_includes_of.ensures.few,
     )
 
-pub returns : goal.returns
-returns c =
+pub returns-clause-found : goal.returns-clause-found
+returns-clause-found c =
     sym c.loop-index.invariant.0 ∙ search_ends c.args.files.now (words c.args.meanings) (64 - c.loop-index.index) c.loop-index.index c.loop-index.sources.items (omega (arith, c.loop-index-test.false))
+
+pub returns-clause-held : goal.returns-clause-held
+returns-clause-held c =
+    let files = c.args.files.now in let words = words c.args.meanings in let index = c.loop-index.index in let sources = c.loop-index.sources.items in
+    finds_held files words c.args.root.now sources (sym c.loop-index.invariant.0 ∙ search_ends files words (64 - index) index sources (omega (arith, c.loop-index-test.false)))

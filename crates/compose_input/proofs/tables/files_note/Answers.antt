@@ -1,4 +1,4 @@
-use Rattle.std.proofs.Common.{◌∙◌, sym, option_copied}
+use Rattle.std.proofs.Common.{◌∙◌, sym}
 use Rattle.compose_input.proofs.Trees.{is_tree, is_note}
 use Rattle.compose_input.proofs.tables.files_note.Goals as goal
 

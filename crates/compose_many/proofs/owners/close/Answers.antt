@@ -4,5 +4,5 @@ use Rattle.compose_many.proofs.owners.close.Goals as goal
 
 pub returns-clause-so : goal.returns-clause-so
 returns-clause-so g c =
-    let expected = c.answer-reply.ensures in
+    let expected = c.answer_into.ensures in
     (record { request = record { session = c.args.session; body = close }; reply = expected.0 }, refl, refl, expected.1)

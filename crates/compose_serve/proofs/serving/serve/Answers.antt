@@ -19,13 +19,13 @@ returns-in-Err-push_all-clause-ends g c =
     let rest = so.0 in
     let left'' = g.R.Pull.left c.next_request.new.reader in
     let going = going_read _ _ _ _ _ _ _ _ left'' c.answers.feeder rest c.answers.invariant.going so.1 in
-    let reported = c.answer-reply.ensures in
+    let reported = c.answer_into.ensures in
     let bytes : c.as_slice.result.now ≡ reply_bytes reported.0 = c.as_slice.ensures.value ∙ c.put_reply-bytes.ensures.value reported.0 reported.2 in
     let w = c.in-Err-push_all.ensures.err in
     let test = c.answers-test.true in
     let few : c.answers.count < max_frames = omega (arith, test) in
     let written'' = g.W.Push.written c.push_all.new.writer in
-    ends_in_reply _ _ _ _ _ _ (g.W.Push.written c.answers.writer) _ rest c.next_request.new.feeder (request_of c.in-Ok.request) reported.0 (g.S.Responder.state c.answer-reply.new.self) written''
+    ends_in_reply _ _ _ _ _ _ (g.W.Push.written c.answers.writer) _ rest c.next_request.new.feeder (request_of c.in-Ok.request) reported.0 (g.S.Responder.state c.answer_into.new.self) written''
     (g.R.Pull.failed c.next_request.new.reader) (g.W.Push.failed c.push_all.new.writer) w.0 going few so.2.0 so.2.1 reported.1
     (subst (λ (b : List ℕ). w.0 < length b) bytes w.1) (subst (λ (b : List ℕ). Appends (g.W.Push.written c.answers.writer) written'' (take w.0 b)) bytes w.2) c.in-Err-push_all.ensures.marked
 
@@ -45,7 +45,7 @@ answers-preserved g c =
     let rest = so.0 in
     let left'' = g.R.Pull.left c.next_request.new.reader in
     let going = going_read _ _ _ _ _ _ _ _ left'' c.answers.feeder rest c.answers.invariant.going so.1 in
-    let reported = c.answer-reply.ensures in
+    let reported = c.answer_into.ensures in
     let bytes : c.as_slice.result.now ≡ reply_bytes reported.0 = c.as_slice.ensures.value ∙ c.put_reply-bytes.ensures.value reported.0 reported.2 in
     let w = c.in-Ok-push_all.ensures.ok in
     let written'' = g.W.Push.written c.push_all.new.writer in
@@ -53,7 +53,7 @@ answers-preserved g c =
     record {
       going =
           going_answered _ _ _ _ _ _ (g.W.Push.written c.answers.writer) _ rest c.next_request.new.feeder (request_of c.in-Ok.request) reported.0
-          (g.S.Responder.state c.answer-reply.new.self) written'' going so.2.0 so.2.1 reported.1
+          (g.S.Responder.state c.answer_into.new.self) written'' going so.2.0 so.2.1 reported.1
           (subst (λ (b : List ℕ). Appends (g.W.Push.written c.answers.writer) written'' b) bytes w);
       read_mark = request_reads (λ e. cc) ∙ c.answers.invariant.read_mark;
       write_mark = c.in-Ok-push_all.ensures.kept ∙ c.answers.invariant.write_mark;

@@ -14,12 +14,12 @@ use Rattle.compose_many.proofs.connection.Connection.answer_next.Goals as goal
 pub returns : goal.returns
 returns g c =
     let so = c.in-Ok.ensures in
-    let reported = c.answer-reply.ensures in
+    let reported = c.answer_into.ensures in
     let bytes : c.as_slice.result.now ≡ reply_bytes reported.0 = c.as_slice.ensures.value ∙ c.put_reply.ensures.value reported.0 reported.2 in
     let before : ConnectionState = record { held = c.self.inside.feeder; unsent = c.self.inside.unsent.items; answered = c.self.inside.answered; refused = c.self.inside.refused } in
     let after : ConnectionState = record { held = c.first_request.new.feeder; unsent = c.append-2.new.bytes.items; answered = c.self.inside.answered + 1; refused = c.self.inside.refused } in
     let old = g.S.Responder.state c.args.service.now in
-    let new = g.S.Responder.state c.answer-reply.new.self in
+    let new = g.S.Responder.state c.answer_into.new.self in
     let kind = is_load (request_of c.in-Ok.request).body in
     let owners = c.args.owners.now.items in
     let owners' = c.note.new.owners.items in
@@ -30,5 +30,5 @@ returns g c =
     (ap (λ (o : ConnectionState). o.refused) c.self.view_is ∙ c.requires) (omega arith) (omega arith) so.so.0 so.so.1 reported.1
     (c.append-2.ensures ∙ ap (λ y. y ++ c.as_slice.result.now) so.items ∙ ap (λ y. c.self.inside.unsent.items ++ y) bytes)
     (subst (λ y. length y ≤ max_reply) bytes c.as_slice.ensures.fits) refl
-    (c.note.ensures ∙ ap (λ (o : List Owner). owners_noted c.args.number c.in-Ok.request.session o c.in-Ok.request.body c.answer-reply.result.answer) so.owners
-    ∙ noted_is c.args.number c.in-Ok.request.session owners c.in-Ok.request.body c.answer-reply.result.answer reported.0.answer reported.2.1))))
+    (c.note.ensures ∙ ap (λ (o : List Owner). owners_noted c.args.number c.in-Ok.request.session o c.in-Ok.request.body c.answer_into.new.reply.answer) so.owners
+    ∙ noted_is c.args.number c.in-Ok.request.session owners c.in-Ok.request.body c.answer_into.new.reply.answer reported.0.answer reported.2.1))))

@@ -1,5 +1,6 @@
 use Rattle.std.proofs.Common.{◌≡◌, ◌∙◌, ap, None, position, ◌++◌, ◌∷◌, [], string_bytes, rules}
 use Rattle.std.proofs.lemmas.List.{map-append}
+use Rattle.std.specs.Cow.{cow_slice_items}
 use Rattle.std.specs.Map.{lookup}
 use Rattle.std.specs.String.{string_eq}
 use Rattle.std.specs.Str.{bytes_eq}
@@ -17,8 +18,8 @@ returns-clause-ok c =
     let absent : lookup (string_eq kept) files.entries ≡ None =
     absent_key (string_bytes kept) files.entries
     (ap (λ n. position (λ (s : Source). bytes_eq n s.name) (sources_of files.entries)) same ∙ ap (position (λ (s : Source). bytes_eq c.args.name.now s.name)) c.self.view_is ∙ c.requires.new) in
-    let added : Source = record { name = c.args.name.now; bytes = c.args.bytes.items } in
+    let added : Source = record { name = c.args.name.now; bytes = cow_slice_items c.args.bytes } in
     ap sources_of (c.in_ok-insert.ensures.entries ∙ insert_entry-new string_eq files kept c.args.bytes absent)
-    ∙ map-append (λ f. let s : Source = record { name = string_bytes f.0; bytes = f.1.items } in s) files.entries ((kept, c.args.bytes) ∷ [])
-    ∙ ap (λ n. let s : Source = record { name = n; bytes = c.args.bytes.items } in sources_of files.entries ++ s ∷ []) same
+    ∙ map-append (λ f. let s : Source = record { name = string_bytes f.0; bytes = cow_slice_items f.1 } in s) files.entries ((kept, c.args.bytes) ∷ [])
+    ∙ ap (λ n. let s : Source = record { name = n; bytes = cow_slice_items c.args.bytes } in sources_of files.entries ++ s ∷ []) same
     ∙ ap (λ r. r ++ added ∷ []) c.self.view_is
