@@ -165,6 +165,7 @@ real: composecheck compose_trials $(LIBRARY)
 
 bench: composecheck compose_trials $(LIBRARY)
 	python3 bench/run.py ./composecheck ./compose_trials
+	python3 bench/start.py ./composecheck
 	python3 bench/growth.py ./composecheck docs/growth.svg
 	python3 bench/service.py ./composecheck
 	python3 bench/at_once.py ./composecheck

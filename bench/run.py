@@ -121,20 +121,20 @@ def compare_compiling(trials, folder, aims):
 
 
 def feed_instructions(trials, folder, keys):
-    """The instructions of typing keys, ours and libxkbcommon's: those of a run over some keys without those of a run over half of them."""
+    """The instructions of typing keys, ours and libxkbcommon's. Of our keys one turn more is counted, since reading them takes some thirty
+    instructions each, and of libxkbcommon's, which are read by the system, as many keys more."""
     key_streams.write(keys[:COUNTED_KEYS], os.path.join(folder, "counted"))
-    key_streams.write(keys[: COUNTED_KEYS // 2], os.path.join(folder, "half"))
-    counted = {}
-    for name, command in {"ours": [trials, "bench", "type", "names", ENGLISH], "theirs": ["./xkb", "type", ENGLISH]}.items():
-        counted[name] = instructions_between([*command, "half"], [*command, "counted"], 1, folder)
-    return counted["ours"], counted["theirs"]
+    key_streams.write(keys[: 2 * COUNTED_KEYS], os.path.join(folder, "twice"))
+    ours = [trials, "bench", "type", "names", ENGLISH, "counted"]
+    theirs = ["./xkb", "type", ENGLISH]
+    return instructions_between([*ours, "1"], [*ours, "2"], 1, folder), instructions_between([*theirs, "counted"], [*theirs, "twice"], 1, folder)
 
 
 def compare_typing(trials, folder, aims):
     """Ten million keys."""
     keys = key_streams.stream(reference.sequences(ENGLISH, reference.header_values(BUILT_IN)), KEYS, 1)
     key_streams.write(keys, os.path.join(folder, "keys"))
-    times = least_figures({"ours": [trials, "bench", "type", "names", ENGLISH, "keys"], "theirs": ["./xkb", "type", ENGLISH, "keys"]}, folder, 5)
+    times = least_figures({"ours": [trials, "bench", "type", "names", ENGLISH, "keys", "1"], "theirs": ["./xkb", "type", ENGLISH, "keys"]}, folder, 5)
     ours, theirs = times["ours"], times["theirs"]
     statuses = ["nothing", "composing", "composed", "cancelled"]
     same = all(ours[status] == theirs[status] for status in statuses)

@@ -66,7 +66,7 @@ static int compile(struct xkb_context *context, const char *path, int rounds)
 
 static int type(struct xkb_compose_state *state, const char *path, int told)
 {
-    size_t length, text_bytes = 0, counts[4] = {0};
+    size_t length, text_bytes = 0, first_bytes = 0, counts[4] = {0};
     char *bytes = read_file(path, &length);
     uint64_t start = now();
     for (size_t at = 0; at + 4 <= length; at += 4) {
@@ -76,6 +76,7 @@ static int type(struct xkb_compose_state *state, const char *path, int told)
         enum xkb_compose_feed_result result = xkb_compose_state_feed(state, key);
         enum xkb_compose_status status = xkb_compose_state_get_status(state);
         text_bytes += (size_t)xkb_compose_state_get_utf8(state, text, sizeof text);
+        first_bytes += (unsigned char)text[0];
         counts[status]++;
         if (told && result == XKB_COMPOSE_FEED_IGNORED)
             printf("ignored\n");
@@ -87,7 +88,7 @@ static int type(struct xkb_compose_state *state, const char *path, int told)
     printf("type\t%llu\n", (unsigned long long)(now() - start));
     for (int i = 0; i < 4; i++)
         printf("%s\t%zu\n", words[i], counts[i]);
-    printf("text bytes\t%zu\n", text_bytes);
+    printf("text bytes\t%zu\nfirst bytes\t%zu\n", text_bytes, first_bytes);
     return 0;
 }
 

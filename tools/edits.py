@@ -206,9 +206,10 @@ class Trial:
         self.last = last
         self.rt, self.crate, self.kept, self.room, self.results, self.prepare = rt, crate, kept, room, results, prepare or self.proof
         self.files = [it for it in rt.edits_of(crate)[0] if is_asked(os.path.basename(it).removesuffix(".edit"))]
-        self.left, self.told, self.earlier, self.is_proved, self.taking = collections.deque(), {}, {}, False, threading.Lock()
-        # the functions that are edited in batches, the crate with refused answers of them, and whether an edit was tried alone
-        self.functions, self.answered, self.is_alone = [], crate, False
+        self.left, self.told, self.earlier, self.is_proved = collections.deque(), {}, {}, False
+        # the functions that are edited in batches, the crate with refused answers of them, whether an edit was tried alone, and what the
+        # system refused, a file or memory, while it was tried
+        self.functions, self.answered, self.is_alone, self.refused = [], crate, False, []
 
     def tell(self, file, passes, text):
         self.told[file] = passes, f"must-fail {self.crate.name}/{os.path.basename(file)}: {text}"
@@ -242,7 +243,8 @@ class Trial:
 
     @contextlib.contextmanager
     def copy_of_kept(self):
-        with tempfile.TemporaryDirectory(prefix="kept-", dir=self.room) as folder:
+        # (what ends late may still write there; the whole room is removed at the end)
+        with tempfile.TemporaryDirectory(prefix="kept-", dir=self.room, ignore_cleanup_errors=True) as folder:
             yield copy_of(self.kept, folder)
 
     def proof(self):
@@ -260,10 +262,8 @@ class Trial:
         need not find it again."""
         for judged in glob.glob(f"{glob.escape(kept)}/*/judged"):
             at = f"{self.kept}/{os.path.relpath(judged, kept)}"
-            # (two checks of a crate can end at the same time)
-            with self.taking:
-                if os.path.isdir(os.path.dirname(at)) and not os.path.exists(at):
-                    os.replace(judged, at)
+            if os.path.isdir(os.path.dirname(at)) and not os.path.exists(at):
+                os.replace(judged, at)
 
     def begin(self):
         """Plans the checks of the crate's edits, but for those whose results earlier runs kept."""
@@ -288,14 +288,20 @@ class Trial:
         self.left.extend([file for file, it in edits.items() if not it])
 
     def work(self):
-        """Tries what is left. A batch is a list of edits; what is tried alone is a file."""
+        """Tries what is left. A batch is a list of edits; what is tried alone is a file. What the system refused once is tried a second time."""
         with contextlib.suppress(IndexError):
             while True:
                 it = self.left.popleft()
                 if self.is_late():
                     self.leave([it] if isinstance(it, str) else [edit.file for edit in it])
-                else:
+                    continue
+                try:
                     self.alone(it) if isinstance(it, str) else self.together(it)
+                except OSError:
+                    if it in self.refused:
+                        raise
+                    self.refused.append(it)
+                    self.left.append(it)
 
     def alone(self, file):
         """Tries an edit alone, by rt's rule."""

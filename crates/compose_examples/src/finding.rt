@@ -1,7 +1,6 @@
 //! The tables that are found among worked files, with the bytes of their sources.
-use crate::helpers::expect_text;
+use crate::helpers::{expect_text, push_sources};
 use compose_find::{Files, FindFault, FoundSource, FoundTable, Meanings, find_sources};
-use compose_read::Sources;
 use std::alloc::{AllocError, Global};
 use std::fmt::Write;
 use std::process::Abort;
@@ -61,17 +60,6 @@ fn push_files(text: &mut String, files: &[FoundSource]) -> Result<(), AllocError
     for file in files {
         let (name, path, depth) = (file.name.as_str(), file.path.as_str(), file.depth);
         write!(text, "{name} {path} {depth}\n")?;
-    }
-    Ok(())
-}
-
-/// Prints the name and the bytes of each source; a question mark stands for bytes that are not
-/// UTF-8.
-fn push_sources(text: &mut String, sources: &Sources) -> Result<(), AllocError> {
-    for index in 0..sources.count() {
-        let name = sources.name(index).unwrap_or("no name");
-        let bytes = str::from_utf8(sources.bytes(index)).unwrap_or("?");
-        write!(text, "{name}={bytes}\n")?;
     }
     Ok(())
 }

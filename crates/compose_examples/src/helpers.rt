@@ -2,6 +2,7 @@
 use compose_read::{SourceFault, Sources};
 use keysym_core::Names;
 use std::alloc::{AllocError, Global};
+use std::fmt::Write;
 use std::process::Abort;
 
 /// Asserts that the text is the wanted one; a failure shows the row.
@@ -59,4 +60,16 @@ pub fn two_sources(
     add(&mut sources, alloc, "r", root)?;
     add(&mut sources, alloc, "%L", included.as_bytes())?;
     Ok(sources)
+}
+
+/// Prints the name and the bytes of each source; a question mark stands for bytes that are not
+/// UTF-8.
+/// Errors: `AllocError` if memory runs out.
+pub fn push_sources(text: &mut String, sources: &Sources) -> Result<(), AllocError> {
+    for index in 0..sources.count() {
+        let name = sources.name(index).unwrap_or("no name");
+        let bytes = str::from_utf8(sources.bytes(index)).unwrap_or("?");
+        write!(text, "{name}={bytes}\n")?;
+    }
+    Ok(())
 }

@@ -10,11 +10,17 @@
 #![tactic(auto)]
 
 #[cfg(test)]
+mod arrays;
+#[cfg(test)]
+mod borrowing;
+#[cfg(test)]
 mod certificates;
 #[cfg(test)]
 mod checking;
 #[cfg(test)]
 mod differing;
+#[cfg(test)]
+mod drafting;
 #[cfg(test)]
 mod exchanging;
 #[cfg(test)]

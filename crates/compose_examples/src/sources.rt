@@ -282,7 +282,8 @@ fn push_keys(text: &mut String, keys: &[Keysym]) -> Result<(), AllocError> {
 }
 
 /// Prints the keysyms of each sequence and its text.
-fn push_rows(text: &mut String, sequences: &Sequences) -> Result<(), AllocError> {
+/// Errors: `AllocError` if memory runs out.
+pub fn push_rows(text: &mut String, sequences: &Sequences) -> Result<(), AllocError> {
     for index in 0..sequences.len() {
         push_keys(text, sequences.sequence(index))?;
         let content = sequences.text(index);

@@ -37,7 +37,7 @@ pub fn run(rt: &HostRuntime, arguments: &[&str]) -> Result<(), Failure> {
         ["names", header] => reading::read_names(rt, header),
         ["certificate", certificate] => reading::read_certificate(rt, certificate),
         ["compile", header, table] => compiling::compile(rt, header, table),
-        ["type", header, table, keys] => typing::type_keys(rt, header, table, keys),
+        ["type", header, table, keys, turns] => typing::type_keys(rt, header, table, keys, turns),
         ["load", header, table, certificate] => {
             serve(rt, &[header, table, certificate], Measured::Loads)
         }

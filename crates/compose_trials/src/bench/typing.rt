@@ -1,5 +1,8 @@
 //! A stream of keys that is typed.
+ghost use Rattle.std.specs.Prelude.{◌<◌};
+
 use crate::bench::figures::print;
+use crate::bench::serving::read_count;
 use crate::bench::stopwatch::{Stopwatch, now};
 use crate::failure::Failure;
 use crate::input::{read_file, read_names, read_table};
@@ -13,10 +16,7 @@ use keysym_core::{Keysym, Names};
 /// sum of their first bytes.
 #[derive(Clone, Copy, PartialEq, Eq, Drop)]
 pub struct TestCounts {
-    nothing: u64,
-    composing: u64,
-    composed: u64,
-    cancelled: u64,
+    by_status: [u64; 4],
     text_bytes: u64,
     first_bytes: u64,
 }
@@ -25,68 +25,91 @@ impl TestCounts {
     /// Makes counts of no key.
     pub fn new() -> TestCounts {
         TestCounts {
-            nothing: 0,
-            composing: 0,
-            composed: 0,
-            cancelled: 0,
+            by_status: [0; 4],
             text_bytes: 0,
             first_bytes: 0,
         }
     }
 
-    /// Counts a key, and reads the first byte of its text, so that the text has to be made.
+    /// Counts a key, and reads the first byte of its text, so that the text has to be made. There
+    /// is no branch on the status, as there is none in libxkbcommon's counts.
     pub fn count(&mut self, status: Status, text: &str) {
-        let count = match status {
-            Status::Nothing => &mut self.nothing,
-            Status::Composing => &mut self.composing,
-            Status::Composed => &mut self.composed,
-            Status::Cancelled => &mut self.cancelled,
-        };
-        *count = count.saturating_add(1);
-        self.text_bytes = self.text_bytes.saturating_add(text.len() as u64);
+        let count = &mut self.by_status[index_of(status)];
+        *count = count.wrapping_add(1);
+        self.text_bytes = self.text_bytes.wrapping_add(text.len() as u64);
         let first = text.as_bytes().first().copied().unwrap_or(0);
-        self.first_bytes = self.first_bytes.saturating_add(u64::from(first));
+        self.first_bytes = self.first_bytes.wrapping_add(u64::from(first));
     }
 }
 
-/// Types the keys of a file, in which each keysym has four bytes, the lowest first. Errors: see
-/// [`Failure`].
-pub fn type_keys(rt: &HostRuntime, header: &str, path: &str, keys: &str) -> Result<(), Failure> {
+/// Returns the index of a status among the counts.
+fn index_of(status: Status) -> usize
+    ensures { result < 4 }
+{
+    match status {
+        Status::Nothing => 0,
+        Status::Composing => 1,
+        Status::Composed => 2,
+        Status::Cancelled => 3,
+    }
+}
+
+/// Types the keys of a file, in which each keysym has four bytes, the lowest first, this number of
+/// times. Errors: see [`Failure`].
+pub fn type_keys(
+    rt: &HostRuntime,
+    header: &str,
+    path: &str,
+    keys: &str,
+    turns: &str,
+) -> Result<(), Failure> {
+    let turns = read_count(turns)?;
     let names = read_names(rt, header)?;
-    type_with(rt, &names, path, keys)
+    type_with(rt, &names, path, keys, turns)
 }
 
 /// Does the same with these names.
-fn type_with(rt: &HostRuntime, names: &Names, path: &str, keys: &str) -> Result<(), Failure> {
+fn type_with(
+    rt: &HostRuntime,
+    names: &Names,
+    path: &str,
+    keys: &str,
+    turns: u32,
+) -> Result<(), Failure> {
     let table: PackedTable = read_table(rt, names, path)?;
-    type_file(rt, &table, names, keys)
+    type_file(rt, &table, names, keys, turns)
 }
 
-/// Types the keys of a file over this table.
+/// Types the keys of a file over this table, and prints the least time of a turn.
 fn type_file(
     rt: &HostRuntime,
     table: &PackedTable,
     names: &Names,
     keys: &str,
+    turns: u32,
 ) -> Result<(), Failure> {
     let keys = read_keys(rt, keys)?;
     let mut stopwatch = Stopwatch::new();
-    let start = now(rt)?;
-    let counts = type_all(table, names, &keys);
-    stopwatch.stop(rt, start)?;
+    let mut counts = TestCounts::new();
+    for _ in 0..turns {
+        let start = now(rt)?;
+        counts = type_all(table, names, &keys);
+        stopwatch.stop(rt, start)?;
+    }
     print_counts(rt, stopwatch.least(), counts)
 }
 
-/// Prints the time and the counts.
+/// Prints the time and the counts of a turn.
 fn print_counts(rt: &HostRuntime, time: u64, counts: TestCounts) -> Result<(), Failure> {
+    let [nothing, composing, composed, cancelled] = counts.by_status;
     print(
         rt,
         &[
             ("type", time),
-            ("nothing", counts.nothing),
-            ("composing", counts.composing),
-            ("composed", counts.composed),
-            ("cancelled", counts.cancelled),
+            ("nothing", nothing),
+            ("composing", composing),
+            ("composed", composed),
+            ("cancelled", cancelled),
             ("text bytes", counts.text_bytes),
             ("first bytes", counts.first_bytes),
         ],
