@@ -70,8 +70,7 @@ impl ComposeState {
     pub fn reset(&mut self)
         ensures { self.new ≡ rest }
     {
-        self.pending.clear();
-        self.status = Status::Nothing;
+        self.end(Status::Nothing);
     }
 
     /// Feeds one key (xkb_compose_state_feed). Allocates nothing; O(pending keysyms + log edges of
@@ -180,6 +179,7 @@ impl ComposeState {
     /// change; this costs O(pending keysyms) if they were fed with this table, and O(pending
     /// keysyms × log edges of a node) if not. Else it costs O(pending keysyms × (pending keysyms +
     /// log edges of a node)).
+    #[inline(always)]
     pub fn refeed<T: ComposeTable>(&mut self, table: &T, names: &Names)
         ensures { self.new ≡ loaded (T.definitions table.now) self.old }
     {
@@ -188,12 +188,21 @@ impl ComposeState {
     }
 
     /// Moves the state to the table as `refeed` does, without keysym names.
+    #[inline(always)]
     pub fn refeed_alone<T: ComposeTable>(&mut self, table: &T)
         ensures { self.new ≡ loaded (T.definitions table.now) self.old }
     {
         if self.pending.is_empty() && self.status != Status::Composing {
             return;
         }
+        self.refeed_pending(table);
+    }
+
+    /// Does the same. It is a function of its own, so that `refeed` is short enough to be inlined.
+    #[inline(never)]
+    fn refeed_pending<T: ComposeTable>(&mut self, table: &T)
+        ensures { self.new ≡ loaded (T.definitions table.now) self.old }
+    {
         if !self.pending.is_empty()
             && node_of(table, self.pending.as_slice(), &self.edge_indexes).is_some()
         {
@@ -208,6 +217,16 @@ impl ComposeState {
         }
         self.pending = refed.pending;
         self.edge_indexes = refed.edge_indexes;
+    }
+
+    /// Ends what is pending, with this status. A new list takes fewer instructions than `clear`, which
+    /// calls a function.
+    #[inline(always)]
+    fn end(&mut self, status: Status)
+        ensures { self.new ≡ record { pending = []; status = status } }
+    {
+        self.pending = ArrayVec::new();
+        self.status = status;
     }
 
     /// Feeds a key that leads from the pending keysyms to this target, by the edge at this index.
@@ -240,8 +259,7 @@ impl ComposeState {
                 };
             }
             Target::Leaf(leaf) => {
-                self.pending = ArrayVec::new();
-                self.status = Status::Composed;
+                self.end(Status::Composed);
                 return Fed {
                     accepted: true,
                     status: Status::Composed,
@@ -276,8 +294,7 @@ impl ComposeState {
                 text: plain_text(names, keysym),
             };
         }
-        self.pending = ArrayVec::new();
-        self.status = Status::Cancelled;
+        self.end(Status::Cancelled);
         Fed {
             accepted: true,
             status: Status::Cancelled,
@@ -299,12 +316,12 @@ impl ComposeState {
         ensures status { result.status ≡ self.new.status }
         ensures text { text_bytes result.text ≡ [] }
     {
-        self.status = if self.pending.is_empty() {
+        let status = if self.pending.is_empty() {
             Status::Nothing
         } else {
             Status::Cancelled
         };
-        self.pending = ArrayVec::new();
+        self.end(status);
         Fed {
             accepted: true,
             status: self.status,

@@ -1,4 +1,4 @@
-use Rattle.std.proofs.Common.{◌≡◌, ◌∙◌, ap, refl, rules, Some, Option}
+use Rattle.std.proofs.Common.{◌≡◌, ◌∙◌, [], ap, refl, rules, Some, Option}
 use Rattle.compose_model.specs.Session.{Session, fed}
 use Rattle.compose_tree.specs.declared.table.Target.{Target}
 use Rattle.compose_tree.specs.declared.table.Target.TheVariants.{Node, Leaf}
@@ -25,16 +25,16 @@ returns-in-Node-clause-reported g c names =
 pub returns-in-Leaf-clause-state : goal.returns-in-Leaf-clause-state
 returns-in-Leaf-clause-state g c =
     let table = g.T.ComposeTable.definitions c.args.table.now in
-    let s : Session = record { pending = c.self.inside.pending.items; status = c.self.inside.status } in
+    let s : Session = c.args.self.now in
     let t : Option Target = Some (Leaf c.in-Leaf.leaf) in
     let leads : target_of table s.pending c.args.keysym ≡ t = search rules in
-    session_after table s c.args.keysym t c.requires.accepted leads c.new-self-inside.result.items _ c.new-self-inside.ensures refl ∙ ap (λ x. fed table x c.args.keysym) c.self.view_is
+    c.end.ensures ∙ session_after table s c.args.keysym t c.requires.accepted leads [] _ refl refl
 
 pub returns-in-Leaf-clause-reported : goal.returns-in-Leaf-clause-reported
 returns-in-Leaf-clause-reported g c names =
     let table = g.T.ComposeTable.definitions c.args.table.now in
-    let s : Session = record { pending = c.self.inside.pending.items; status = c.self.inside.status } in
+    let s : Session = c.args.self.now in
     let t : Option Target = Some (Leaf c.in-Leaf.leaf) in
     let leads : target_of table s.pending c.args.keysym ≡ t = search rules in
-    answered table s c.args.keysym t c.requires.accepted leads c.args.self.now c.self.view_is names _ refl refl
+    answered table s c.args.keysym t c.requires.accepted leads s refl names _ refl refl
     (leaf_commits table s.pending c.args.keysym c.in-Leaf.leaf c.text.result.now leads c.text.ensures.value) refl
