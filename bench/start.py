@@ -53,8 +53,8 @@ def commands(program):
     return {
         "a C program that prints a line": ["./line"],
         "`composecheck --version`": [program, "--version"],
-        "`type` of three keys, an empty table": [program, "type", "nothing", *KEYS],
-        "`type` of three keys, en_US": [program, "type", "english", *KEYS],
+        "`type` of three keys, an empty table": [program, "type", "--names", "builtin", "nothing", *KEYS],
+        "`type` of three keys, en_US": [program, "type", "--names", "builtin", "english", *KEYS],
         "`type -f` of three keys, en_US": [program, "type", "-f", ENGLISH, *KEYS],
     }
 
