@@ -1,7 +1,7 @@
 /* library TABLE KEYS ROUNDS: types a stream of keys, four bytes each, on one table by libcomposecheck and by libxkbcommon, in turns in one process.
  * Prints a figure a line, a name, a tab and a number: the nanoseconds of the quickest round of each, of keys with their status and text, of feeding
  * alone, of compiling the table into arrays that are kept, and of reading it with its result keysyms; and at how many keys the two answer
- * otherwise. Ends with 2 where a table can't be read.
+ * otherwise. Each is done three times in a row in each round. Ends with 2 where a table can't be read.
  *
  *   library ours|theirs TABLE KEYS   types the keys once by the one or the other, with status and text: for counts of instructions */
 #define _GNU_SOURCE
@@ -188,17 +188,20 @@ int main(int count, char **words)
     }
     static void (*const parts[])(void) = { ours, theirs, our_feed, their_feed, our_compiling, our_reading, their_reading };
     static const char *const names[] = { "ours", "theirs", "our feed", "their feed", "our compiling", "our table", "their table" };
-    enum { PARTS = sizeof parts / sizeof *parts };
+    /* (several turns in a row: after a million keys the first one has nothing in the caches) */
+    enum { PARTS = sizeof parts / sizeof *parts, TURNS = 3 };
     uint64_t least[PARTS];
     memset(least, 0xff, sizeof least);
     begin(words[1], words[2]);
     printf("differences\t%zu\n", differences());
     for (int round = atoi(words[3]); round > 0; round--)
         for (int part = 0; part < PARTS; part++) {
-            uint64_t start = now();
-            parts[part]();
-            uint64_t taken = now() - start;
-            least[part] = taken < least[part] ? taken : least[part];
+            for (int turn = 0; turn < TURNS; turn++) {
+                uint64_t start = now();
+                parts[part]();
+                uint64_t taken = now() - start;
+                least[part] = taken < least[part] ? taken : least[part];
+            }
         }
     for (int part = 0; part < PARTS; part++)
         printf("%s\t%llu\n", names[part], (unsigned long long) least[part]);
