@@ -243,8 +243,7 @@ class Trial:
 
     @contextlib.contextmanager
     def copy_of_kept(self):
-        # (what ends late may still write there; the whole room is removed at the end)
-        with tempfile.TemporaryDirectory(prefix="kept-", dir=self.room, ignore_cleanup_errors=True) as folder:
+        with tempfile.TemporaryDirectory(prefix="kept-", dir=self.room) as folder:
             yield copy_of(self.kept, folder)
 
     def proof(self):

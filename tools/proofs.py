@@ -169,7 +169,7 @@ def named(task, call):
     try:
         return call()
     except Exception as error:
-        error.add_note(f"proofs: this was the task '{task}'")
+        print(f"proofs: the task '{task}' ended by {error!r}", flush=True)
         raise
 
 
