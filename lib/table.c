@@ -155,7 +155,7 @@ static struct composecheck_table *table_of(const struct room *wide, const struct
 static struct composecheck_sizes guess(size_t bytes)
 {
     size_t edges = bytes / 12 + 1;
-    struct composecheck_sizes sizes = { bytes / 3 + 2, edges, bytes / 5 + 2, bytes + 1, 4 * edges, { 0 } };
+    struct composecheck_sizes sizes = { bytes / 3 + 2, edges, bytes / 5 + 2, bytes + 1, 2 * edges, { 0 } };
     return sizes;
 }
 

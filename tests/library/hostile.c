@@ -123,7 +123,7 @@ static void other_numbers(const struct composecheck_table *table)
         edges[i].target--;
     }
     expect(composecheck_table_is_table(&t) == 1, "the numbers of the table");
-    expect(t.sizes.hints == 4 * t.sizes.edges, "four hints for each edge");
+    expect(t.sizes.hints == 2 * t.sizes.edges, "two hints for each edge");
     free(nodes);
     free(edges);
 }

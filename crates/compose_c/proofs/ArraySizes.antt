@@ -30,12 +30,12 @@ text_bytes (d ∷ table) = length-append d.text (pool (texts_of table)) ∙ ap (
 -- the lengths of the arrays of a table
 pub lengths : (table : List Definition) (s : Sizes) (packed_in : List PackedNode) (edges_in : List PackedEdge) (offsets bytes : List ℕ)
     → IsPacked packed_in edges_in offsets bytes table
-    → s.nodes ≡ length packed_in → s.edges ≡ length edges_in → s.offsets ≡ length offsets → s.texts ≡ length bytes → s.hints ≡ 4 * length edges_in → AreSizes table s
+    → s.nodes ≡ length packed_in → s.edges ≡ length edges_in → s.offsets ≡ length offsets → s.texts ≡ length bytes → s.hints ≡ 2 * length edges_in → AreSizes table s
 lengths table s packed_in edges_in offsets bytes packed node_count edge_total offset_count byte_count hint_count = record {
   all_nodes = node_count ∙ ap length packed.nodes_are ∙ packed_count (rows_of table) 0 ∙ ap (λ n. n + 1) (length-map (nodes table) (row_of table));
   all_edges = edge_total ∙ ap length packed.edges_are ∙ edge_count table (nodes table);
   all_offsets = offset_count ∙ ap length packed.offsets_are ∙ offsets_count (texts_of table) 0
       ∙ ap (λ n. n + 1) (length-map table (λ (d : Definition). d.text) ∙ sym (leaves_count table packed.settled));
   all_texts = byte_count ∙ ap length packed.bytes_are ∙ text_bytes table;
-  all_hints = hint_count ∙ ap (λ n. 4 * n) (ap length packed.edges_are ∙ edge_count table (nodes table));
+  all_hints = hint_count ∙ ap (λ n. 2 * n) (ap length packed.edges_are ∙ edge_count table (nodes table));
 }

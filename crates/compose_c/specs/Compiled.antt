@@ -41,13 +41,13 @@ pub record Fits (s : Sizes) (nodes edges offsets texts hints : ℕ) : Type 0 whe
   pub all_hints : s.hints ≤ hints
 
 -- the sizes of this table: one for each node and one for the end of the edges; one for each edge; one for each text and
--- one for the end of the texts; one for each byte of a text; and four hints for each edge
+-- one for the end of the texts; one for each byte of a text; and two hints for each edge
 pub record AreSizes (table : List Definition) (s : Sizes) : Type 0 where
   pub all_nodes : s.nodes ≡ length (nodes table) + 1
   pub all_edges : s.edges ≡ sum_by (λ p. length (edges table p)) (nodes table)
   pub all_offsets : s.offsets ≡ length (leaves table) + 1
   pub all_texts : s.texts ≡ sum_by (λ (d : Definition). length d.text) table
-  pub all_hints : s.hints ≡ 4 * sum_by (λ p. length (edges table p)) (nodes table)
+  pub all_hints : s.hints ≡ 2 * sum_by (λ p. length (edges table p)) (nodes table)
 
 -- the sizes of a table of which this holds
 pub record AreSizesOf (P : List Definition → Type 0) (s : Sizes) : Type 0 where

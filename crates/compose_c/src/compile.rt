@@ -69,7 +69,7 @@ fn sizes_of(arrays: &LentArrays<'_>) -> Sizes
     ensures table { (table : List Definition)
         → IsPacked arrays.now.nodes.now arrays.now.edges.now arrays.now.offsets.now
         arrays.now.texts.now table
-        → length arrays.now.hints.now ≡ 4 * length arrays.now.edges.now → AreSizes table result }
+        → length arrays.now.hints.now ≡ 2 * length arrays.now.edges.now → AreSizes table result }
 {
     Sizes {
         nodes: arrays.nodes.len(),

@@ -12,7 +12,7 @@ ghost use Rattle.compose_c.specs.Arrays.{AreOf, edge_of};
 use crate::loose::{LooseArrays, LooseEdge, definitions_of};
 use compose_model::Rule;
 use compose_read::{Definitions, SettleFault, settle};
-use compose_tree::{BuildFault, ComposeTable, PackedEdge, PackedNode, PackedTable};
+use compose_tree::{BuildFault, BuildTable, PackedEdge, PackedNode, PackedTable};
 use std::alloc::{AllocError, Global};
 
 /// Returns the table of these definitions, or `None` if they are not settled or have too many

@@ -15,7 +15,7 @@ use compose_migration::{
 };
 use compose_model::Rule;
 use compose_read::Sources;
-use compose_tree::{ComposeTable, TableFault};
+use compose_tree::{BuildTable, ComposeTable, TableFault};
 use keysym_core::NameFault;
 use std::alloc::Global;
 use thiserror::Error;
@@ -73,7 +73,7 @@ pub struct CheckParts<T: ComposeTable> {
     pub certificate: Certificate,
 }
 
-impl<T: ComposeTable> CheckParts<T> {
+impl<T: BuildTable> CheckParts<T> {
     /// Reads the names, the keysyms of the key names, the old table and the new one, the repertoire
     /// and the certificate, in this order. O(bytes of all parts, sorting of the definitions).
     ///
@@ -107,7 +107,7 @@ impl<T: ComposeTable> CheckParts<T> {
 }
 
 /// Reads the names, the keysyms of the key names, and both tables.
-fn read_migration<T: ComposeTable>(
+fn read_migration<T: BuildTable>(
     alloc: Global,
     input: &CheckInput<'_>,
     key_names: &[&str],
@@ -158,7 +158,7 @@ fn read_texts<T: ComposeTable>(
 /// `Certificate`), or `NoMemory`.
 ///
 /// If the verdict is `Yes`, the promise of `check` holds for the tables that were read.
-pub fn check_bytes<T: ComposeTable>(
+pub fn check_bytes<T: BuildTable>(
     alloc: Global,
     input: &CheckInput<'_>,
 ) -> Result<Verdict, InputFault>

@@ -12,7 +12,7 @@ use compose_runs::{Environment, Options};
 use compose_service_runs::{
     ClientRequests, Peer, load_requests, run_exchange, run_load, run_session,
 };
-use compose_tree::ComposeTable;
+use compose_tree::BuildTable;
 use compose_wire::{Reply, Request};
 use std::alloc::Global;
 use std::io::{Read, Write};
@@ -53,7 +53,7 @@ pub fn load_outcome(
 /// Types in a session of a running service. Returns what is printed.
 /// Errors: the fault of the first names file that can't be read; a fault of the socket or the
 /// connection; `NoMemory` if memory runs out.
-pub fn session_files<T: ComposeTable, F: Folder>(
+pub fn session_files<T: BuildTable, F: Folder>(
     rt: &(impl Net + AllocGlobal),
     files: &mut ReadOnce<F>,
     options: Options<'_>,

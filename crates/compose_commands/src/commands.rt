@@ -12,7 +12,7 @@ use compose_input::Fault;
 use compose_program::{FaultForm, run_question};
 use compose_report::Outcome;
 use compose_runs::Options;
-use compose_tree::ComposeTable;
+use compose_tree::BuildTable;
 use std::fs::File;
 use std::net::Net;
 use std::rt::{Clock, Env, Files};
@@ -29,7 +29,7 @@ pub enum Answered {
 /// Runs the command, and returns what it comes to.
 /// Errors: why the input can't be read or is refused. What an outcome says about a fault has the
 /// form `form`.
-pub fn answer<T: ComposeTable, F: Folder>(
+pub fn answer<T: BuildTable, F: Folder>(
     rt: &(impl Clock + Env + Files<File = File> + Net + Print + Eprint + AllocGlobal),
     files: &mut ReadOnce<F>,
     process_id: u32,

@@ -10,7 +10,7 @@ use compose_folder::{Disk, ReadOnce};
 use compose_input::Fault;
 use compose_program::{FaultForm, fault_form, fault_in_form};
 use compose_report::{Outcome, arguments_outcome, exit_code, no_memory, print, print_beside_file};
-use compose_tree::ComposeTable;
+use compose_tree::BuildTable;
 use std::alloc::{AllocError, Global};
 use std::fs::File;
 use std::net::Net;
@@ -23,7 +23,7 @@ use std::{env, io};
 /// if the arguments or the input are refused or the output can't be written, 3 if memory ran out.
 /// The answer goes to standard output, and why there is none to standard error. Takes the time of
 /// the command on its files. `is_terminal` says whether standard output is a terminal.
-pub fn run<T: ComposeTable>(
+pub fn run<T: BuildTable>(
     rt: &(impl Clock + Env + Files<File = File> + Input + Net + Print + Eprint + AllocGlobal),
     process_id: u32,
     is_terminal: bool,
@@ -49,7 +49,7 @@ fn read_arguments(rt: &(impl Env + Print + Eprint + AllocGlobal)) -> Result<Vec<
 }
 
 /// Runs the command that these arguments name.
-fn answer_arguments<T: ComposeTable>(
+fn answer_arguments<T: BuildTable>(
     rt: &(impl Clock + Env + Files<File = File> + Input + Net + Print + Eprint + AllocGlobal),
     process_id: u32,
     is_terminal: bool,
@@ -62,7 +62,7 @@ fn answer_arguments<T: ComposeTable>(
 }
 
 /// Runs a command over files, each of which is opened once.
-fn answer_command<T: ComposeTable>(
+fn answer_command<T: BuildTable>(
     rt: &(impl Clock + Env + Files<File = File> + Input + Net + Print + Eprint + AllocGlobal),
     process_id: u32,
     is_terminal: bool,

@@ -14,7 +14,7 @@ use compose_serve::{Device, serve};
 use compose_service::Service;
 use compose_service_runs::start_service;
 use compose_socket::{SocketFault, SocketFile, listener_of_systemd};
-use compose_tree::ComposeTable;
+use compose_tree::BuildTable;
 use std::alloc::Global;
 use std::fs;
 use std::io::ErrorKind;
@@ -27,7 +27,7 @@ use std::rt::{Clock, Env, Files};
 /// Errors: the fault of the first file that can't be read or is refused; `Word` if a variable of
 /// the environment that is needed is not UTF-8; a fault of the socket; `NoMemory` if memory runs
 /// out.
-pub fn serve_files<T: ComposeTable, F: Folder>(
+pub fn serve_files<T: BuildTable, F: Folder>(
     rt: &(impl Clock + Env + Files + Net + Print + Eprint + AllocGlobal),
     files: &mut ReadOnce<F>,
     environment: &Environment,
@@ -48,7 +48,7 @@ pub fn serve_files<T: ComposeTable, F: Folder>(
 }
 
 /// Serves on the socket, and then removes its file if `unlink` is set.
-fn serve_on_socket<T: ComposeTable>(
+fn serve_on_socket<T: BuildTable>(
     rt: &(impl Clock + Env + Files + Net + Print + Eprint + AllocGlobal),
     process_id: u32,
     service: &mut Service<T>,
@@ -66,7 +66,7 @@ fn serve_on_socket<T: ComposeTable>(
 /// Serves the connections to a listener, several at once or one after another. If connections may
 /// not be idle, or their sessions end with them, one after another is one at once, since a service
 /// on a stream waits for its client and doesn't know whose a session is.
-fn serve_listener<T: ComposeTable>(
+fn serve_listener<T: BuildTable>(
     rt: &(impl Clock + Net + Print + Eprint + AllocGlobal),
     listener: UnixListener,
     service: &mut Service<T>,
@@ -109,7 +109,7 @@ fn refused_socket(alloc: Global, arguments: &ServeArguments<'_>, kind: ErrorKind
 }
 
 /// Serves the number of connections that the arguments give, and prints how each ended.
-fn serve_connections<T: ComposeTable>(
+fn serve_connections<T: BuildTable>(
     rt: &(impl Clock + Print + Eprint + AllocGlobal),
     listener: &UnixListener,
     service: &mut Service<T>,

@@ -11,7 +11,7 @@ use compose_input::Fault;
 use compose_program::{FaultForm, fault_in_form};
 use compose_report::Outcome;
 use compose_runs::{UpdateFiles, UpdateRun, run_update};
-use compose_tree::ComposeTable;
+use compose_tree::BuildTable;
 use std::alloc::Global;
 use std::fs::File;
 use std::net::Net;
@@ -22,7 +22,7 @@ use std::rt::{Clock, Env, Files};
 /// Errors: the fault of the first file that can't be read or is refused; `Word` if a variable of
 /// the environment that is needed is not UTF-8; `NoMemory` if memory runs out. A fault of the
 /// folder, the socket or the connection is printed in this form, after the notes of the files.
-pub fn update_files<T: ComposeTable, F: Folder>(
+pub fn update_files<T: BuildTable, F: Folder>(
     rt: &(impl Clock + Env + Files<File = File> + Net + AllocGlobal),
     files: &mut ReadOnce<F>,
     form: FaultForm,
@@ -52,7 +52,7 @@ fn outcome_of(
 }
 
 /// Takes the table of these files into use.
-fn update_read<T: ComposeTable>(
+fn update_read<T: BuildTable>(
     rt: &(impl Files<File = File> + Net + AllocGlobal),
     form: FaultForm,
     folder: &StateFolder,

@@ -13,7 +13,7 @@ use compose_cert::{CertFault, Certificate};
 use compose_migration::{Migration, MigrationInput, Refusal};
 use compose_places::{DefinitionPlace, definition_places, last_definitions};
 use compose_read::{Definitions, ReadFault, read_definitions};
-use compose_tree::ComposeTable;
+use compose_tree::{BuildTable, ComposeTable};
 use compose_walk::{MakeFault, differences};
 use keysym_core::{Keysym, Names};
 use std::alloc::{AllocError, Global};
@@ -26,7 +26,7 @@ use std::alloc::{AllocError, Global};
 /// Costs reading the tables once more, and computing their `differences`.
 ///
 /// Errors: `AllocError` if memory runs out.
-pub fn answer_details<T: ComposeTable>(
+pub fn answer_details<T: BuildTable>(
     alloc: Global,
     given: &Given<'_>,
     answer: &Answer,
@@ -85,7 +85,7 @@ fn push_unpromised(
 }
 
 /// Adds the lines of the pair, or else of the differences, of the two tables that were given.
-fn push_moved<T: ComposeTable>(
+fn push_moved<T: BuildTable>(
     alloc: Global,
     text: &mut String,
     given: &Given<'_>,

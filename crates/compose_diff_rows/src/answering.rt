@@ -27,7 +27,7 @@ use compose_lookup::TextIndex;
 use compose_migration::Migration;
 use compose_page::page_text;
 use compose_places::PlacedTable;
-use compose_tree::ComposeTable;
+use compose_tree::{BuildTable, ComposeTable};
 use keysym_core::{Keysym, Names};
 use std::alloc::{AllocError, Global};
 
@@ -41,7 +41,7 @@ use std::alloc::{AllocError, Global};
 /// Errors: `Input` with the first part that is refused, in the order names, key names, old table,
 /// new table, fresh keysyms, or if memory runs out. `Accept` if a line of the list of intended
 /// changes is not in the required form, or matches none of the rows.
-pub fn diff_migration<T: ComposeTable>(
+pub fn diff_migration<T: BuildTable>(
     alloc: Global,
     input: &DiffInput<'_, '_>,
 ) -> Result<Answer, DiffFault>

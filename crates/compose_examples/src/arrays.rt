@@ -18,8 +18,8 @@ struct ArraysRow {
 #[rattlefmt::skip]
 static ARRAYS: [ArraysRow; 3] = [
     ArraysRow { lines: "", prints: "0 from 0;0 from 0;||0 ||0" },
-    ArraysRow { lines: "<a> : \"é\"", prints: "0 from 0;0 from 1;|0x61 to 1;|0 2 |é|4" },
-    ArraysRow { lines: "<a> <b> : \"x\"\n<a> <c> : \"yz\"\n<d> : \"w\"", prints: "0 from 0;1 from 2;0 from 4;|0x61 to 2;0x64 to 5;0x62 to 1;0x63 to 3;|0 1 3 4 |xyzw|16" },
+    ArraysRow { lines: "<a> : \"é\"", prints: "0 from 0;0 from 1;|0x61 to 1;|0 2 |é|2" },
+    ArraysRow { lines: "<a> <b> : \"x\"\n<a> <c> : \"yz\"\n<d> : \"w\"", prints: "0 from 0;1 from 2;0 from 4;|0x61 to 2;0x64 to 5;0x62 to 1;0x63 to 3;|0 1 3 4 |xyzw|8" },
 ];
 
 /// Prints the nodes and the edges.

@@ -3,7 +3,7 @@ use crate::rows::{CHECKED, Row};
 use crate::tables::{Tables, certificate_of, repertoire_of};
 use compose_cert::{Certificate, Repertoire};
 use compose_check::{Verdict, check};
-use compose_tree::{ComposeTable, ListTable, PackedTable};
+use compose_tree::{BuildTable, ListTable, PackedTable};
 use keysym_core::Names;
 use std::alloc::Global;
 use std::test::Fail;
@@ -17,13 +17,13 @@ fn printed(alloc: Global, verdict: Verdict) -> Result<String, Fail> {
 }
 
 /// Returns the verdict on a row.
-fn verdict<T: ComposeTable, U: ComposeTable>(alloc: Global, row: &Row) -> Result<String, Fail> {
+fn verdict<T: BuildTable, U: BuildTable>(alloc: Global, row: &Row) -> Result<String, Fail> {
     let Tables { names, old, new } = Tables::<T, U>::read(alloc, row.old, row.new)?;
     verdict_over(alloc, &names, &old, &new, row)
 }
 
 /// Returns the verdict on the certificate of a row for these tables.
-fn verdict_over<T: ComposeTable, U: ComposeTable>(
+fn verdict_over<T: BuildTable, U: BuildTable>(
     alloc: Global,
     names: &Names,
     old: &T,
@@ -35,7 +35,7 @@ fn verdict_over<T: ComposeTable, U: ComposeTable>(
     printed(alloc, checked(old, new, names, &repertoire, &certificate))
 }
 
-pub fn checked<T: ComposeTable, U: ComposeTable>(
+pub fn checked<T: BuildTable, U: BuildTable>(
     old: &T,
     new: &U,
     names: &Names,
@@ -46,7 +46,7 @@ pub fn checked<T: ComposeTable, U: ComposeTable>(
 }
 
 /// Returns the first row with another verdict.
-fn first_wrong<T: ComposeTable, U: ComposeTable>(
+fn first_wrong<T: BuildTable, U: BuildTable>(
     alloc: Global,
     rows: &[Row],
 ) -> Result<Option<&'static str>, Fail> {

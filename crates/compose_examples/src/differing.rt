@@ -1,23 +1,20 @@
 //! All differences of the worked tables, over a table of each form.
 use crate::rows::{ALL_EXPLAINED, Explained};
 use crate::tables::Tables;
-use compose_tree::{ComposeTable, ListTable, PackedTable};
+use compose_tree::{BuildTable, ListTable, PackedTable};
 use compose_walk::{differences, explain_all};
 use keysym_core::Names;
 use std::alloc::Global;
 use std::test::Fail;
 
 /// Returns the printed text for a row.
-fn printed<T: ComposeTable, U: ComposeTable>(
-    alloc: Global,
-    row: &Explained,
-) -> Result<String, Fail> {
+fn printed<T: BuildTable, U: BuildTable>(alloc: Global, row: &Explained) -> Result<String, Fail> {
     let Tables { names, old, new } = Tables::<T, U>::read(alloc, row.old, row.new)?;
     printed_over(alloc, &old, &new, &names)
 }
 
 /// Returns the printed text for these tables.
-fn printed_over<T: ComposeTable, U: ComposeTable>(
+fn printed_over<T: BuildTable, U: BuildTable>(
     alloc: Global,
     old: &T,
     new: &U,
@@ -28,7 +25,7 @@ fn printed_over<T: ComposeTable, U: ComposeTable>(
 }
 
 /// Returns the first row for which something else is printed.
-fn first_wrong<T: ComposeTable, U: ComposeTable>(
+fn first_wrong<T: BuildTable, U: BuildTable>(
     alloc: Global,
     rows: &[Explained],
 ) -> Result<Option<&'static str>, Fail> {

@@ -1,23 +1,20 @@
 //! The shortest keys on which the worked tables differ, over a table of each form.
 use crate::rows::{EXPLAINED, Explained};
 use crate::tables::Tables;
-use compose_tree::{ComposeTable, ListTable, PackedTable};
+use compose_tree::{BuildTable, ListTable, PackedTable};
 use compose_walk::{MakeFault, Walk, explain, walk};
 use keysym_core::Names;
 use std::alloc::Global;
 use std::test::Fail;
 
 /// Returns the printed text for a row.
-fn printed<T: ComposeTable, U: ComposeTable>(
-    alloc: Global,
-    row: &Explained,
-) -> Result<String, Fail> {
+fn printed<T: BuildTable, U: BuildTable>(alloc: Global, row: &Explained) -> Result<String, Fail> {
     let Tables { names, old, new } = Tables::<T, U>::read(alloc, row.old, row.new)?;
     printed_over(alloc, &names, &old, &new)
 }
 
 /// Returns the printed text for these tables.
-fn printed_over<T: ComposeTable, U: ComposeTable>(
+fn printed_over<T: BuildTable, U: BuildTable>(
     alloc: Global,
     names: &Names,
     old: &T,
@@ -29,7 +26,7 @@ fn printed_over<T: ComposeTable, U: ComposeTable>(
     }
 }
 
-fn walked<T: ComposeTable, U: ComposeTable>(
+fn walked<T: BuildTable, U: BuildTable>(
     alloc: Global,
     old: &T,
     new: &U,
@@ -39,7 +36,7 @@ fn walked<T: ComposeTable, U: ComposeTable>(
 }
 
 /// Returns the first row for which something else is printed.
-fn first_wrong<T: ComposeTable, U: ComposeTable>(
+fn first_wrong<T: BuildTable, U: BuildTable>(
     alloc: Global,
     rows: &[Explained],
 ) -> Result<Option<&'static str>, Fail> {

@@ -6,7 +6,7 @@ use compose_check::{CheckFault, InputFault, check_fresh};
 use compose_migration::{Refusal, Side};
 use compose_read::{ReadFault, SettleFault, SourceFault};
 use compose_tool::TypeFault;
-use compose_tree::{BuildFault, ComposeTable, ListTable, PackedTable, TableFault};
+use compose_tree::{BuildFault, BuildTable, ListTable, PackedTable, TableFault};
 use compose_walk::MakeFault;
 use keysym_core::{Keysym, NameFault};
 use std::alloc::Global;
@@ -181,13 +181,13 @@ fn faults_of_typing_words_and_making(rt: HostRuntime) -> Result<(), Fail> {
 }
 
 /// Returns a small table.
-fn small_table<T: ComposeTable>(alloc: Global) -> Result<T, Fail> {
+fn small_table<T: BuildTable>(alloc: Global) -> Result<T, Fail> {
     let names = core(alloc)?;
     table(alloc, &names, "<dead_acute> <e> : \"é\"\n")
 }
 
 /// Expects the faults of keysyms as fresh ones for a small table.
-fn expect_fresh<T: ComposeTable>(
+fn expect_fresh<T: BuildTable>(
     rt: &impl Abort,
     alloc: Global,
     faults: &[(&[Keysym], Option<CheckFault>)],
@@ -196,7 +196,7 @@ fn expect_fresh<T: ComposeTable>(
     Ok(())
 }
 
-fn expect_fresh_for<T: ComposeTable>(
+fn expect_fresh_for<T: BuildTable>(
     rt: &impl Abort,
     old: &T,
     faults: &[(&[Keysym], Option<CheckFault>)],

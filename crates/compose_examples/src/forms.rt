@@ -6,8 +6,7 @@ use crate::helpers::{core, expect_text, two_sources};
 use compose_model::Rule;
 use compose_read::{SourceFault, Sources};
 use compose_tree::{
-    BuildFault, ComposeTable, LeafId, ListTable, NodeId, PackedTable, TableFault, Target,
-    read_table,
+    BuildFault, BuildTable, LeafId, ListTable, NodeId, PackedTable, TableFault, Target, read_table,
 };
 use keysym_core::{Keysym, Names};
 use std::alloc::{AllocError, Global};
@@ -54,7 +53,7 @@ fn print_edge(
 }
 
 /// Prints a node's depth and its edges.
-fn print_node<T: ComposeTable>(text: &mut String, table: &T, node: NodeId) -> Result<(), AllocError>
+fn print_node<T: BuildTable>(text: &mut String, table: &T, node: NodeId) -> Result<(), AllocError>
     requires { node.0 < length (nodes (T.definitions table.now)) }
 {
     let depth = table.depth(node);
@@ -70,7 +69,7 @@ fn print_node<T: ComposeTable>(text: &mut String, table: &T, node: NodeId) -> Re
 }
 
 /// Prints all that the functions of a table return.
-fn push_whole<T: ComposeTable>(text: &mut String, table: &T) -> Result<(), AllocError> {
+fn push_whole<T: BuildTable>(text: &mut String, table: &T) -> Result<(), AllocError> {
     for number in 0..table.node_count() {
         print_node(text, table, NodeId(number))?;
     }
@@ -82,7 +81,7 @@ fn push_whole<T: ComposeTable>(text: &mut String, table: &T) -> Result<(), Alloc
     Ok(())
 }
 
-fn read<T: ComposeTable>(
+fn read<T: BuildTable>(
     alloc: Global,
     names: &Names,
     sources: &Sources,
@@ -98,7 +97,7 @@ fn push_fault(text: &mut String, fault: &TableFault) -> Result<(), AllocError> {
 }
 
 /// Expects the printed table, or its fault.
-fn expect_whole<T: ComposeTable>(
+fn expect_whole<T: BuildTable>(
     rt: &impl Abort,
     alloc: Global,
     read: &Result<T, TableFault>,

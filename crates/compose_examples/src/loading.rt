@@ -2,7 +2,7 @@
 use crate::tables::{Tables, keysym_of};
 use compose_model::Status;
 use compose_state::ComposeState;
-use compose_tree::{ComposeTable, ListTable, PackedTable};
+use compose_tree::{BuildTable, ListTable, PackedTable};
 use keysym_core::{Keysym, Names};
 use std::alloc::Global;
 use std::process::Abort;
@@ -24,12 +24,12 @@ fn standing(state: &ComposeState) -> Standing {
     )
 }
 
-fn feed<T: ComposeTable>(state: &mut ComposeState, table: &T, names: &Names, keysym: Keysym) {
+fn feed<T: BuildTable>(state: &mut ComposeState, table: &T, names: &Names, keysym: Keysym) {
     state.feed(table, names, keysym);
 }
 
 /// Feeds the keysym of a key name.
-fn type_key<T: ComposeTable>(
+fn type_key<T: BuildTable>(
     state: &mut ComposeState,
     table: &T,
     names: &Names,
@@ -40,15 +40,12 @@ fn type_key<T: ComposeTable>(
 }
 
 /// Returns the state after a key on the old table and a load of the new one.
-fn after_load<T: ComposeTable, U: ComposeTable>(
-    alloc: Global,
-    key: &str,
-) -> Result<Standing, Fail> {
+fn after_load<T: BuildTable, U: BuildTable>(alloc: Global, key: &str) -> Result<Standing, Fail> {
     let Tables { names, old, new } = Tables::<T, U>::read(alloc, OLD, NEW)?;
     loaded(&old, &new, &names, key)
 }
 
-fn loaded<T: ComposeTable, U: ComposeTable>(
+fn loaded<T: BuildTable, U: BuildTable>(
     old: &T,
     new: &U,
     names: &Names,
@@ -61,7 +58,7 @@ fn loaded<T: ComposeTable, U: ComposeTable>(
 }
 
 /// Returns the state after a key on each table, without a load.
-fn without_load<T: ComposeTable, U: ComposeTable>(
+fn without_load<T: BuildTable, U: BuildTable>(
     alloc: Global,
     key: &str,
     next: &str,
@@ -70,7 +67,7 @@ fn without_load<T: ComposeTable, U: ComposeTable>(
     not_loaded(&old, &new, &names, key, next)
 }
 
-fn not_loaded<T: ComposeTable, U: ComposeTable>(
+fn not_loaded<T: BuildTable, U: BuildTable>(
     old: &T,
     new: &U,
     names: &Names,

@@ -1,7 +1,7 @@
 //! The sequences of worked tables that produce a text.
 use crate::tables::{core, table};
 use compose_lookup::TextIndex;
-use compose_tree::{ComposeTable, LeafId, ListTable, PackedTable};
+use compose_tree::{BuildTable, LeafId, ListTable, PackedTable};
 use std::alloc::Global;
 use std::fmt::Write;
 use std::test::Fail;
@@ -39,7 +39,7 @@ fn numbers(alloc: Global, leaves: &[LeafId]) -> Result<String, Fail> {
 }
 
 /// Returns the leaves that an index of the texts above finds for one of them.
-fn found<T: ComposeTable>(alloc: Global, table: &T, text: &str) -> Result<String, Fail> {
+fn found<T: BuildTable>(alloc: Global, table: &T, text: &str) -> Result<String, Fail> {
     let mut texts = Vec::new(alloc);
     for row in &FOUND {
         texts.push(row.text)?;
@@ -49,7 +49,7 @@ fn found<T: ComposeTable>(alloc: Global, table: &T, text: &str) -> Result<String
 }
 
 /// Returns the first text for which other leaves are found.
-fn first_wrong<T: ComposeTable>(alloc: Global) -> Result<Option<&'static str>, Fail> {
+fn first_wrong<T: BuildTable>(alloc: Global) -> Result<Option<&'static str>, Fail> {
     let names = core(alloc)?;
     let table: T = table(alloc, &names, LINES)?;
     for row in &FOUND {

@@ -5,20 +5,20 @@ use crate::tables::{Tables, fresh_of, repertoire_of};
 use compose_cert::{Certificate, Repertoire};
 use compose_check::Verdict;
 use compose_make::{Made, make};
-use compose_tree::{ComposeTable, ListTable, PackedTable};
+use compose_tree::{BuildTable, ListTable, PackedTable};
 use compose_walk::{Counterexample, MakeFault, explain};
 use keysym_core::{Keysym, Names, ShownChar};
 use std::alloc::Global;
 use std::test::Fail;
 
 /// Returns the printed text for a row.
-fn printed<T: ComposeTable, U: ComposeTable>(alloc: Global, row: &Asked) -> Result<String, Fail> {
+fn printed<T: BuildTable, U: BuildTable>(alloc: Global, row: &Asked) -> Result<String, Fail> {
     let Tables { names, old, new } = Tables::<T, U>::read(alloc, row.old, row.new)?;
     printed_over(alloc, &names, &old, &new, row)
 }
 
 /// Returns the printed text for these tables and the rest of the row.
-fn printed_over<T: ComposeTable, U: ComposeTable>(
+fn printed_over<T: BuildTable, U: BuildTable>(
     alloc: Global,
     names: &Names,
     old: &T,
@@ -32,7 +32,7 @@ fn printed_over<T: ComposeTable, U: ComposeTable>(
 }
 
 /// Returns the printed text for what was made for these tables.
-fn printed_made<T: ComposeTable, U: ComposeTable>(
+fn printed_made<T: BuildTable, U: BuildTable>(
     alloc: Global,
     old: &T,
     new: &U,
@@ -50,7 +50,7 @@ fn printed_made<T: ComposeTable, U: ComposeTable>(
     }
 }
 
-fn made<T: ComposeTable, U: ComposeTable>(
+fn made<T: BuildTable, U: BuildTable>(
     alloc: Global,
     old: &T,
     new: &U,
@@ -80,7 +80,7 @@ fn certified(alloc: Global, certificate: &Certificate, verdict: Verdict) -> Resu
 }
 
 /// Returns the first row for which something else is printed.
-fn first_wrong<T: ComposeTable, U: ComposeTable>(
+fn first_wrong<T: BuildTable, U: BuildTable>(
     alloc: Global,
     rows: &[Asked],
 ) -> Result<Option<&'static str>, Fail> {

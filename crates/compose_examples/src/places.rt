@@ -7,7 +7,7 @@ use compose_places::{
     read_placed_table, written_events,
 };
 use compose_read::{Definitions, ReadFault, SourceFault, Sources, read_definitions};
-use compose_tree::{ComposeTable, ListTable, PackedTable, TableFault, read_table};
+use compose_tree::{BuildTable, ListTable, PackedTable, TableFault, read_table};
 use keysym_core::Names;
 use std::alloc::{AllocError, Global};
 use std::fmt::Write;
@@ -169,7 +169,7 @@ fn definitions_of(
     read_definitions(alloc, names, sources, "r")
 }
 
-fn table_of<T: ComposeTable>(
+fn table_of<T: BuildTable>(
     alloc: Global,
     names: &Names,
     sources: &Sources,
@@ -177,7 +177,7 @@ fn table_of<T: ComposeTable>(
     read_table(alloc, names, sources, "r", Rule::Longest)
 }
 
-fn last_of<T: ComposeTable>(
+fn last_of<T: BuildTable>(
     alloc: Global,
     definitions: &Definitions,
     table: &T,
@@ -186,7 +186,7 @@ fn last_of<T: ComposeTable>(
 }
 
 /// Expects which definition counts for each sequence of a table.
-fn expect_last_in<T: ComposeTable>(
+fn expect_last_in<T: BuildTable>(
     rt: &impl Abort,
     alloc: Global,
     definitions: &Definitions,
@@ -200,7 +200,7 @@ fn expect_last_in<T: ComposeTable>(
 }
 
 /// Expects which of these definitions count in the table that is read from these sources.
-fn expect_last_of<T: ComposeTable>(
+fn expect_last_of<T: BuildTable>(
     rt: &impl Abort,
     alloc: Global,
     names: &Names,
@@ -214,7 +214,7 @@ fn expect_last_of<T: ComposeTable>(
 }
 
 /// Expects which of the definitions of some sources count in the table of others.
-fn expect_last<T: ComposeTable>(
+fn expect_last<T: BuildTable>(
     rt: &impl Abort,
     alloc: Global,
     names: &Names,
@@ -226,7 +226,7 @@ fn expect_last<T: ComposeTable>(
     expect_last_of::<T>(rt, alloc, names, &definitions, sources, prints)
 }
 
-fn expect_last_of_row<T: ComposeTable>(
+fn expect_last_of_row<T: BuildTable>(
     rt: &impl Abort,
     alloc: Global,
     names: &Names,
@@ -302,7 +302,7 @@ fn push_lines(text: &mut String, lines: &[Option<CountingLine>]) -> Result<(), A
     Ok(())
 }
 
-fn placed_of<'a, T: ComposeTable>(
+fn placed_of<'a, T: BuildTable>(
     alloc: Global,
     names: &Names,
     sources: &'a Sources,
@@ -311,7 +311,7 @@ fn placed_of<'a, T: ComposeTable>(
 }
 
 /// Prints the lines that count for the sequences of the table that is read from these sources.
-fn push_counting<T: ComposeTable>(
+fn push_counting<T: BuildTable>(
     text: &mut String,
     alloc: Global,
     names: &Names,
@@ -322,7 +322,7 @@ fn push_counting<T: ComposeTable>(
     Ok(())
 }
 
-fn expect_counting<T: ComposeTable>(
+fn expect_counting<T: BuildTable>(
     rt: &impl Abort,
     alloc: Global,
     names: &Names,
@@ -361,7 +361,7 @@ fn counting_lines(rt: HostRuntime) -> Result<(), Fail> {
 }
 
 /// Returns whether this number of sequences is counted as proper prefixes of other ones.
-fn has_overlaps<T: ComposeTable>(
+fn has_overlaps<T: BuildTable>(
     alloc: Global,
     names: &Names,
     sources: &Sources,

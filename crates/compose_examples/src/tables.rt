@@ -6,7 +6,7 @@ use compose_cert::{CertFault, Certificate, Repertoire, RepertoireFault};
 use compose_migration::{Refusal, look_up_keys};
 use compose_model::Rule;
 use compose_read::Sources;
-use compose_tree::{ComposeTable, TableFault, read_table};
+use compose_tree::{BuildTable, TableFault, read_table};
 use keysym_core::{Keysym, NameFault, Names};
 use std::alloc::Global;
 use std::test::Fail;
@@ -19,20 +19,20 @@ pub fn one_source(alloc: Global, text: &str) -> Result<Sources<'static>, Fail> {
     Ok(sources)
 }
 
-fn read<T: ComposeTable>(alloc: Global, names: &Names, sources: &Sources) -> Result<T, TableFault> {
+fn read<T: BuildTable>(alloc: Global, names: &Names, sources: &Sources) -> Result<T, TableFault> {
     read_table(alloc, names, sources, "root", Rule::Refuse)
 }
 
 /// Reads the table of one source.
 /// Errors: the table is refused, or memory runs out.
-pub fn table<T: ComposeTable>(alloc: Global, names: &Names, text: &str) -> Result<T, Fail> {
+pub fn table<T: BuildTable>(alloc: Global, names: &Names, text: &str) -> Result<T, Fail> {
     let sources = one_source(alloc, text)?;
     Ok(read(alloc, names, &sources)?)
 }
 
 /// The tables of two sources, and the names with which they are read.
 #[derive(Drop)]
-pub struct Tables<T: ComposeTable, U: ComposeTable> {
+pub struct Tables<T: BuildTable, U: BuildTable> {
     /// The names.
     pub names: Names,
     /// The old table.
@@ -41,7 +41,7 @@ pub struct Tables<T: ComposeTable, U: ComposeTable> {
     pub new: U,
 }
 
-impl<T: ComposeTable, U: ComposeTable> Tables<T, U> {
+impl<T: BuildTable, U: BuildTable> Tables<T, U> {
     /// Reads two sources with the built-in names.
     /// Errors: a table is refused, or memory runs out.
     pub fn read(alloc: Global, old: &str, new: &str) -> Result<Tables<T, U>, Fail> {
@@ -51,7 +51,7 @@ impl<T: ComposeTable, U: ComposeTable> Tables<T, U> {
     }
 }
 
-fn both<T: ComposeTable, U: ComposeTable>(
+fn both<T: BuildTable, U: BuildTable>(
     alloc: Global,
     names: &Names,
     old: &str,

@@ -2,7 +2,7 @@
 use crate::tables::{core, repertoire_of, table};
 use compose_cert::{Repertoire, Typing};
 use compose_make::{MakeFault, Typings, find_typings};
-use compose_tree::{ComposeTable, ListTable, PackedTable};
+use compose_tree::{BuildTable, ListTable, PackedTable};
 use keysym_core::{Names, ShownChar};
 use std::alloc::Global;
 use std::fmt::Write;
@@ -10,14 +10,14 @@ use std::test::Fail;
 
 /// Returns what is found, a line each: the character, and the values of the keys; or the character
 /// without a typing.
-fn found<T: ComposeTable>(alloc: Global, source: &str, repertoire: &str) -> Result<String, Fail> {
+fn found<T: BuildTable>(alloc: Global, source: &str, repertoire: &str) -> Result<String, Fail> {
     let names = core(alloc)?;
     let new: T = table(alloc, &names, source)?;
     found_over(alloc, &new, &names, repertoire)
 }
 
 /// Returns what is found over this table.
-fn found_over<T: ComposeTable>(
+fn found_over<T: BuildTable>(
     alloc: Global,
     new: &T,
     names: &Names,
@@ -38,7 +38,7 @@ fn printed(alloc: Global, typings: &Typings) -> Result<String, Fail> {
     }
 }
 
-fn typings_of<T: ComposeTable>(
+fn typings_of<T: BuildTable>(
     alloc: Global,
     new: &T,
     names: &Names,

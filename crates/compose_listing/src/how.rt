@@ -17,7 +17,7 @@ use compose_cert::Repertoire;
 use compose_lookup::TextIndex;
 use compose_migration::{Named, TableInput, read_only_table, read_repertoire};
 use compose_places::PlacedTable;
-use compose_tree::{ComposeTable, LeafId};
+use compose_tree::{BuildTable, ComposeTable, LeafId};
 use std::alloc::{AllocError, Global};
 
 /// The texts that are asked for, and how their sequences are printed.
@@ -50,7 +50,7 @@ pub struct Ways {
 ///
 /// Errors: that of the first part that is refused, in the order names, table, repertoire, or
 /// `NoMemory` if memory runs out.
-pub fn how_to_type<T: ComposeTable>(
+pub fn how_to_type<T: BuildTable>(
     alloc: Global,
     header: &[u8],
     table: &TableInput<'_>,

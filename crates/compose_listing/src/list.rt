@@ -15,7 +15,7 @@ use crate::order::put_in_order;
 use compose_answer::{Answer, Refusal};
 use compose_migration::{Named, TableInput, read_only_table};
 use compose_places::PlacedTable;
-use compose_tree::ComposeTable;
+use compose_tree::{BuildTable, ComposeTable};
 use keysym_core::Keysym;
 use std::alloc::{AllocError, Global};
 
@@ -39,7 +39,7 @@ pub struct ListWanted<'a> {
 ///
 /// Errors: that of the first part that is refused, in the order names, keysyms of the prefix,
 /// table, or `NoMemory` if memory runs out.
-pub fn list_table<T: ComposeTable>(
+pub fn list_table<T: BuildTable>(
     alloc: Global,
     header: &[u8],
     table: &TableInput<'_>,

@@ -16,7 +16,7 @@ use compose_answer::{Answer, Refusal};
 use compose_lookup::{sequences_after, text_of};
 use compose_migration::{Named, TableInput, read_only_table};
 use compose_places::PlacedTable;
-use compose_tree::{ComposeTable, NodeId, Target};
+use compose_tree::{BuildTable, ComposeTable, NodeId, Target};
 use keysym_core::{Keysym, Names};
 use std::alloc::{AllocError, Global};
 use std::fmt::Write;
@@ -27,7 +27,7 @@ use std::fmt::Write;
 ///
 /// Errors: that of the first part that is refused, in the order names, keysyms of the keys, table,
 /// or `NoMemory` if memory runs out.
-pub fn list_next<T: ComposeTable>(
+pub fn list_next<T: BuildTable>(
     alloc: Global,
     header: &[u8],
     table: &TableInput<'_>,

@@ -7,7 +7,7 @@ ghost use Rattle.compose_tree.specs.TableReturns.{TableReturns, first_table};
 
 use compose_model::Rule;
 use compose_read::Sources;
-use compose_tree::{ComposeTable, TableFault, read_first_table};
+use compose_tree::{BuildTable, ComposeTable, TableFault, read_first_table};
 use keysym_core::Names;
 use std::alloc::Global;
 
@@ -33,7 +33,7 @@ pub trait ReadTable<'a>: Sized + Drop {
         ensures read { IfOk result (is_read names.now sources.now) };
 }
 
-impl<'a, T: ComposeTable> ReadTable<'a> for T {
+impl<'a, T: BuildTable> ReadTable<'a> for T {
     ghost definitions = { T.definitions };
 
     ghost is_read = { λ _ _ _. Unit {0} };

@@ -11,7 +11,7 @@ use crate::sequence_list::sequences_of;
 use compose_migration::ReadTable;
 use compose_model::Rule;
 use compose_read::{ReadFault, Sources, read_definitions, settle};
-use compose_tree::{ComposeTable, TableFault};
+use compose_tree::{BuildTable, ComposeTable, TableFault};
 use keysym_core::Names;
 use std::alloc::Global;
 
@@ -33,7 +33,7 @@ pub struct PlacedTable<'a, T: ComposeTable> {
 /// O(bytes of the lines that are read + keysyms of all definitions × log edges of a node).
 ///
 /// Errors: those of `read_table`, for the same inputs; `NoMemory` if memory runs out.
-pub fn read_placed_table<'a, T: ComposeTable>(
+pub fn read_placed_table<'a, T: BuildTable>(
     alloc: Global,
     names: &Names,
     sources: &'a Sources,
@@ -72,7 +72,7 @@ pub fn read_placed_table<'a, T: ComposeTable>(
     })
 }
 
-impl<'a, T: ComposeTable> ReadTable<'a> for PlacedTable<'a, T> {
+impl<'a, T: BuildTable> ReadTable<'a> for PlacedTable<'a, T> {
     ghost use Rattle.compose_places.specs.Placed.{HasLines};
 
     ghost definitions = { λ placed. T.definitions placed.table };

@@ -8,14 +8,14 @@ use compose_arguments::Question;
 use compose_folder::{Folder, ReadOnce};
 use compose_report::Outcome;
 use compose_runs::{Environment, Options};
-use compose_tree::ComposeTable;
+use compose_tree::BuildTable;
 use std::alloc::{AllocError, Global};
 
 /// Runs a command that reads files and answers: returns what it prints and how its run ends, from
 /// the question, the environment and the contents of the files. If the input can't be read or is
 /// refused, the outcome says why in this form. Takes the time of the command on its files.
 /// Errors: `AllocError` if memory runs out for this message.
-pub fn run_question<T: ComposeTable, F: Folder>(
+pub fn run_question<T: BuildTable, F: Folder>(
     alloc: Global,
     files: &mut ReadOnce<F>,
     environment: &Environment,

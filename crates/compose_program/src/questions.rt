@@ -13,12 +13,12 @@ use compose_runs::{
     run_diff, run_explain, run_explain_files, run_how, run_lint, run_list, run_make,
     run_make_files, run_manifest, run_type, run_type_file,
 };
-use compose_tree::ComposeTable;
+use compose_tree::BuildTable;
 use std::alloc::Global;
 
 /// Returns the outcome of the command with this question, or why its input can't be read or is
 /// refused.
-pub(crate) fn answer<T: ComposeTable, F: Folder>(
+pub(crate) fn answer<T: BuildTable, F: Folder>(
     alloc: Global,
     files: &mut ReadOnce<F>,
     environment: &Environment,
@@ -83,7 +83,7 @@ pub(crate) fn answer<T: ComposeTable, F: Folder>(
 }
 
 /// Returns the outcome of `type` on a manifest or a Compose file.
-fn run_typing<T: ComposeTable, F: Folder>(
+fn run_typing<T: BuildTable, F: Folder>(
     alloc: Global,
     files: &mut ReadOnce<F>,
     environment: &Environment,
@@ -108,7 +108,7 @@ fn run_typing<T: ComposeTable, F: Folder>(
 }
 
 /// Returns the outcome of `check` on manifests or Compose files.
-fn run_checking<T: ComposeTable, F: Folder>(
+fn run_checking<T: BuildTable, F: Folder>(
     alloc: Global,
     files: &mut ReadOnce<F>,
     environment: &Environment,
@@ -141,7 +141,7 @@ fn run_checking<T: ComposeTable, F: Folder>(
 }
 
 /// Returns the outcome of `explain` on manifests or Compose files.
-fn run_explaining<T: ComposeTable, F: Folder>(
+fn run_explaining<T: BuildTable, F: Folder>(
     alloc: Global,
     files: &mut ReadOnce<F>,
     environment: &Environment,
@@ -168,7 +168,7 @@ fn run_explaining<T: ComposeTable, F: Folder>(
 }
 
 /// Returns the outcome of `make` on manifests or Compose files.
-fn run_making<T: ComposeTable, F: Folder>(
+fn run_making<T: BuildTable, F: Folder>(
     alloc: Global,
     files: &mut ReadOnce<F>,
     environment: &Environment,

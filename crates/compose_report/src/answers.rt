@@ -7,7 +7,7 @@ use crate::outcome::Outcome;
 use compose_answer::{Answer, Ended, Refusal};
 use compose_details::{Given, answer_details, refusal_details};
 use compose_shown::Shown;
-use compose_tree::ComposeTable;
+use compose_tree::BuildTable;
 use std::alloc::{AllocError, Global};
 
 /// Returns the outcome of an answer to the input, or of a refusal: the answer on standard output,
@@ -15,7 +15,7 @@ use std::alloc::{AllocError, Global};
 /// with its file, line and column, and hints; for `no` the keys, and the places of their sequences.
 /// O(bytes of the answer); with `verbose` the tables are read once more.
 /// Errors: `AllocError` if memory runs out.
-pub fn outcome_of<T: ComposeTable>(
+pub fn outcome_of<T: BuildTable>(
     alloc: Global,
     verbose: bool,
     given: &Given<'_>,
@@ -29,7 +29,7 @@ pub fn outcome_of<T: ComposeTable>(
 /// Returns the same outcome; unless `numbered`, for people, who get the line of a refusal only if
 /// there are no details. Takes the same time.
 /// Errors: `AllocError` if memory runs out.
-pub fn worded_outcome<T: ComposeTable>(
+pub fn worded_outcome<T: BuildTable>(
     alloc: Global,
     numbered: bool,
     verbose: bool,
@@ -58,7 +58,7 @@ pub fn worded_refusal(
 }
 
 /// Returns what `-v` adds to an answer or to a refusal; an empty text unless `verbose`.
-fn details_of<T: ComposeTable>(
+fn details_of<T: BuildTable>(
     alloc: Global,
     verbose: bool,
     given: &Given<'_>,

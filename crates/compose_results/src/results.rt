@@ -16,7 +16,7 @@ use compose_messages::key_of_text;
 use compose_model::Rule;
 use compose_places::{CountingLine, PlacedTable, read_placed_table};
 use compose_read::{ReadFault, Sources};
-use compose_tree::{ComposeTable, LeafId, TableFault};
+use compose_tree::{BuildTable, ComposeTable, LeafId, TableFault};
 use keysym_core::{Keysym, Names};
 use std::alloc::{AllocError, Global};
 
@@ -109,7 +109,7 @@ fn results_of<T: ComposeTable>(
 /// sources + leaves × log characters of the names).
 ///
 /// Errors: those of `read_table`, for the same inputs; `NoMemory` if memory runs out.
-pub fn read_results<T: ComposeTable>(
+pub fn read_results<T: BuildTable>(
     alloc: Global,
     names: &Names,
     sources: &Sources,
@@ -132,7 +132,7 @@ pub fn read_results<T: ComposeTable>(
 
 /// Does the same with the first source as the root. Errors: those of `read_results`; without a
 /// source, the fault is that the root is missing.
-pub fn read_first_results<T: ComposeTable>(
+pub fn read_first_results<T: BuildTable>(
     alloc: Global,
     names: &Names,
     sources: &Sources,

@@ -16,7 +16,7 @@ use compose_folder::{Folder, ReadOnce};
 use compose_input::{Fault, read_text};
 use compose_report::{Outcome, worded_outcome};
 use compose_tool::{check_allowed, check_migration};
-use compose_tree::ComposeTable;
+use compose_tree::BuildTable;
 use std::alloc::{AllocError, Global};
 
 /// The paths of the files of a check.
@@ -126,7 +126,7 @@ impl<'n> CheckFiles<'n> {
 /// time of reading them and of `check_allowed`.
 /// Errors: the fault of the first file, in this order, that can't be read or is refused; `NoMemory`
 /// if memory runs out.
-pub fn run_check<T: ComposeTable, F: Folder>(
+pub fn run_check<T: BuildTable, F: Folder>(
     alloc: Global,
     files: &mut ReadOnce<F>,
     options: Options<'_>,
@@ -146,7 +146,7 @@ pub fn run_check<T: ComposeTable, F: Folder>(
 }
 
 /// Returns the outcome of `check`, once the files are read.
-fn check_outcome<T: ComposeTable>(
+fn check_outcome<T: BuildTable>(
     alloc: Global,
     verbose: bool,
     check: &CheckFiles<'_>,
@@ -170,7 +170,7 @@ fn check_outcome<T: ComposeTable>(
 /// certificate. Takes the time of `find_files` for both tables and of `check_allowed`.
 /// Errors: the fault of the first file, in this order, that can't be read or is refused; `Word` if
 /// a variable of the environment that is needed is not UTF-8; `NoMemory` if memory runs out.
-pub fn run_check_files<T: ComposeTable, F: Folder>(
+pub fn run_check_files<T: BuildTable, F: Folder>(
     alloc: Global,
     files: &mut ReadOnce<F>,
     environment: &Environment,
@@ -192,7 +192,7 @@ pub fn run_check_files<T: ComposeTable, F: Folder>(
 }
 
 /// Returns the outcome of `check` on Compose files, once they are read.
-fn check_files_outcome<T: ComposeTable>(
+fn check_files_outcome<T: BuildTable>(
     alloc: Global,
     verbose: bool,
     check: &CheckFiles<'_>,
@@ -211,7 +211,7 @@ fn check_files_outcome<T: ComposeTable>(
 }
 
 /// Returns the outcome of an answer of `check` or of a refusal; for people unless `numbered`.
-fn check_report<T: ComposeTable>(
+fn check_report<T: BuildTable>(
     alloc: Global,
     numbered: bool,
     verbose: bool,
@@ -241,7 +241,7 @@ fn check_report<T: ComposeTable>(
 
 /// Returns the answer of `check`. If `allowed` is given, all fresh keysyms of the certificate have
 /// to be among it.
-fn check_answer<T: ComposeTable>(
+fn check_answer<T: BuildTable>(
     alloc: Global,
     check: &CheckFiles<'_>,
     allowed: Option<&[&str]>,

@@ -26,7 +26,7 @@ use compose_input::{Fault, NameFiles, read_text};
 use compose_messages::{FileMessage, Message, Position};
 use compose_page::Markup;
 use compose_report::{Outcome, outcome_with, reported_text, worded_refusal};
-use compose_tree::ComposeTable;
+use compose_tree::BuildTable;
 use std::alloc::{AllocError, Global};
 
 /// Returns the outcome of `diff`: what the new Compose file changes in the sequences of the old
@@ -35,7 +35,7 @@ use std::alloc::{AllocError, Global};
 /// and of `diff_migration`.
 /// Errors: the fault of the first file, in this order, that can't be read or is refused; `Word` if
 /// a variable of the environment that is needed is not UTF-8; `NoMemory` if memory runs out.
-pub fn run_diff<T: ComposeTable, F: Folder>(
+pub fn run_diff<T: BuildTable, F: Folder>(
     alloc: Global,
     files: &mut ReadOnce<F>,
     environment: &Environment,
@@ -58,7 +58,7 @@ pub fn run_diff<T: ComposeTable, F: Folder>(
 
 /// Returns the outcome of `diff`, once the files are read; without the faulty lines of both tables,
 /// if these are skipped.
-fn kept_outcome<T: ComposeTable>(
+fn kept_outcome<T: BuildTable>(
     alloc: Global,
     files: DiffFiles<'_>,
     arguments: &DiffArguments<'_>,
@@ -188,7 +188,7 @@ fn is_colored(environment: &Environment, arguments: &DiffArguments<'_>) -> Resul
 
 /// Returns the outcome of `diff` on these files, with notes on the lines that other readers of
 /// Compose files lose.
-fn diff_outcome<T: ComposeTable>(
+fn diff_outcome<T: BuildTable>(
     alloc: Global,
     files: &DiffFiles<'_>,
     arguments: &DiffArguments<'_>,
@@ -268,7 +268,7 @@ fn is_numbered(form: DiffForm) -> bool
 }
 
 /// Returns the answer of `diff` on these files.
-fn diff_answer<T: ComposeTable>(
+fn diff_answer<T: BuildTable>(
     alloc: Global,
     files: &DiffFiles<'_>,
     arguments: &DiffArguments<'_>,

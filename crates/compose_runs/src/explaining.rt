@@ -16,7 +16,7 @@ use compose_folder::{Folder, ReadOnce};
 use compose_input::Fault;
 use compose_report::{Outcome, worded_outcome};
 use compose_tool::{explain_all_migration, explain_migration};
-use compose_tree::ComposeTable;
+use compose_tree::BuildTable;
 use std::alloc::{AllocError, Global};
 
 /// Returns the outcome of `explain`: the shortest keys on which the tables differ, or with `all`
@@ -24,7 +24,7 @@ use std::alloc::{AllocError, Global};
 /// new one. Takes the time of reading them and of `explain_migration`.
 /// Errors: the fault of the first file, in this order, that can't be read or is refused; `NoMemory`
 /// if memory runs out.
-pub fn run_explain<T: ComposeTable, F: Folder>(
+pub fn run_explain<T: BuildTable, F: Folder>(
     alloc: Global,
     files: &mut ReadOnce<F>,
     options: Options<'_>,
@@ -45,7 +45,7 @@ pub fn run_explain<T: ComposeTable, F: Folder>(
 }
 
 /// Returns the outcome of `explain`, once the files are read.
-fn explain_outcome<T: ComposeTable>(
+fn explain_outcome<T: BuildTable>(
     alloc: Global,
     verbose: bool,
     both: &MigrationFiles<'_>,
@@ -65,7 +65,7 @@ fn explain_outcome<T: ComposeTable>(
 /// `find_files` for both tables and of `explain_migration`.
 /// Errors: the fault of the first file, in this order, that can't be read or is refused; `Word` if
 /// a variable of the environment that is needed is not UTF-8; `NoMemory` if memory runs out.
-pub fn run_explain_files<T: ComposeTable, F: Folder>(
+pub fn run_explain_files<T: BuildTable, F: Folder>(
     alloc: Global,
     files: &mut ReadOnce<F>,
     environment: &Environment,
@@ -87,7 +87,7 @@ pub fn run_explain_files<T: ComposeTable, F: Folder>(
 }
 
 /// Returns the outcome of `explain` on Compose files, once they are read.
-fn explain_files_outcome<T: ComposeTable>(
+fn explain_files_outcome<T: BuildTable>(
     alloc: Global,
     verbose: bool,
     both: &MigrationFiles<'_>,
@@ -106,7 +106,7 @@ fn explain_files_outcome<T: ComposeTable>(
 }
 
 /// Returns the outcome of an answer of `explain` or of a refusal; for people unless `numbered`.
-fn explain_report<T: ComposeTable>(
+fn explain_report<T: BuildTable>(
     alloc: Global,
     numbered: bool,
     verbose: bool,
@@ -126,7 +126,7 @@ fn explain_report<T: ComposeTable>(
 }
 
 /// Returns the answer of `explain`.
-fn explain_answer<T: ComposeTable>(
+fn explain_answer<T: BuildTable>(
     alloc: Global,
     both: &MigrationFiles<'_>,
     fresh: &[&str],

@@ -24,7 +24,7 @@ use compose_listing::{
 };
 use compose_report::Outcome;
 use compose_shown::Shown;
-use compose_tree::ComposeTable;
+use compose_tree::BuildTable;
 use std::alloc::{AllocError, Global};
 use std::fmt::Write;
 
@@ -33,7 +33,7 @@ use std::fmt::Write;
 /// and of `list_table` or `list_next`.
 /// Errors: the fault of the first file, in this order, that can't be read or is refused; `Word` if
 /// a variable of the environment that is needed is not UTF-8; `NoMemory` if memory runs out.
-pub fn run_list<T: ComposeTable, F: Folder>(
+pub fn run_list<T: BuildTable, F: Folder>(
     alloc: Global,
     files: &mut ReadOnce<F>,
     environment: &Environment,
@@ -53,7 +53,7 @@ pub fn run_list<T: ComposeTable, F: Folder>(
 }
 
 /// Returns the outcome of `list`, once the files are read.
-fn list_outcome<T: ComposeTable>(
+fn list_outcome<T: BuildTable>(
     alloc: Global,
     read: TableRead<'_>,
     arguments: &ListArguments<'_>,
@@ -68,7 +68,7 @@ fn list_outcome<T: ComposeTable>(
 }
 
 /// Returns the sequences of the table, or the keys that can follow.
-fn list_answer<T: ComposeTable>(
+fn list_answer<T: BuildTable>(
     alloc: Global,
     read: &TableRead<'_>,
     arguments: &ListArguments<'_>,
@@ -83,7 +83,7 @@ fn list_answer<T: ComposeTable>(
 }
 
 /// Returns the keys that can follow.
-fn next_answer<T: ComposeTable>(
+fn next_answer<T: BuildTable>(
     alloc: Global,
     read: &TableRead<'_>,
     arguments: &ListArguments<'_>,
@@ -96,7 +96,7 @@ fn next_answer<T: ComposeTable>(
 }
 
 /// Returns the sequences of the table.
-fn sequences_answer<T: ComposeTable>(
+fn sequences_answer<T: BuildTable>(
     alloc: Global,
     read: &TableRead<'_>,
     arguments: &ListArguments<'_>,
@@ -110,7 +110,7 @@ fn sequences_answer<T: ComposeTable>(
 
 /// Returns the sequences of the table, whose files have these paths; only those that produce this
 /// text, if there is one.
-fn asked_answer<'a, T: ComposeTable>(
+fn asked_answer<'a, T: BuildTable>(
     alloc: Global,
     read: &TableRead<'_>,
     arguments: &'a ListArguments<'a>,
@@ -184,7 +184,7 @@ fn order_of(sort: ListSort) -> ListOrder
 /// `how_to_type`.
 /// Errors: the fault of the first file, in this order, that can't be read or is refused; `Word` if
 /// a variable of the environment that is needed is not UTF-8; `NoMemory` if memory runs out.
-pub fn run_how<T: ComposeTable, F: Folder>(
+pub fn run_how<T: BuildTable, F: Folder>(
     alloc: Global,
     files: &mut ReadOnce<F>,
     environment: &Environment,
@@ -206,7 +206,7 @@ pub fn run_how<T: ComposeTable, F: Folder>(
 }
 
 /// Returns the outcome of `how`, once the files are read.
-fn kept_how_outcome<T: ComposeTable>(
+fn kept_how_outcome<T: BuildTable>(
     alloc: Global,
     read: TableRead<'_>,
     arguments: &HowArguments<'_>,
@@ -246,7 +246,7 @@ fn read_given<F: Folder>(
 }
 
 /// Returns how the texts of these words can be typed with the table.
-fn how_answer<T: ComposeTable>(
+fn how_answer<T: BuildTable>(
     alloc: Global,
     read: &TableRead<'_>,
     arguments: &HowArguments<'_>,
@@ -264,7 +264,7 @@ fn how_answer<T: ComposeTable>(
 }
 
 /// Returns how these texts can be typed with the table, whose files have these paths.
-fn ways_answer<'a, T: ComposeTable>(
+fn ways_answer<'a, T: BuildTable>(
     alloc: Global,
     read: &TableRead<'_>,
     arguments: &HowArguments<'_>,
@@ -337,7 +337,7 @@ fn borrowed(alloc: Global, texts: &[String]) -> Result<Vec<&str>, AllocError>
 }
 
 /// Returns the outcome of the answer of `how`.
-fn how_outcome<T: ComposeTable>(
+fn how_outcome<T: BuildTable>(
     alloc: Global,
     read: TableRead<'_>,
     arguments: &HowArguments<'_>,
@@ -360,7 +360,7 @@ fn how_outcome<T: ComposeTable>(
 }
 
 /// Returns the outcome of the sequences that were found: `No` if a text has none.
-fn ways_outcome<T: ComposeTable>(
+fn ways_outcome<T: BuildTable>(
     alloc: Global,
     read: TableRead<'_>,
     repertoire: &str,

@@ -16,7 +16,7 @@ use compose_folder::{Folder, ReadOnce};
 use compose_input::{Fault, read_text};
 use compose_report::{Outcome, worded_outcome};
 use compose_tool::{make_all_migration, make_migration};
-use compose_tree::ComposeTable;
+use compose_tree::BuildTable;
 use std::alloc::{AllocError, Global};
 
 /// The arguments of `make` except its tables.
@@ -37,7 +37,7 @@ pub struct MakeOptions<'a> {
 /// Takes the time of reading them and of `make_migration`.
 /// Errors: the fault of the first file, in this order, that can't be read or is refused; `NoMemory`
 /// if memory runs out.
-pub fn run_make<T: ComposeTable, F: Folder>(
+pub fn run_make<T: BuildTable, F: Folder>(
     alloc: Global,
     files: &mut ReadOnce<F>,
     options: Options<'_>,
@@ -58,7 +58,7 @@ pub fn run_make<T: ComposeTable, F: Folder>(
 }
 
 /// Returns the outcome of `make`, once the files are read.
-fn make_outcome<T: ComposeTable>(
+fn make_outcome<T: BuildTable>(
     alloc: Global,
     verbose: bool,
     both: &MigrationFiles<'_>,
@@ -77,7 +77,7 @@ fn make_outcome<T: ComposeTable>(
 /// time of `find_files` for both tables and of `make_migration`.
 /// Errors: the fault of the first file, in this order, that can't be read or is refused; `Word` if
 /// a variable of the environment that is needed is not UTF-8; `NoMemory` if memory runs out.
-pub fn run_make_files<T: ComposeTable, F: Folder>(
+pub fn run_make_files<T: BuildTable, F: Folder>(
     alloc: Global,
     files: &mut ReadOnce<F>,
     environment: &Environment,
@@ -101,7 +101,7 @@ pub fn run_make_files<T: ComposeTable, F: Folder>(
 }
 
 /// Returns the outcome of `make` on Compose files, once they are read.
-fn make_files_outcome<T: ComposeTable>(
+fn make_files_outcome<T: BuildTable>(
     alloc: Global,
     verbose: bool,
     both: &MigrationFiles<'_>,
@@ -119,7 +119,7 @@ fn make_files_outcome<T: ComposeTable>(
 }
 
 /// Returns the outcome of an answer of `make` or of a refusal; for people unless `numbered`.
-fn make_report<T: ComposeTable>(
+fn make_report<T: BuildTable>(
     alloc: Global,
     numbered: bool,
     verbose: bool,
@@ -143,7 +143,7 @@ fn make_report<T: ComposeTable>(
 }
 
 /// Returns the answer of `make`.
-fn make_answer<T: ComposeTable>(
+fn make_answer<T: BuildTable>(
     alloc: Global,
     both: &MigrationFiles<'_>,
     repertoire: &[u8],

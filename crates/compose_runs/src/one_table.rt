@@ -19,7 +19,7 @@ use compose_input::{Fault, NameFiles, Places, TableFiles};
 use compose_model::Rule;
 use compose_report::{Outcome, worded_outcome};
 use compose_shown::Shown;
-use compose_tree::ComposeTable;
+use compose_tree::BuildTable;
 use compose_user::{UserFolders, first_file, user_paths};
 use std::alloc::{AllocError, Global};
 
@@ -75,7 +75,7 @@ impl<'n> TableRead<'n> {
     /// Returns the outcome of an answer, or of a refusal with each faulty line of the input; for
     /// people unless `numbered`. The input is the table, the keys with these names, and the
     /// repertoire at this path with this text; without a repertoire, both are empty.
-    pub(crate) fn outcome<T: ComposeTable>(
+    pub(crate) fn outcome<T: BuildTable>(
         self,
         alloc: Global,
         numbered: bool,
@@ -102,7 +102,7 @@ impl<'n> TableRead<'n> {
 }
 
 /// Returns the outcome of an answer or of a refusal on the same input, without the notes.
-fn table_report<T: ComposeTable>(
+fn table_report<T: BuildTable>(
     alloc: Global,
     numbered: bool,
     read: &TableRead<'_>,

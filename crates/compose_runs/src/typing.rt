@@ -15,7 +15,7 @@ use compose_input::{Fault, NameFiles, TableFiles, read_text};
 use compose_key_lists::{key_lists, refused_line};
 use compose_report::{Outcome, outcome_of};
 use compose_tool::{type_keys, type_lists};
-use compose_tree::ComposeTable;
+use compose_tree::BuildTable;
 use std::alloc::{AllocError, Global};
 
 /// The message for standard input that is not UTF-8.
@@ -26,7 +26,7 @@ const NO_TEXT: &str = "standard input is not UTF-8";
 /// of `type_keys`.
 /// Errors: the fault of the first file, in this order, that can't be read or is refused; `NoMemory`
 /// if memory runs out.
-pub fn run_type<T: ComposeTable, F: Folder>(
+pub fn run_type<T: BuildTable, F: Folder>(
     alloc: Global,
     files: &mut ReadOnce<F>,
     options: Options<'_>,
@@ -47,7 +47,7 @@ pub fn run_type<T: ComposeTable, F: Folder>(
 }
 
 /// Returns the outcome of `type`, once the files are read.
-fn type_outcome<T: ComposeTable>(
+fn type_outcome<T: BuildTable>(
     alloc: Global,
     verbose: bool,
     names: &NameFiles<'_>,
@@ -70,7 +70,7 @@ fn type_outcome<T: ComposeTable>(
 /// standard input. Takes the time of `find_files` and of `type_keys` or `type_lists`.
 /// Errors: the fault of the first file, in this order, that can't be read or is refused; `Word` if
 /// a variable of the environment that is needed is not UTF-8; `NoMemory` if memory runs out.
-pub fn run_type_file<T: ComposeTable, F: Folder>(
+pub fn run_type_file<T: BuildTable, F: Folder>(
     alloc: Global,
     files: &mut ReadOnce<F>,
     environment: &Environment,
@@ -131,7 +131,7 @@ fn no_text(alloc: Global) -> Fault
 
 /// Returns the outcome of `type` with a Compose file, once it is read; without its faulty lines, if
 /// these are skipped.
-fn kept_type_outcome<T: ComposeTable>(
+fn kept_type_outcome<T: BuildTable>(
     alloc: Global,
     read: TableRead<'_>,
     skip_faulty: bool,
@@ -150,7 +150,7 @@ fn kept_type_outcome<T: ComposeTable>(
 
 /// Returns the outcome of `type` with a Compose file and these lines, or with these words if there
 /// are no lines.
-fn typed_outcome<T: ComposeTable>(
+fn typed_outcome<T: BuildTable>(
     alloc: Global,
     read: TableRead<'_>,
     words: &[&str],
@@ -167,7 +167,7 @@ fn typed_outcome<T: ComposeTable>(
 }
 
 /// Returns the outcome of `type` with a Compose file, once it is read.
-fn type_file_outcome<T: ComposeTable>(
+fn type_file_outcome<T: BuildTable>(
     alloc: Global,
     read: TableRead<'_>,
     words: &[&str],
@@ -183,7 +183,7 @@ fn type_file_outcome<T: ComposeTable>(
 
 /// Returns the outcome of `type` with a Compose file and the lists of keys that these lines write,
 /// once both are read.
-fn type_lines_outcome<T: ComposeTable>(
+fn type_lines_outcome<T: BuildTable>(
     alloc: Global,
     read: TableRead<'_>,
     lines: &str,

@@ -20,7 +20,7 @@ use compose_migration::{MigrationInput, TableInput};
 use compose_model::Rule;
 use compose_read::Sources;
 use compose_report::{Outcome, outcome_with, worded_refusal};
-use compose_tree::ComposeTable;
+use compose_tree::BuildTable;
 use compose_update::{Update, UpdateFault, UpdateInput, decide_update};
 use std::alloc::{AllocError, Global};
 
@@ -150,7 +150,7 @@ fn read_intended<F: Folder>(
 /// also that of `diff_migration`, and that of `decide_update` once more.
 /// Errors: a refusal of `state` if the stored bytes are not a bundle; `NoMemory` if memory runs
 /// out.
-pub fn run_update<T: ComposeTable>(
+pub fn run_update<T: BuildTable>(
     alloc: Global,
     files: &UpdateFiles,
     fresh: &[&str],
@@ -168,7 +168,7 @@ pub fn run_update<T: ComposeTable>(
 }
 
 /// Does the same, if bytes are stored.
-fn update_stored<T: ComposeTable>(
+fn update_stored<T: BuildTable>(
     alloc: Global,
     files: &UpdateFiles,
     fresh: &[&str],
@@ -185,7 +185,7 @@ fn update_stored<T: ComposeTable>(
 }
 
 /// Returns what an update does with these files, if a table with these sources is in use.
-fn update_of<T: ComposeTable>(
+fn update_of<T: BuildTable>(
     alloc: Global,
     files: &UpdateFiles,
     fresh: &[&str],
@@ -200,7 +200,7 @@ fn update_of<T: ComposeTable>(
 }
 
 /// Returns the run of an update with this decision, if a table with these sources is in use.
-fn decision_done<T: ComposeTable>(
+fn decision_done<T: BuildTable>(
     alloc: Global,
     files: &UpdateFiles,
     fresh: &[&str],
@@ -221,7 +221,7 @@ fn decision_done<T: ComposeTable>(
 
 /// Returns the run of an update if typing would change, as these lines say. They are printed,
 /// unless a list of intended changes is given.
-fn refused_or_intended<T: ComposeTable>(
+fn refused_or_intended<T: BuildTable>(
     alloc: Global,
     files: &UpdateFiles,
     fresh: &[&str],
@@ -241,7 +241,7 @@ fn refused_or_intended<T: ComposeTable>(
 
 /// Returns the same, if this list of intended changes is given. If no table is in use, the lines
 /// are printed.
-fn refused_or_listed<T: ComposeTable>(
+fn refused_or_listed<T: BuildTable>(
     alloc: Global,
     files: &UpdateFiles,
     fresh: &[&str],
@@ -267,7 +267,7 @@ fn refused_with(alloc: Global, text: String) -> UpdateRun
 }
 
 /// Returns the decision about these files, if a table with these sources is in use.
-fn decided<T: ComposeTable>(
+fn decided<T: BuildTable>(
     alloc: Global,
     files: &UpdateFiles,
     fresh: &[&str],
@@ -289,7 +289,7 @@ fn decided<T: ComposeTable>(
 
 /// Returns what an update does if typing would change from a table with these sources: the new
 /// table is stored if all changes are intended.
-fn update_if_intended<T: ComposeTable>(
+fn update_if_intended<T: BuildTable>(
     alloc: Global,
     files: &UpdateFiles,
     fresh: &[&str],
@@ -319,7 +319,7 @@ fn update_if_intended<T: ComposeTable>(
 
 /// Returns the answer of `diff` on a table with these sources and the new one, if these changes are
 /// intended.
-fn intended_answer<T: ComposeTable>(
+fn intended_answer<T: BuildTable>(
     alloc: Global,
     files: &UpdateFiles,
     fresh: &[&str],
@@ -375,7 +375,7 @@ fn source_name<'a>(sources: &'a Sources, index: usize) -> &'a str
 
 /// Returns the run of an update if all changes are intended: the new table is stored as if no table
 /// were in use.
-fn stored_if_intended<T: ComposeTable>(
+fn stored_if_intended<T: BuildTable>(
     alloc: Global,
     files: &UpdateFiles,
     fresh: &[&str],

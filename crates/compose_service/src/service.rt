@@ -14,7 +14,7 @@ use compose_model::Rule;
 use compose_read::Sources;
 use compose_serve::{Pull, Push, ServeFault, StreamEnd, serve};
 use compose_state::Fed;
-use compose_tree::{ComposeTable, TableFault, read_first_table};
+use compose_tree::{BuildTable, ComposeTable, TableFault, read_first_table};
 use compose_wire::{Body, Reply, ReplyBody, Request};
 use keysym_core::{Keysym, Names};
 use std::alloc::Global;
@@ -125,7 +125,7 @@ impl<T: ComposeTable> Model for Service<T> {
     ghost invariant = { λ s. AreKept (T.definitions s.table) s.sessions };
 }
 
-impl<T: ComposeTable> Service<T> {
+impl<T: BuildTable> Service<T> {
     ghost use Rattle.std.specs.Prelude.{◌≡◌, ◌≢◌, ◌<◌, ◌≤◌, List, [], ℕ, length, map, IsTrue, IsFalse, IfOk, OnErr, MatchResult, Some, Err, true, false};
     ghost use Rattle.keysym_core.specs.Keysym.{is_keysym};
     ghost use Rattle.compose_model.specs.Table.{is_prefix_free};

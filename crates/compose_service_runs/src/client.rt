@@ -20,7 +20,7 @@ use compose_runs::{
     Environment, NotedTable, Options, borrowed, key_names, read_names_for, read_table,
 };
 use compose_session::{AskedSession, load_request, report_replies, session_requests};
-use compose_tree::ComposeTable;
+use compose_tree::BuildTable;
 use compose_wire::{Reply, ReplyBody, Request};
 use keysym_core::Names;
 use std::alloc::{AllocError, Global};
@@ -121,7 +121,7 @@ fn one_request(alloc: Global, request: Request, notes: String) -> Result<ClientR
 /// Returns the requests of a session, or the outcome if the names or the keys are refused. Takes
 /// the time of reading the names.
 /// Errors: the fault of the first names file that can't be read; `NoMemory` if memory runs out.
-pub fn run_session<T: ComposeTable, F: Folder>(
+pub fn run_session<T: BuildTable, F: Folder>(
     alloc: Global,
     files: &mut ReadOnce<F>,
     options: Options<'_>,
@@ -139,7 +139,7 @@ pub fn run_session<T: ComposeTable, F: Folder>(
 }
 
 /// Returns the same by these names; with `--files` a key may be written as its character.
-fn session_of<T: ComposeTable>(
+fn session_of<T: BuildTable>(
     alloc: Global,
     verbose: bool,
     names: &NameFiles<'_>,
@@ -153,7 +153,7 @@ fn session_of<T: ComposeTable>(
 }
 
 /// Returns the same by the keys with these names.
-fn session_by<T: ComposeTable>(
+fn session_by<T: BuildTable>(
     alloc: Global,
     verbose: bool,
     names: &NameFiles<'_>,
@@ -199,7 +199,7 @@ fn requests_of(
 
 /// Returns the outcome if the names or the keys are refused; with `verbose` or `--files` with each
 /// faulty line, and with `--files` for people.
-fn keys_outcome<T: ComposeTable>(
+fn keys_outcome<T: BuildTable>(
     alloc: Global,
     verbose: bool,
     are_files: bool,

@@ -20,7 +20,7 @@ use compose_runs::{
 };
 use compose_service::Service;
 use compose_serving::{BeginFault, BeginInput, allow_fresh, begin};
-use compose_tree::ComposeTable;
+use compose_tree::BuildTable;
 use std::alloc::{AllocError, Global};
 
 /// Starts the service with the given files, or with the table that is kept in a folder, and returns
@@ -32,7 +32,7 @@ use std::alloc::{AllocError, Global};
 /// over their bytes. Takes the time of reading the files and of `begin`.
 /// Errors: the fault of the first file that can't be read or is refused; `Word` if a variable of
 /// the environment that is needed is not UTF-8; `NoMemory` if memory runs out.
-pub fn start_service<T: ComposeTable, F: Folder>(
+pub fn start_service<T: BuildTable, F: Folder>(
     alloc: Global,
     files: &mut ReadOnce<F>,
     environment: &Environment,
@@ -184,7 +184,7 @@ impl<'n> ServiceFiles<'n> {
 
     /// Starts the service with these files. If names are given, its loads may list only their
     /// keysyms as fresh.
-    fn begin_allowing<T: ComposeTable>(
+    fn begin_allowing<T: BuildTable>(
         self,
         alloc: Global,
         allowed: Option<&[&str]>,
@@ -198,7 +198,7 @@ impl<'n> ServiceFiles<'n> {
     }
 
     /// Starts the service with these files.
-    fn begin<T: ComposeTable>(self, alloc: Global) -> Result<Service<T>, BeginFault>
+    fn begin<T: BuildTable>(self, alloc: Global) -> Result<Service<T>, BeginFault>
         ensures { Begins self.entry result }
     {
         let (sources, rule) = self.table.into_parts();
@@ -213,7 +213,7 @@ impl<'n> ServiceFiles<'n> {
 }
 
 /// Returns the service; if names are given, its loads may list only their keysyms as fresh.
-fn allow_alone<T: ComposeTable>(
+fn allow_alone<T: BuildTable>(
     alloc: Global,
     service: Service<T>,
     allowed: Option<&[&str]>,
@@ -362,7 +362,7 @@ fn wants_details(verbose: bool, served: &Served<'_>, answered: &Result<Answer, R
 }
 
 /// Returns the outcome of this answer if no service starts with the files.
-fn start_outcome<T: ComposeTable, F: Folder>(
+fn start_outcome<T: BuildTable, F: Folder>(
     alloc: Global,
     files: &mut ReadOnce<F>,
     environment: &Environment,
@@ -392,7 +392,7 @@ fn start_outcome<T: ComposeTable, F: Folder>(
 
 /// Returns the outcome with each faulty line of these files; for people if a Compose file is
 /// served.
-fn reported_start<T: ComposeTable>(
+fn reported_start<T: BuildTable>(
     alloc: Global,
     arguments: &ServeArguments<'_>,
     key_names: &[&str],

@@ -5,7 +5,7 @@ ghost use Rattle.compose_serving.specs.Fresh.{Allows};
 use compose_answer::Refusal;
 use compose_migration::look_up_keys;
 use compose_service::Service;
-use compose_tree::ComposeTable;
+use compose_tree::BuildTable;
 use std::alloc::Global;
 
 /// Returns the service with the keysyms of these names as the only ones that its loads may list as
@@ -13,7 +13,7 @@ use std::alloc::Global;
 ///
 /// Errors: `Key` with the index, from 0, of the first name that has no keysym, or `NoMemory` if
 /// memory runs out.
-pub fn allow_fresh<T: ComposeTable>(
+pub fn allow_fresh<T: BuildTable>(
     alloc: Global,
     service: Service<T>,
     key_names: &[&str],

@@ -9,7 +9,7 @@ use compose_check::CheckFault;
 use compose_model::Rule;
 use compose_read::Sources;
 use compose_service::{Service, StartFault};
-use compose_tree::ComposeTable;
+use compose_tree::BuildTable;
 use keysym_core::{NameFault, Names};
 use std::alloc::Global;
 
@@ -43,7 +43,7 @@ pub enum BeginFault {
 ///
 /// Errors: `Refused` with the first part that is refused, or if memory runs out; `Invalid` if the
 /// certificate is not valid.
-pub fn begin<T: ComposeTable>(
+pub fn begin<T: BuildTable>(
     alloc: Global,
     input: &BeginInput<'_>,
     sources: Sources<'_>,
@@ -58,7 +58,7 @@ pub fn begin<T: ComposeTable>(
 }
 
 /// Does the same with the names of the header.
-fn begin_with<T: ComposeTable>(
+fn begin_with<T: BuildTable>(
     alloc: Global,
     input: &BeginInput<'_>,
     sources: Sources<'_>,
@@ -75,7 +75,7 @@ fn begin_with<T: ComposeTable>(
 }
 
 /// Does the same with the names of the header and the repertoire.
-fn start_with<T: ComposeTable>(
+fn start_with<T: BuildTable>(
     alloc: Global,
     input: &BeginInput<'_>,
     sources: Sources<'_>,

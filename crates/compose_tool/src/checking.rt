@@ -7,7 +7,7 @@ ghost use Rattle.compose_tool.specs.Answers.{IsChecked, IsCheckedFor, first_not_
 
 use compose_answer::{Answer, Refusal};
 use compose_check::{CheckInput, CheckParts, Verdict};
-use compose_tree::ComposeTable;
+use compose_tree::BuildTable;
 use keysym_core::Keysym;
 use std::alloc::Global;
 
@@ -16,7 +16,7 @@ use std::alloc::Global;
 ///
 /// The parts are read in the order names, old table, new table, repertoire, certificate. Errors:
 /// the first of these that is refused; `NoMemory` if memory runs out.
-pub fn check_migration<T: ComposeTable>(
+pub fn check_migration<T: BuildTable>(
     alloc: Global,
     input: &CheckInput<'_>,
 ) -> Result<Answer, Refusal>
@@ -35,7 +35,7 @@ pub fn check_migration<T: ComposeTable>(
 ///
 /// The key names are read after the names. Errors: the first part that is refused; `NoMemory` if
 /// memory runs out.
-pub fn check_allowed<T: ComposeTable>(
+pub fn check_allowed<T: BuildTable>(
     alloc: Global,
     input: &CheckInput<'_>,
     key_names: &[&str],

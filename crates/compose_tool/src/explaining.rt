@@ -9,7 +9,7 @@ ghost use Rattle.compose_tool.specs.Answers.{IsExplained, IsAllExplained};
 use crate::fresh::in_rising_order;
 use compose_answer::{Answer, Refusal, fresh_refusal};
 use compose_migration::{Migration, MigrationInput};
-use compose_tree::ComposeTable;
+use compose_tree::{BuildTable, ComposeTable};
 use compose_walk::{Counterexample, Differences, Walk, differences, explain, explain_all, walk};
 use keysym_core::{Keysym, Names};
 use std::alloc::{AllocError, Global};
@@ -20,7 +20,7 @@ use std::alloc::{AllocError, Global};
 ///
 /// The parts are read in the order names, key names, old table, new table, and then the fresh
 /// keysyms are checked. Errors: the first of these that is refused; `NoMemory` if memory runs out.
-pub fn explain_migration<T: ComposeTable>(
+pub fn explain_migration<T: BuildTable>(
     alloc: Global,
     input: &MigrationInput<'_, '_>,
 ) -> Result<Answer, Refusal>
@@ -55,7 +55,7 @@ fn explain_tables<T: ComposeTable>(
 /// tables and `differences` do.
 ///
 /// Errors: those of `explain_migration`.
-pub fn explain_all_migration<T: ComposeTable>(
+pub fn explain_all_migration<T: BuildTable>(
     alloc: Global,
     input: &MigrationInput<'_, '_>,
 ) -> Result<Answer, Refusal>

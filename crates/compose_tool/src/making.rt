@@ -14,7 +14,7 @@ use compose_answer::{Answer, Refusal, fresh_refusal};
 use compose_cert::{Certificate, Repertoire};
 use compose_make::{Made, make};
 use compose_migration::{Migration, MigrationInput, read_repertoire};
-use compose_tree::ComposeTable;
+use compose_tree::{BuildTable, ComposeTable};
 use keysym_core::{Keysym, ShownChar};
 use std::alloc::{AllocError, Global};
 
@@ -26,7 +26,7 @@ use std::alloc::{AllocError, Global};
 /// The parts are read in the order names, key names, old table, new table, repertoire, and then the
 /// fresh keysyms are checked. Errors: the first of these that is refused; `NoMemory` if memory runs
 /// out.
-pub fn make_migration<T: ComposeTable>(
+pub fn make_migration<T: BuildTable>(
     alloc: Global,
     input: &MigrationInput<'_, '_>,
     repertoire: &[u8],

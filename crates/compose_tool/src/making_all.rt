@@ -14,7 +14,7 @@ use compose_answer::{Answer, Refusal, fresh_refusal};
 use compose_cert::Repertoire;
 use compose_make::{Made, make, untypable};
 use compose_migration::{Migration, MigrationInput, read_repertoire};
-use compose_tree::ComposeTable;
+use compose_tree::{BuildTable, ComposeTable};
 use keysym_core::{Keysym, Names, ShownChar};
 use std::alloc::{AllocError, Global};
 use std::fmt::Write;
@@ -25,7 +25,7 @@ use std::fmt::Write;
 /// for both tables, and O(m n) for the numbers m and n of characters that these can't type.
 ///
 /// Errors: those of `make_migration`.
-pub fn make_all_migration<T: ComposeTable>(
+pub fn make_all_migration<T: BuildTable>(
     alloc: Global,
     input: &MigrationInput<'_, '_>,
     repertoire: &[u8],

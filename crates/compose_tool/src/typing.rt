@@ -17,7 +17,7 @@ use compose_migration::{Named, TableInput, read_only_table};
 use compose_model::Rule;
 use compose_read::{Sources, law_settle};
 use compose_state::{ComposeState, Fed};
-use compose_tree::{ComposeTable, TableFault, read_table};
+use compose_tree::{BuildTable, ComposeTable, TableFault, read_table};
 use keysym_core::{Keysym, Names};
 use std::alloc::{AllocError, Global};
 use thiserror::Error;
@@ -49,7 +49,7 @@ impl From<AllocError> for TypeFault {
 /// keys × log edges of a node).
 ///
 /// Errors: `Table` with the first fault of the table, if it has one; `NoMemory` if memory runs out.
-pub fn type_lines<T: ComposeTable>(
+pub fn type_lines<T: BuildTable>(
     alloc: Global,
     names: &Names,
     sources: &Sources,
@@ -78,7 +78,7 @@ pub fn type_lines<T: ComposeTable>(
 ///
 /// The parts are read in the order names, key names, table. Errors: the first of these that is
 /// refused; `NoMemory` if memory runs out.
-pub fn type_keys<T: ComposeTable>(
+pub fn type_keys<T: BuildTable>(
     alloc: Global,
     header: &[u8],
     key_names: &[&str],
@@ -106,7 +106,7 @@ pub fn type_keys<T: ComposeTable>(
 /// after the last list are not typed.
 ///
 /// Errors: those of `type_keys`.
-pub fn type_lists<T: ComposeTable>(
+pub fn type_lists<T: BuildTable>(
     alloc: Global,
     header: &[u8],
     key_names: &[&str],

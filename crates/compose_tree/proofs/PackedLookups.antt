@@ -83,6 +83,19 @@ greater_from edges key m rise greater k le h = go (eq-or-lt_of_le le)
         (let n = keys_length edges in let l : slice_index (keys_of edges) m < slice_index (keys_of edges) k = below_from_sorted
         (keys_of edges) m k 0 (sorted_from_strictly_increasing (keys_of edges) rise) lower (omega arith) in omega arith)
 
+-- a keysym less than the first one is nowhere
+pub none_below : (edges : List PackedEdge) (key : ℕ) → IsStrictlyIncreasing (keys_of edges) → key < slice_index (keys_of edges) 0 → (k : ℕ) → k < length edges
+    → slice_index (keys_of edges) k ≡ key → ⊥
+none_below edges key rise less k h same = let g = greater_from edges key 0 rise less k (omega arith) h in omega (arith, g, same)
+
+-- a keysym greater than the last one is nowhere
+pub none_above : (edges : List PackedEdge) (key last : ℕ) → IsStrictlyIncreasing (keys_of edges) → last + 1 ≡ length edges → slice_index (keys_of edges) last < key
+    → (k : ℕ) → k < length edges → slice_index (keys_of edges) k ≡ key → ⊥
+none_above edges key last rise end greater k h same = elim (cases_lt k last) [
+  | inl lower ↦ (let l = less_below edges key last rise (omega (arith, end)) (omega (arith, greater)) k lower in omega (arith, l, same))
+  | inr from ↦ (let here : k ≡ last = omega (arith, from, end, h) in let there = ap (slice_index (keys_of edges)) here in omega (arith, there, same, greater))
+]
+
 -- if the keysym can be at only one index and is not there, it is nowhere
 pub nowhere_else : (edges : List PackedEdge) (key first count : ℕ) → count ≤ 1 → ((k : ℕ) → k < first → slice_index (keys_of edges) k < key)
     → ((k : ℕ) → first + count ≤ k → k < length edges → key < slice_index (keys_of edges) k)

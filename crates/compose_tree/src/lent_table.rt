@@ -1,15 +1,16 @@
 //! The packed form of a table in borrowed memory: five arrays, which may be passed to C.
-ghost use Rattle.std.specs.Prelude.{◌≡◌, map};
-ghost use Rattle.compose_tree.specs.Packed.{IsPacked, packed_edge, unpacked};
+ghost use Rattle.std.specs.Prelude.{◌≡◌, ◌<◌, ◌≤◌, ℕ, length, map, slice_index, MatchOption, IsTrue};
+ghost use Rattle.std.specs.List.Sorted.{IsStrictlyIncreasing};
+ghost use Rattle.compose_tree.specs.Packed.{keys_of, packed_edge, unpacked_target};
 
-use crate::hints::hint_in;
+use crate::hints::{hint_at, slots};
 use crate::packed::{PackedEdge, PackedNode};
-use crate::packed_table::{index_by_hint, unpack_target};
-use crate::table::{BuildFault, ComposeTable, LeafId, NodeId, Target};
-use compose_read::Sequences;
+use crate::table::{ComposeTable, LeafId, NodeId, Target};
 use keysym_core::Keysym;
-use std::alloc::Global;
 use std::marker::Model;
+
+/// All keysyms are below this number.
+const KEYSYMS: u32 = Keysym::GREATEST + 1;
 
 /// The arrays of a `PackedTable`, and its hints.
 #[derive(Clone, Copy)]
@@ -22,7 +23,7 @@ pub struct LentArrays<'t> {
     pub offsets: &'t [u32],
     /// The texts of all leaves, one after another, in UTF-8.
     pub texts: &'t [u8],
-    /// The hints; see `hint_in`.
+    /// The hints; see `Hints`.
     pub hints: &'t [u8],
 }
 
@@ -49,12 +50,101 @@ impl<'t> Model for LentTable<'t> {
         (unpacked t.nodes.now t.edges.now t.offsets.now t.texts.now) };
 }
 
+/// Returns the target of a code.
+fn unpack_target(code: u32) -> Target
+    ensures { result ≡ unpacked_target code }
+{
+    if code % 2 == 0 {
+        Target::Node(NodeId(code / 2))
+    } else {
+        Target::Leaf(LeafId(code / 2))
+    }
+}
+
+/// Returns 1 if the keysym is at most the other, and else 0. This is arithmetic, since a comparison
+/// would become a branch, which a search mispredicts half of the time.
+fn at_most(keysym: Keysym, other: Keysym) -> usize
+    ensures one { keysym ≤ other → result ≡ 1 }
+    ensures zero { other < keysym → result ≡ 0 }
+{
+    ((other.value() + KEYSYMS - keysym.value()) / KEYSYMS) as usize
+}
+
+/// Returns the index of a keysym among edges in increasing order. O(log edges).
+fn index_of(edges: &[PackedEdge], keysym: Keysym) -> Option<usize>
+    requires { IsStrictlyIncreasing (keys_of edges.now) }
+    ensures { MatchOption result
+        ((k : ℕ) → k < length edges.now → slice_index (keys_of edges.now) k ≡ keysym → ⊥)
+        (λ i. (i < length edges.now) × (slice_index (keys_of edges.now) i ≡ keysym)) }
+{
+    let mut first = 0;
+    let mut count = edges.len();
+    while count > 1 {
+        let half = count / 2;
+        first += half * at_most(edges[first + half].keysym, keysym);
+        count -= half;
+    }
+    if count == 1 && edges[first].keysym == keysym {
+        Some(first)
+    } else {
+        None
+    }
+}
+
+/// Returns whether the keysym is less than those of all edges, or greater. So are most of those that
+/// lead nowhere, as a letter is less than the keysyms with which sequences begin. O(1).
+fn is_outside(edges: &[PackedEdge], keysym: Keysym) -> bool
+    requires { IsStrictlyIncreasing (keys_of edges.now) }
+    ensures { IsTrue result → (k : ℕ) → k < length edges.now
+        → slice_index (keys_of edges.now) k ≡ keysym → ⊥ }
+{
+    let count = edges.len();
+    if count == 0 {
+        return true;
+    }
+    let value = keysym.value();
+    value < edges[0].keysym.value() || edges[count - 1].keysym.value() < value
+}
+
+/// Returns whether the edge at this index is there, and has this keysym. O(1).
+fn is_at(edges: &[PackedEdge], index: usize, keysym: Keysym) -> bool
+    ensures { IsTrue result
+        → (index < length edges.now) × (slice_index (keys_of edges.now) index ≡ keysym) }
+{
+    index < edges.len() && edges[index].keysym == keysym
+}
+
+/// Returns the index of a keysym among the edges of this node, which are in increasing order. O(1)
+/// if one of the two hints is right or the keysym is outside of the edges, and else O(log edges).
+#[inline(always)]
+fn index_by_hints(edges: &[PackedEdge], hints: &[u8], node: NodeId, keysym: Keysym) -> Option<usize>
+    requires { IsStrictlyIncreasing (keys_of edges.now) }
+    ensures { MatchOption result
+        ((k : ℕ) → k < length edges.now → slice_index (keys_of edges.now) k ≡ keysym → ⊥)
+        (λ i. (i < length edges.now) × (slice_index (keys_of edges.now) i ≡ keysym)) }
+{
+    let (first_slot, second_slot) = slots(hints.len(), node, keysym);
+    let first = hint_at(hints, first_slot);
+    if is_at(edges, first, keysym) {
+        return Some(first);
+    }
+    if is_outside(edges, keysym) {
+        return None;
+    }
+    let second = hint_at(hints, second_slot);
+    if is_at(edges, second, keysym) {
+        return Some(second);
+    }
+    index_of(edges, keysym)
+}
+
 impl<'t> LentTable<'t> {
-    ghost use Rattle.std.specs.Prelude.{◌≡◌, ◌<◌, length};
+    ghost use Rattle.std.specs.Prelude.{◌≡◌, ◌<◌, ◌≤◌, length, Some};
     ghost use Rattle.compose_model.specs.Nodes as model;
     ghost use Rattle.compose_read.specs.Settle.{IsSettled};
     ghost use Rattle.compose_tree.specs.Rows.{row_of};
     ghost use Rattle.compose_tree.specs.Packed.{IsPacked, unpacked};
+    ghost use Rattle.compose_tree.specs.Targets.{leaf_text};
 
     /// Makes a table of these arrays. The hints may be any bytes. O(1).
     pub fn of(
@@ -91,16 +181,25 @@ impl<'t> LentTable<'t> {
         let (own, _) = from_first.split_at(end - first);
         own
     }
+
+    /// Returns the text of the leaf, at most 255 bytes, for as long as the arrays are lent. O(1).
+    pub(crate) fn text_of(&self, leaf: LeafId) -> &'t str
+        requires { leaf.0 < length (model.leaves self.now) }
+        ensures value { leaf_text self.now leaf.0 ≡ Some result.now }
+        ensures few { length result.now ≤ 255 }
+    {
+        let number = leaf.0 as usize;
+        let first = self.offsets[number] as usize;
+        let end = self.offsets[number + 1] as usize;
+        let (_, from_first) = self.texts.split_at(first);
+        let (bytes, _) = from_first.split_at(end - first);
+        // each text of a table is UTF-8
+        unsafe { std::str::from_utf8_unchecked(bytes) }
+    }
 }
 
 impl<'t> ComposeTable for LentTable<'t> {
     ghost definitions = { λ t. t };
-
-    /// Always fails with `NoMemory`: a table can't be built in borrowed memory. Build another form
-    /// of table, and lend it.
-    fn build(_alloc: Global, _sequences: Sequences) -> Result<Self, BuildFault> {
-        Err(BuildFault::NoMemory)
-    }
 
     fn node_count(&self) -> u32 {
         (self.nodes.len() - 1) as u32
@@ -124,8 +223,7 @@ impl<'t> ComposeTable for LentTable<'t> {
     }
 
     fn find(&self, node: NodeId, keysym: Keysym) -> Option<u32> {
-        let hint = hint_in(self.hints, node, keysym);
-        let Some(index) = index_by_hint(self.edges_of(node), keysym, hint) else {
+        let Some(index) = index_by_hints(self.edges_of(node), self.hints, node, keysym) else {
             return None;
         };
         Some(index as u32)
@@ -133,20 +231,13 @@ impl<'t> ComposeTable for LentTable<'t> {
 
     fn step(&self, node: NodeId, keysym: Keysym) -> Option<Target> {
         let edges = self.edges_of(node);
-        let hint = hint_in(self.hints, node, keysym);
-        let Some(index) = index_by_hint(edges, keysym, hint) else {
+        let Some(index) = index_by_hints(edges, self.hints, node, keysym) else {
             return None;
         };
         Some(unpack_target(edges[index].target))
     }
 
     fn text(&self, leaf: LeafId) -> &str {
-        let number = leaf.0 as usize;
-        let first = self.offsets[number] as usize;
-        let end = self.offsets[number + 1] as usize;
-        let (_, from_first) = self.texts.split_at(first);
-        let (bytes, _) = from_first.split_at(end - first);
-        // each text of a table is UTF-8
-        unsafe { std::str::from_utf8_unchecked(bytes) }
+        self.text_of(leaf)
     }
 }

@@ -5,7 +5,7 @@ ghost use Rattle.compose_tree.specs.Rows.{keysyms_of, with_edge, gathered_rows, 
 
 use crate::edge::{Edge, NodeEdge};
 use crate::rows::build_rows;
-use crate::table::{BuildFault, ComposeTable, LeafId, NodeId, Target};
+use crate::table::{BuildFault, BuildTable, ComposeTable, LeafId, NodeId, Target};
 use compose_read::Sequences;
 use keysym_core::Keysym;
 use std::alloc::{AllocError, Global};
@@ -153,13 +153,6 @@ impl ListTable {
 impl ComposeTable for ListTable {
     ghost definitions = { λ t. t };
 
-    fn build(alloc: Global, sequences: Sequences) -> Result<Self, BuildFault> {
-        let flat = build_rows(alloc, &sequences)?;
-        let (depths, edges) = flat.parts();
-        let rows = list_rows(alloc, depths, edges)?;
-        Ok(ListTable { sequences, rows })
-    }
-
     fn node_count(&self) -> u32 {
         self.rows.len() as u32
     }
@@ -194,5 +187,14 @@ impl ComposeTable for ListTable {
 
     fn text(&self, leaf: LeafId) -> &str {
         self.sequences.text(leaf.0 as usize)
+    }
+}
+
+impl BuildTable for ListTable {
+    fn build(alloc: Global, sequences: Sequences) -> Result<Self, BuildFault> {
+        let flat = build_rows(alloc, &sequences)?;
+        let (depths, edges) = flat.parts();
+        let rows = list_rows(alloc, depths, edges)?;
+        Ok(ListTable { sequences, rows })
     }
 }

@@ -17,8 +17,8 @@
 //! ```
 //!
 //! The edges of a node are contiguous, in increasing order of keysyms, and end where those of the
-//! next node begin. There are also hints for the index of each edge, which a search tries first.
-//! The hints are no part of the table's meaning.
+//! next node begin. There are also hints for the index of each edge, two of which a search tries
+//! first. The hints are no part of the table's meaning.
 ghost use Rattle.std.specs.Prelude.{◌≡◌, ◌<◌, ◌≤◌, ◌+◌, ◌*◌, ◌++◌, ℕ, length, map, slice_index, MatchOption, IfOk, OnOk, IsTrue, string_bytes};
 ghost use Rattle.std.specs.List.{list_all};
 ghost use Rattle.std.specs.List.Sorted.{IsStrictlyIncreasing};
@@ -29,23 +29,20 @@ ghost use Rattle.compose_tree.specs.Packed.{keys_of, packed_edge, packed_target,
 
 use crate::edge::{Edge, NodeEdge};
 use crate::hints::Hints;
-use crate::lent_table::LentArrays;
+use crate::lent_table::{LentArrays, LentTable};
 use crate::packed::{PackedEdge, PackedNode};
 use crate::rows::build_rows;
-use crate::table::{BuildFault, ComposeTable, LeafId, NodeId, Target};
+use crate::table::{BuildFault, BuildTable, ComposeTable, LeafId, NodeId, Target};
 use compose_read::Sequences;
 use keysym_core::Keysym;
 use std::alloc::{AllocError, Global};
 use std::marker::Model;
 
-/// All keysyms are below this number.
-const KEYSYMS: u32 = Keysym::GREATEST + 1;
-
 /// The number of bytes to allocate for each text at first. Few texts are longer, since most are one
 /// character.
 const COMMON_TEXT: usize = 3;
 
-/// A table as flat arrays: 8 bytes per node, 12 bytes per edge (4 of them hints), and for each leaf
+/// A table as flat arrays: 8 bytes per node, 10 bytes per edge (2 of them hints), and for each leaf
 /// 4 bytes and its text.
 #[derive(Drop)]
 pub struct PackedTable {
@@ -69,7 +66,7 @@ impl Model for PackedTable {
     ghost invariant = { λ t. IsPacked t.nodes.items t.edges.items t.offsets.items
         (string_bytes t.texts)
         (unpacked t.nodes.items t.edges.items t.offsets.items (string_bytes t.texts))
-        × (length t.hints ≡ 4 * length t.edges.items) };
+        × (length t.hints ≡ 2 * length t.edges.items) };
 }
 
 /// Returns the code of a target. There is no branch on the kind of target, since it would often be
@@ -83,17 +80,6 @@ fn pack_target(target: Target) -> u32
         Target::Leaf(leaf) => (leaf.0, 1),
     };
     number * 2 + leaf
-}
-
-/// Returns the target of a code.
-pub fn unpack_target(code: u32) -> Target
-    ensures { result ≡ unpacked_target code }
-{
-    if code % 2 == 0 {
-        Target::Node(NodeId(code / 2))
-    } else {
-        Target::Leaf(LeafId(code / 2))
-    }
 }
 
 /// Returns the number of edges of each of these nodes.
@@ -205,50 +191,6 @@ fn pack_texts(alloc: Global, sequences: &Sequences) -> Result<(Vec<u32>, String)
     Ok((offsets, texts))
 }
 
-/// Returns 1 if the keysym is at most the other, and else 0. This is arithmetic, since a comparison
-/// would become a branch, which a search mispredicts half of the time.
-fn at_most(keysym: Keysym, other: Keysym) -> usize
-    ensures one { keysym ≤ other → result ≡ 1 }
-    ensures zero { other < keysym → result ≡ 0 }
-{
-    ((other.value() + KEYSYMS - keysym.value()) / KEYSYMS) as usize
-}
-
-/// Returns the index of a keysym among edges in increasing order. O(log edges).
-fn index_of(edges: &[PackedEdge], keysym: Keysym) -> Option<usize>
-    requires { IsStrictlyIncreasing (keys_of edges.now) }
-    ensures { MatchOption result
-        ((k : ℕ) → k < length edges.now → slice_index (keys_of edges.now) k ≡ keysym → ⊥)
-        (λ i. (i < length edges.now) × (slice_index (keys_of edges.now) i ≡ keysym)) }
-{
-    let mut first = 0;
-    let mut count = edges.len();
-    while count > 1 {
-        let half = count / 2;
-        first += half * at_most(edges[first + half].keysym, keysym);
-        count -= half;
-    }
-    if count == 1 && edges[first].keysym == keysym {
-        Some(first)
-    } else {
-        None
-    }
-}
-
-/// Returns the index of a keysym among edges in increasing order. O(1) if the hint is right, and
-/// else O(log edges).
-pub fn index_by_hint(edges: &[PackedEdge], keysym: Keysym, hint: usize) -> Option<usize>
-    requires { IsStrictlyIncreasing (keys_of edges.now) }
-    ensures { MatchOption result
-        ((k : ℕ) → k < length edges.now → slice_index (keys_of edges.now) k ≡ keysym → ⊥)
-        (λ i. (i < length edges.now) × (slice_index (keys_of edges.now) i ≡ keysym)) }
-{
-    if hint < edges.len() && edges[hint].keysym == keysym {
-        return Some(hint);
-    }
-    index_of(edges, keysym)
-}
-
 /// Makes a table of these arrays, which are those of the sequences.
 fn from_arrays(
     sequences: &Sequences,
@@ -260,7 +202,7 @@ fn from_arrays(
 ) -> PackedTable
     requires packed { words.IsPacked nodes.items edges.items offsets.items
         (string_bytes texts) sequences.now }
-    requires hints { length hints ≡ 4 * length edges.items }
+    requires hints { length hints ≡ 2 * length edges.items }
     ensures { result ≡ sequences.now }
 {
     // Only the contract refers to them.
@@ -275,11 +217,8 @@ fn from_arrays(
 }
 
 impl PackedTable {
-    ghost use Rattle.std.specs.Prelude.{◌≡◌, ◌<◌, ◌*◌, length};
-    ghost use Rattle.compose_model.specs.Nodes as model;
-    ghost use Rattle.compose_read.specs.Settle.{IsSettled};
+    ghost use Rattle.std.specs.Prelude.{◌≡◌, ◌*◌, length};
     ghost use Rattle.compose_tree.specs.Packed.{unpacked};
-    ghost use Rattle.compose_tree.specs.Rows.{row_of};
 
     /// Returns its arrays. O(1).
     pub fn arrays(&self) -> LentArrays<'_>
@@ -287,7 +226,7 @@ impl PackedTable {
             result.texts.now ≡ self.now }
         ensures packed { words.IsPacked result.nodes.now result.edges.now result.offsets.now
             result.texts.now self.now }
-        ensures hints { length result.hints.now ≡ 4 * length result.edges.now }
+        ensures hints { length result.hints.now ≡ 2 * length result.edges.now }
     {
         LentArrays {
             nodes: self.nodes.as_slice(),
@@ -298,25 +237,59 @@ impl PackedTable {
         }
     }
 
-    /// Returns the edges of a node. O(1).
-    fn edges_of(&self, node: NodeId) -> &[PackedEdge]
-        requires { node.0 < length (model.nodes self.now) }
-        ensures value { result.now
-            ≡ map packed_edge (row_of self.now (model.node self.now node.0)).edges }
-        ensures settled { IsSettled self.now }
+    /// Returns the table in its arrays, by which it is read. O(1).
+    #[inline(always)]
+    fn lent(&self) -> LentTable<'_>
+        ensures { result ≡ self.now }
     {
-        let number = node.0 as usize;
-        let first = self.nodes[number].first as usize;
-        let end = self.nodes[number + 1].first as usize;
-        let (_, from_first) = self.edges.split_at(first);
-        let (own, _) = from_first.split_at(end - first);
-        own
+        let arrays = self.arrays();
+        LentTable::of(
+            arrays.nodes,
+            arrays.edges,
+            arrays.offsets,
+            arrays.texts,
+            arrays.hints,
+        )
     }
 }
 
 impl ComposeTable for PackedTable {
     ghost definitions = { λ t. t };
 
+    fn node_count(&self) -> u32 {
+        self.lent().node_count()
+    }
+
+    fn leaf_count(&self) -> u32 {
+        self.lent().leaf_count()
+    }
+
+    fn depth(&self, node: NodeId) -> u32 {
+        self.lent().depth(node)
+    }
+
+    fn edge_count(&self, node: NodeId) -> u32 {
+        self.lent().edge_count(node)
+    }
+
+    fn edge(&self, node: NodeId, index: u32) -> (Keysym, Target) {
+        self.lent().edge(node, index)
+    }
+
+    fn find(&self, node: NodeId, keysym: Keysym) -> Option<u32> {
+        self.lent().find(node, keysym)
+    }
+
+    fn step(&self, node: NodeId, keysym: Keysym) -> Option<Target> {
+        self.lent().step(node, keysym)
+    }
+
+    fn text(&self, leaf: LeafId) -> &str {
+        self.lent().text_of(leaf)
+    }
+}
+
+impl BuildTable for PackedTable {
     fn build(alloc: Global, sequences: Sequences) -> Result<Self, BuildFault> {
         let rows = build_rows(alloc, &sequences)?;
         let (depths, node_edges) = rows.parts();
@@ -325,51 +298,5 @@ impl ComposeTable for PackedTable {
         let edges = pack_edges(alloc, &nodes, depths, node_edges, &mut hints)?;
         let (offsets, texts) = pack_texts(alloc, &sequences)?;
         Ok(from_arrays(&sequences, nodes, edges, offsets, texts, hints))
-    }
-
-    fn node_count(&self) -> u32 {
-        (self.nodes.len() - 1) as u32
-    }
-
-    fn leaf_count(&self) -> u32 {
-        (self.offsets.len() - 1) as u32
-    }
-
-    fn depth(&self, node: NodeId) -> u32 {
-        self.nodes[node.0 as usize].depth
-    }
-
-    fn edge_count(&self, node: NodeId) -> u32 {
-        self.edges_of(node).len() as u32
-    }
-
-    fn edge(&self, node: NodeId, index: u32) -> (Keysym, Target) {
-        let edge = self.edges_of(node)[index as usize];
-        (edge.keysym, unpack_target(edge.target))
-    }
-
-    fn find(&self, node: NodeId, keysym: Keysym) -> Option<u32> {
-        let hint = self.hints.index_of(node, keysym);
-        let Some(index) = index_by_hint(self.edges_of(node), keysym, hint) else {
-            return None;
-        };
-        Some(index as u32)
-    }
-
-    fn step(&self, node: NodeId, keysym: Keysym) -> Option<Target> {
-        let edges = self.edges_of(node);
-        let hint = self.hints.index_of(node, keysym);
-        let Some(index) = index_by_hint(edges, keysym, hint) else {
-            return None;
-        };
-        Some(unpack_target(edges[index].target))
-    }
-
-    fn text(&self, leaf: LeafId) -> &str {
-        let number = leaf.0 as usize;
-        let first = self.offsets[number] as usize;
-        let end = self.offsets[number + 1] as usize;
-        let texts = self.texts.as_str();
-        &texts[first..end]
     }
 }

@@ -2,7 +2,7 @@
 ghost use Rattle.std.specs.Prelude.{◌≡◌, [], Err};
 ghost use Rattle.compose_tree.specs.TableReturns.{TableReturns, first_table, table_of};
 
-use crate::table::{BuildFault, ComposeTable};
+use crate::table::{BuildFault, BuildTable};
 use compose_model::Rule;
 use compose_read::{ReadFault, SettleFault, Sources, read_definitions, settle};
 use keysym_core::Names;
@@ -74,7 +74,7 @@ impl From<BuildFault> for TableFault {
 ///
 /// Errors: the first of `Read` for a fault of the sources, `Settle` for an overlap that the rule
 /// refuses, and `Build` for too many nodes; or `NoMemory`.
-pub fn read_table<T: ComposeTable>(
+pub fn read_table<T: BuildTable>(
     alloc: Global,
     names: &Names,
     sources: &Sources,
@@ -92,7 +92,7 @@ pub fn read_table<T: ComposeTable>(
 /// Reads the table whose root is the first source, as [`read_table`] does.
 ///
 /// Errors: those of [`read_table`]; without a source, the error is that the root is missing.
-pub fn read_first_table<T: ComposeTable>(
+pub fn read_first_table<T: BuildTable>(
     alloc: Global,
     names: &Names,
     sources: &Sources,

@@ -64,7 +64,7 @@ impl<T: Drop> From<AllocFailed<T>> for BuildFault {
     }
 }
 
-/// A compose table by its nodes and edges, in any form. Only `build` allocates memory.
+/// A compose table by its nodes and edges, in any form. No call allocates memory.
 ///
 /// Its meaning is a list of settled definitions. The nodes are the empty list, which is the root,
 /// and the proper prefixes of the sequences; the leaves are the sequences. Both are numbered in the
@@ -72,15 +72,6 @@ impl<T: Drop> From<AllocFailed<T>> for BuildFault {
 pub trait ComposeTable: Sized + Drop {
     /// The definitions that are the meaning of the table.
     ghost definitions: { Self → List Definition };
-
-    /// Builds the table of these sequences. O(keysyms of all sequences).
-    ///
-    /// Errors: `TooManyNodes` if they have more than 1,048,576 nodes, or `NoMemory`.
-    fn build(alloc: Global, sequences: Sequences) -> Result<Self, BuildFault>
-        ensures ok { IfOk result (λ table. definitions table ≡ sequences) }
-        ensures few { IfOk result (λ _. length (nodes sequences) ≤ max_nodes) }
-        ensures many { IfErr result
-            (λ fault. fault ≡ BuildFault.TooManyNodes → max_nodes < length (nodes sequences)) };
 
     /// Returns the number of nodes, at least 1 and at most 1,048,576. O(1).
     fn node_count(&self) -> u32
@@ -145,4 +136,16 @@ pub trait ComposeTable: Sized + Drop {
         requires { leaf.0 < length (leaves (definitions self.now)) }
         ensures value { leaf_text (definitions self.now) leaf.0 ≡ Some result.now }
         ensures few { length result.now ≤ 255 };
+}
+
+/// A compose table that is built from sequences.
+pub trait BuildTable: ComposeTable {
+    /// Builds the table of these sequences. O(keysyms of all sequences).
+    ///
+    /// Errors: `TooManyNodes` if they have more than 1,048,576 nodes, or `NoMemory`.
+    fn build(alloc: Global, sequences: Sequences) -> Result<Self, BuildFault>
+        ensures ok { IfOk result (λ table. Self.definitions table ≡ sequences) }
+        ensures few { IfOk result (λ _. length (nodes sequences) ≤ max_nodes) }
+        ensures many { IfErr result
+            (λ fault. fault ≡ BuildFault.TooManyNodes → max_nodes < length (nodes sequences)) };
 }

@@ -4,7 +4,7 @@ use compose_cert::Repertoire;
 use compose_model::Rule;
 use compose_read::Sources;
 use compose_service::{Service, StartFault};
-use compose_tree::{ComposeTable, PackedTable, read_first_table};
+use compose_tree::{BuildTable, PackedTable, read_first_table};
 use compose_wire::{Feeder, Request};
 use keysym_core::Names;
 
@@ -49,7 +49,7 @@ pub fn read_sources(rt: &HostRuntime, path: &str) -> Result<Sources<'static>, Fa
 
 /// Reads the table of a file. `Err(File)` if the file can't be read, `Err(Input)` if it is not a
 /// table.
-pub fn read_table<T: ComposeTable>(
+pub fn read_table<T: BuildTable>(
     rt: &HostRuntime,
     names: &Names,
     path: &str,

@@ -10,7 +10,7 @@ use compose_migration::{MigrationInput, TableInput};
 use compose_model::Rule;
 use compose_read::Sources;
 use compose_tool::make_migration;
-use compose_tree::ComposeTable;
+use compose_tree::BuildTable;
 use std::alloc::Global;
 use thiserror::Error;
 
@@ -66,7 +66,7 @@ pub enum UpdateFault {
 /// The parts are read in the order of `make_migration`. Errors: `Input` with the first of them that
 /// is refused, or if memory runs out; `TooLarge` if no load can carry the new table and its
 /// certificate.
-pub fn decide_update<T: ComposeTable>(
+pub fn decide_update<T: BuildTable>(
     alloc: Global,
     input: &UpdateInput<'_, '_>,
 ) -> Result<Update, UpdateFault>
@@ -79,7 +79,7 @@ pub fn decide_update<T: ComposeTable>(
 }
 
 /// Decides the update of a table that is in use.
-fn follow<T: ComposeTable>(
+fn follow<T: BuildTable>(
     alloc: Global,
     input: &UpdateInput<'_, '_>,
     current: &Sources,
@@ -102,7 +102,7 @@ fn follow<T: ComposeTable>(
 }
 
 /// Stores the new table, which a running service takes with this certificate.
-fn store<T: ComposeTable>(
+fn store<T: BuildTable>(
     alloc: Global,
     input: &UpdateInput<'_, '_>,
     certificate: Option<String>,

@@ -5,7 +5,7 @@ use crate::failure::Failure;
 use crate::input::{read_names, read_sources, read_table};
 use compose_model::Rule;
 use compose_read::{Definitions, Sequences, Sources, read_definitions, settle};
-use compose_tree::{ComposeTable, LeafId, NodeId, PackedTable};
+use compose_tree::{BuildTable, ComposeTable, LeafId, NodeId, PackedTable};
 use keysym_core::Names;
 
 /// The least times of the three parts of a compilation, and of the whole.

@@ -9,7 +9,7 @@ use compose_check::{CheckInput, Verdict, check_bytes};
 use compose_model::Rule;
 use compose_read::Sources;
 use compose_service::Service;
-use compose_tree::ComposeTable;
+use compose_tree::BuildTable;
 use compose_wire::{Body, Payload, ReplyBody, Request};
 
 /// The number of times that the table is loaded, and the same bytes are checked.
@@ -25,7 +25,7 @@ struct Parts {
 
 /// Loads the table of a file into a service over it, and checks the same bytes, in turn. Prints the
 /// least times. Errors: see [`Failure`].
-pub fn load<T: ComposeTable>(
+pub fn load<T: BuildTable>(
     rt: &HostRuntime,
     service: &mut Service<T>,
     files: &[&str; 3],
@@ -48,7 +48,7 @@ fn read_parts(rt: &HostRuntime, files: &[&str; 3]) -> Result<Parts, Failure> {
 }
 
 /// Loads and checks these parts.
-fn load_parts<T: ComposeTable>(
+fn load_parts<T: BuildTable>(
     rt: &HostRuntime,
     service: &mut Service<T>,
     parts: &Parts,
@@ -69,7 +69,7 @@ fn load_of(rt: &HostRuntime, parts: &Parts) -> Result<Request, Failure> {
 }
 
 /// Prints the least times of the request and of a check.
-fn measure<T: ComposeTable>(
+fn measure<T: BuildTable>(
     rt: &HostRuntime,
     service: &mut Service<T>,
     request: &Request,
@@ -88,7 +88,7 @@ fn measure<T: ComposeTable>(
 }
 
 /// Loads the table.
-fn load_round<T: ComposeTable>(
+fn load_round<T: BuildTable>(
     rt: &HostRuntime,
     service: &mut Service<T>,
     request: &Request,
@@ -102,17 +102,13 @@ fn load_round<T: ComposeTable>(
 }
 
 /// Whether the service accepts the load.
-fn is_loaded<T: ComposeTable>(
-    rt: &HostRuntime,
-    service: &mut Service<T>,
-    request: &Request,
-) -> bool {
+fn is_loaded<T: BuildTable>(rt: &HostRuntime, service: &mut Service<T>, request: &Request) -> bool {
     let reply = service.answer(rt.alloc(), request);
     matches!(&reply.answer, ReplyBody::Loaded(_))
 }
 
 /// Checks the same bytes.
-fn check_round<T: ComposeTable>(
+fn check_round<T: BuildTable>(
     rt: &HostRuntime,
     parts: &Parts,
     stopwatch: &mut Stopwatch,
@@ -125,7 +121,7 @@ fn check_round<T: ComposeTable>(
 }
 
 /// Whether the certificate is valid for the table against itself.
-fn is_valid<T: ComposeTable>(rt: &HostRuntime, parts: &Parts) -> bool {
+fn is_valid<T: BuildTable>(rt: &HostRuntime, parts: &Parts) -> bool {
     let input = CheckInput {
         header: &parts.header,
         old: &parts.sources,

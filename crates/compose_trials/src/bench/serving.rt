@@ -4,14 +4,14 @@ use crate::input::{read_file, read_names, read_sources};
 use compose_cert::Repertoire;
 use compose_model::Rule;
 use compose_service::Service;
-use compose_tree::ComposeTable;
+use compose_tree::BuildTable;
 use compose_wire::{Body, Reply, ReplyBody, Request};
 use keysym_core::Names;
 
 /// Starts a service over the table of a file, without a repertoire. The files are those of the
 /// names, the table and its certificate against itself. `Err(File)` if one can't be read,
 /// `Err(Input)` if no service starts; other errors: see [`Failure`].
-pub fn start<T: ComposeTable>(rt: &HostRuntime, files: &[&str; 3]) -> Result<Service<T>, Failure> {
+pub fn start<T: BuildTable>(rt: &HostRuntime, files: &[&str; 3]) -> Result<Service<T>, Failure> {
     let [header, path, certificate] = files;
     let certificate = read_file(rt, certificate)?;
     let names = read_names(rt, header)?;
@@ -19,7 +19,7 @@ pub fn start<T: ComposeTable>(rt: &HostRuntime, files: &[&str; 3]) -> Result<Ser
 }
 
 /// Does the same with these names and this certificate.
-fn start_with<T: ComposeTable>(
+fn start_with<T: BuildTable>(
     rt: &HostRuntime,
     names: Names,
     path: &str,
@@ -57,7 +57,7 @@ pub fn read_count(argument: &str) -> Result<u32, Failure> {
 }
 
 /// Sends a request to the service, and returns its reply.
-pub fn ask<T: ComposeTable>(
+pub fn ask<T: BuildTable>(
     rt: &HostRuntime,
     service: &mut Service<T>,
     session: u32,
@@ -68,7 +68,7 @@ pub fn ask<T: ComposeTable>(
 }
 
 /// Opens the sessions 0, 1 and so on, up to this number. `Err(Input)` if one is refused.
-pub fn open_sessions<T: ComposeTable>(
+pub fn open_sessions<T: BuildTable>(
     rt: &HostRuntime,
     service: &mut Service<T>,
     count: u32,
@@ -84,7 +84,7 @@ pub fn open_sessions<T: ComposeTable>(
 
 /// Closes the sessions from `from` on, up to but not including `to`. `Err(Input)` if one is
 /// refused.
-pub fn close_sessions<T: ComposeTable>(
+pub fn close_sessions<T: BuildTable>(
     rt: &HostRuntime,
     service: &mut Service<T>,
     from: u32,

@@ -10,7 +10,7 @@ use arrayvec::ArrayString;
 use compose_model::Status;
 use compose_service::Service;
 use compose_state::ComposeState;
-use compose_tree::ComposeTable;
+use compose_tree::{BuildTable, ComposeTable};
 use compose_wire::{Body, Reply, ReplyBody, Request};
 use keysym_core::{Keysym, Names};
 
@@ -37,7 +37,7 @@ struct Times {
 
 /// Types the keys of a file in this number of sessions, in turn, each from another place in the
 /// file: through a service, and without one. Errors: see [`Failure`].
-pub fn type_in_sessions<T: ComposeTable>(
+pub fn type_in_sessions<T: BuildTable>(
     rt: &HostRuntime,
     service: &mut Service<T>,
     files: &[&str; 3],
@@ -51,7 +51,7 @@ pub fn type_in_sessions<T: ComposeTable>(
 }
 
 /// Measures the keys with the names of a file.
-fn measure_keys<T: ComposeTable>(
+fn measure_keys<T: BuildTable>(
     rt: &HostRuntime,
     header: &str,
     service: &mut Service<T>,
@@ -65,7 +65,7 @@ fn measure_keys<T: ComposeTable>(
 /// Prints the least times of typing the keys without a service, through it, and through it with
 /// each reply handed out as a whole. The rounds alternate; each key has the same answer in all
 /// three.
-fn measure_rounds<T: ComposeTable>(
+fn measure_rounds<T: BuildTable>(
     rt: &HostRuntime,
     names: &Names,
     service: &mut Service<T>,
@@ -174,7 +174,7 @@ fn feed_all<T: ComposeTable>(
 }
 
 /// Types the keys through the service, in sessions that are opened for the round.
-fn answer_round<T: ComposeTable>(
+fn answer_round<T: BuildTable>(
     rt: &HostRuntime,
     service: &mut Service<T>,
     presses: &[Press],
@@ -190,7 +190,7 @@ fn answer_round<T: ComposeTable>(
 }
 
 /// Has the service answer each key into one reply, and reads the status and the text each time.
-fn answer_all<T: ComposeTable>(
+fn answer_all<T: BuildTable>(
     rt: &HostRuntime,
     service: &mut Service<T>,
     presses: &[Press],
@@ -212,7 +212,7 @@ fn answer_all<T: ComposeTable>(
 }
 
 /// Does the same with each reply handed out as a whole.
-fn whole_round<T: ComposeTable>(
+fn whole_round<T: BuildTable>(
     rt: &HostRuntime,
     service: &mut Service<T>,
     presses: &[Press],
@@ -228,7 +228,7 @@ fn whole_round<T: ComposeTable>(
 }
 
 /// Has the service answer each key into one reply, which is handed out as a whole each time.
-fn answer_all_whole<T: ComposeTable>(
+fn answer_all_whole<T: BuildTable>(
     rt: &HostRuntime,
     service: &mut Service<T>,
     presses: &[Press],
@@ -269,7 +269,7 @@ fn fed_of(reply: &Reply) -> Option<(Status, &str)> {
 
 /// Opens this number of sessions, and closes them from the first to the last. The first is measured
 /// by itself, since it comes before all others. Errors: see [`Failure`].
-pub fn open_and_close<T: ComposeTable>(
+pub fn open_and_close<T: BuildTable>(
     rt: &HostRuntime,
     service: &mut Service<T>,
     count: &str,
@@ -279,7 +279,7 @@ pub fn open_and_close<T: ComposeTable>(
 }
 
 /// Prints the least times of opening and closing the sessions.
-fn measure_opening<T: ComposeTable>(
+fn measure_opening<T: BuildTable>(
     rt: &HostRuntime,
     service: &mut Service<T>,
     count: u32,
@@ -303,7 +303,7 @@ fn measure_opening<T: ComposeTable>(
 }
 
 /// Opens the sessions and closes them.
-fn open_and_close_round<T: ComposeTable>(
+fn open_and_close_round<T: BuildTable>(
     rt: &HostRuntime,
     service: &mut Service<T>,
     count: u32,

@@ -4,8 +4,8 @@ use Rattle.compose_tree.proofs.Lookups.{edges_few}
 use Rattle.compose_tree.proofs.PackedLookups.{keys_rise, step_none, index_read}
 use Rattle.compose_tree.proofs.lent_table.LentTableComposeTable.find.Goals as goal
 
-pub index_by_hint-requires : goal.index_by_hint-requires
-index_by_hint-requires c = keys_rise c.args.self.now (node c.args.self.now c.args.node.0) c.edges_of.result.now c.edges_of.ensures.value
+pub index_by_hints-requires : goal.index_by_hints-requires
+index_by_hints-requires c = keys_rise c.args.self.now (node c.args.self.now c.args.node.0) c.edges_of.result.now c.edges_of.ensures.value
 
 pub returns-in_default : goal.returns-in_default
 returns-in_default c = sym (step_none c.args.self.now (node c.args.self.now c.args.node.0) c.args.keysym c.edges_of.result.now c.edges_of.ensures.value c.in_default.ensures)

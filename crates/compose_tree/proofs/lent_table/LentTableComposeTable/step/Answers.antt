@@ -6,8 +6,8 @@ use Rattle.compose_tree.specs.Targets.{target_of}
 use Rattle.compose_tree.proofs.PackedLookups.{keys_rise, step_none, key_there, edge_read}
 use Rattle.compose_tree.proofs.lent_table.LentTableComposeTable.step.Goals as goal
 
-pub index_by_hint-requires : goal.index_by_hint-requires
-index_by_hint-requires c = keys_rise c.args.self.now (node c.args.self.now c.args.node.0) c.edges_of-edges.result.now c.edges_of-edges.ensures.value
+pub index_by_hints-requires : goal.index_by_hints-requires
+index_by_hints-requires c = keys_rise c.args.self.now (node c.args.self.now c.args.node.0) c.edges_of-edges.result.now c.edges_of-edges.ensures.value
 
 pub returns-in_default : goal.returns-in_default
 returns-in_default c = step_none c.args.self.now (node c.args.self.now c.args.node.0) c.args.keysym c.edges_of-edges.result.now c.edges_of-edges.ensures.value c.in_default.ensures

@@ -8,7 +8,7 @@ use Rattle.compose_tree.specs.declared.packed.PackedEdge.{PackedEdge}
 use Rattle.compose_tree.specs.Packed.{IsPacked, texts_of}
 use Rattle.compose_tree.proofs.PackedLookups.{packed_as}
 use Rattle.compose_tree.proofs.PackedTexts.{TextBetween, leaf_entries, text_between, leaf_text_found}
-use Rattle.compose_tree.proofs.lent_table.LentTableComposeTable.text.Goals as goal
+use Rattle.compose_tree.proofs.lent_table.LentTable.text_of.Goals as goal
 
 -- the place of the text of leaf i in the arrays of a table
 stands : (nodes' : List PackedNode) (edges' : List PackedEdge) (offsets bytes : List ℕ) (table : List Definition) → IsPacked nodes' edges' offsets bytes table

@@ -1,6 +1,6 @@
 use Rattle.std.proofs.Common.{◌+◌, ◌<◌, ◌≤◌, ℕ, length, slice_index}
 use Rattle.compose_tree.specs.Packed.{keys_of}
-use Rattle.compose_tree.proofs.packed_table.index_of.Given as goal
+use Rattle.compose_tree.proofs.lent_table.index_of.Given as goal
 
 -- if the keysym is there at all, it is at one of `count` indexes from the first
 abbrev pub invariant-loop-count : goal.invariant-loop-count

@@ -3,8 +3,8 @@ use Rattle.std.proofs.lemmas.Bool.{eqb-false, cases_lt}
 use Rattle.compose_tree.specs.Packed.{keys_of}
 use Rattle.compose_tree.specs.declared.packed.PackedEdge.{PackedEdge}
 use Rattle.compose_tree.proofs.PackedLookups.{key_there, less_below, greater_from, nowhere_else}
-use Rattle.compose_tree.proofs.packed_table.index_of.Goals as goal
-use Rattle.compose_tree.proofs.packed_table.index_of.Goals.{else-count-eq1-via-then-count-eq1+else-eq, else-count-eq1-via-else-count-eq1}
+use Rattle.compose_tree.proofs.lent_table.index_of.Goals as goal
+use Rattle.compose_tree.proofs.lent_table.index_of.Goals.{else-count-eq1-via-then-count-eq1+else-eq, else-count-eq1-via-else-count-eq1}
 
 pub loop-count-preserved : goal.loop-count-preserved
 loop-count-preserved c =

@@ -1,7 +1,7 @@
 use Rattle.std.proofs.Common.{◌∙◌, length, ap, arith}
 use Rattle.compose_tree.proofs.Counts.{edges_few_in_all, edges_packed, numbers_few}
 use Rattle.compose_tree.proofs.Lookups.{leaves_count}
-use Rattle.compose_tree.proofs.packed_table.PackedTableComposeTable.build.Goals as goal
+use Rattle.compose_tree.proofs.packed_table.PackedTableBuildTable.build.Goals as goal
 
 pub pack_nodes-requires-clause-few : goal.pack_nodes-requires-clause-few
 pack_nodes-requires-clause-few c =
