@@ -299,9 +299,9 @@ def compiled(folder, results):
 class Probe:
     """A probe that runs, and answers a line at a time; at the end `said` is what it logged."""
 
-    def __init__(self, *words, **environment):
+    def __init__(self, *words):
         pipe, self.errors = subprocess.PIPE, tempfile.TemporaryFile("w+", encoding="utf-8")
-        self.process = subprocess.Popen(words, stdin=pipe, stdout=pipe, stderr=self.errors, text=True, bufsize=1, env={**os.environ, **environment})
+        self.process = subprocess.Popen(words, stdin=pipe, stdout=pipe, stderr=self.errors, text=True, bufsize=1)
 
     def __enter__(self):
         return self
@@ -376,8 +376,9 @@ def check_journal(probe, _, results):
 def check_state_folder(probe, _, results):
     """Where a table is looked for: as `update` does."""
     for changes, wanted in (({"XDG_STATE_HOME": "/s"}, "/s/composecheck/table"), ({"XDG_STATE_HOME": "", "HOME": "/h"}, "/h/.local/state/composecheck/table")):
-        with Probe(probe, "stored", **changes) as asked:
-            results.expect(f"the stored table with {changes}", asked.ask(), [wanted])
+        # (it ends without a look at standard input, which may then be written to no more)
+        asked = subprocess.run([probe, "stored"], capture_output=True, text=True, env={**os.environ, **changes})
+        results.expect(f"the stored table with {changes}", (asked.stdout, asked.stderr), (f"{wanted}\n", ""))
 
 
 # ---- keys

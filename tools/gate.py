@@ -6,6 +6,7 @@
   - the command-line cases, inputs at their limits and the service over real sockets, with both built programs: `composecheck` and the same on the plain form of a table,
   - with `composecheck`, some of the cases again with each allocation refused in turn, second readings of lines, tables and streams, files that are written, many
     connections at once, README's script, and both packages,
+  - the C libraries, and the input methods over them,
   - single calls with each growth of their memory refused in turn, streams over devices that fail, and many clients on a network in memory.
 
 What a run proved is kept on this machine by the checksums of all that it read, and so is which edits were refused: in the kit's store, or
@@ -34,7 +35,7 @@ import measured
 
 TOP = measured.TOP
 sys.path.append(os.path.join(TOP, "tests"))
-from harness import build_libraries, follow
+from harness import PROVED, build_libraries, follow
 
 PROGRAM = os.path.join(TOP, "composecheck")
 # What a check and the rest of the machine need, in bytes.
@@ -49,6 +50,11 @@ def built(crate):
 def script(name, *words):
     """Returns the command that runs one of the scripts of tests/."""
     return [sys.executable, os.path.join("tests", name), *words]
+
+
+def run_quietly(command):
+    """Runs a command, and returns its lines and its counts."""
+    return follow(command, is_quiet=True)
 
 
 def print_whole(lines, counts):
@@ -95,15 +101,24 @@ def use_all_processors(rt):
 
 def commands():
     """Returns the commands that run the built programs, the slowest first, once `composecheck` itself is at PROGRAM."""
-    shutil.copy(built("composecheck"), PROGRAM)
-    build_libraries()
     plain, trials = built("composecheck_list"), built("compose_trials")
     runs = [(it, PROGRAM) for it in ("refusals.py", "diff.py", "how.py", "lint.py")]
     runs += [(it, program) for it in ("cases.py", "service.py", "limits.py") for program in (PROGRAM, plain)]
     runs += [("devices.py", trials), ("calls.py", trials), ("network.py", trials)]
-    runs += [(it, PROGRAM) for it in ("once.py", "packages.py", "lex_reference.py", "at_once.py", "streams.py", "update.py", "outputs.py", "ci.py", "readme.py", "engine.py", "client.py", "installed.py")]
-    runs += [("snippets.py", PROGRAM), ("valid_pages.py", PROGRAM), ("makefile.py",), ("documents.py",), ("library.py",)]
+    runs += [(it, PROGRAM) for it in ("once.py", "packages.py", "lex_reference.py", "at_once.py", "streams.py", "update.py", "outputs.py", "ci.py", "readme.py", "client.py", "installed.py")]
+    runs += [("snippets.py", PROGRAM), ("valid_pages.py", PROGRAM), ("makefile.py",), ("documents.py",)]
     return [script(*it) for it in runs]
+
+
+def run_programs(pool):
+    """Runs the scripts over the built programs, and returns their counts. The library of tables is proved and built beside those that do without it."""
+    shutil.copy(built("composecheck"), PROGRAM)
+    build_libraries()
+    library = pool.submit(follow, ["make", "-s", PROVED], is_quiet=True)
+    every = [print_whole(*it) for it in pool.map(run_quietly, commands())]
+    every.append(print_whole(*library.result()))
+    build_libraries()
+    return every + [print_whole(*it) for it in pool.map(run_quietly, [script("engine.py", PROGRAM), script("library.py")])]
 
 
 def main():
@@ -116,7 +131,7 @@ def main():
         beside = [pool.submit(follow, ["nice", *it], is_quiet=True) for it in (script("edits_test.py"), script("examples.py", file))]
         every = [prove(sys.argv[1:], file, names_of), *(print_whole(*it.result()) for it in beside)]
         if not any(failed for _, failed in every):
-            every += [print_whole(*it) for it in pool.map(lambda it: follow(it, is_quiet=True), commands())]
+            every += run_programs(pool)
         table = measured.table_of(measured.rows_of(file), {it: len(names) for it, names in names_of.items()})
     passed, failed = map(sum, zip(*every))
     used = resource.getrusage(resource.RUSAGE_CHILDREN)
