@@ -129,8 +129,7 @@ static uint8_t *bundle;
 static size_t bundle_length;
 static struct composecheck_node *nodes;
 static struct composecheck_edge *edges;
-static uint32_t *offsets;
-static uint8_t *texts, *hints;
+static uint8_t *texts, *long_texts, *hints;
 
 static void keep_arrays(void)
 {
@@ -140,10 +139,10 @@ static void keep_arrays(void)
     bundle = calloc(1, bundle_length);
     nodes = calloc(sizes->nodes, sizeof *nodes);
     edges = calloc(sizes->edges, sizeof *edges);
-    offsets = calloc(sizes->offsets, sizeof *offsets);
     texts = calloc(1, sizes->texts);
+    long_texts = calloc(1, sizes->long_texts);
     hints = calloc(1, sizes->hints);
-    if (!bundle || !nodes || !edges || !offsets || !texts || !hints)
+    if (!bundle || !nodes || !edges || !texts || !long_texts || !hints)
         exit(2);
     memcpy(bundle, head, sizeof head);
     memcpy(bundle + sizeof head, bytes, length);
@@ -155,8 +154,8 @@ static void our_compiling(void)
     const uint8_t *header = composecheck_builtin_names(&header_length);
     struct composecheck_sizes sizes = table->sizes;
     struct composecheck_fault fault;
-    if (composecheck_compile(header, header_length, bundle, bundle_length, true, nodes, sizes.nodes, edges, sizes.edges, offsets, sizes.offsets, texts,
-                             sizes.texts, hints, sizes.hints, &sizes, &fault) != COMPOSECHECK_DONE)
+    if (composecheck_compile(header, header_length, bundle, bundle_length, true, nodes, sizes.nodes, edges, sizes.edges, texts, sizes.texts, long_texts,
+                             sizes.long_texts, hints, sizes.hints, &sizes, &fault) != COMPOSECHECK_DONE)
         exit(2);
 }
 

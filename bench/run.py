@@ -109,7 +109,7 @@ def compare_compiling(trials, folder, aims):
     """From bytes to a table."""
     times = least_figures({"ours": [trials, "bench", "compile", "names", ENGLISH], "theirs": ["./xkb", "compile", ENGLISH, "200"]}, folder, 5)
     ours, theirs = times["ours"], times["theirs"]
-    memory = 8 * (ours["nodes"] + 1) + 10 * ours["edges"] + 4 * (ours["sequences"] + 1) + ours["text bytes"]
+    memory = ours["bytes"]
     print(f"table: {ours['nodes']} nodes, {ours['edges']} edges, {ours['root edges']} root edges, {ours['sequences']} sequences")
     print(f"memory: {memory} bytes of arrays; libxkbcommon {theirs['memory']}; ratio {memory / theirs['memory']:.2f}")
     for part in ["read", "settle", "build", "compile"]:

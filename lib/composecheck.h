@@ -40,10 +40,10 @@ extern "C" {
 
 /* Entries of a table. What they hold is the library's own. */
 struct composecheck_node { uint32_t depth, first; };
-struct composecheck_edge { uint32_t keysym, target; };
+struct composecheck_edge { uint32_t target, keysym; };
 
 /* How many entries the arrays of a table have. */
-struct composecheck_sizes { size_t nodes, edges, offsets, texts, hints, reserved[3]; };
+struct composecheck_sizes { size_t nodes, edges, texts, long_texts, hints, reserved[3]; };
 
 /* A state. Zeros are at rest, and any numbers are a state: if count is above 31, or one of that many pending numbers above 0x1fffffff,
  * nothing is pending; a status above 3 is nothing; any hints serve. It may be copied and kept. */
@@ -80,17 +80,17 @@ struct composecheck_fault { uint32_t part, code, lexical, value; uint64_t source
  * MALLOC */
 uint32_t composecheck_compile(const uint8_t *header, size_t header_length, const uint8_t *bundle, size_t bundle_length, bool longest,
                               struct composecheck_node *nodes, size_t node_room, struct composecheck_edge *edges, size_t edge_room,
-                              uint32_t *offsets, size_t offset_room, uint8_t *texts, size_t text_room, uint8_t *hints, size_t hint_room,
+                              uint8_t *texts, size_t text_room, uint8_t *long_texts, size_t long_text_room, uint8_t *hints, size_t hint_room,
                               struct composecheck_sizes *sizes, struct composecheck_fault *fault);
 
 /* As composecheck_compile, and fills results besides with the result keysym of each sequence, one for each text and in their order;
- * *result_count says how many they are, one less than offsets. It is the keysym that the line names which counts for the sequence; if it
+ * *result_count says how many they are, a quarter of the bytes of texts. It is the keysym that the line names which counts for the sequence; if it
  * names none, the least keysym of the text's character; and 0 (XKB_KEY_NoSymbol) if the text isn't one character, or no keysym has it.
  * TOO_SMALL also if results has less room than *result_count says. If it isn't DONE, results stays as it was, and if it is REFUSED, *result_count
  * does. MALLOC */
 uint32_t composecheck_compile_with_results(const uint8_t *header, size_t header_length, const uint8_t *bundle, size_t bundle_length, bool longest,
                                            struct composecheck_node *nodes, size_t node_room, struct composecheck_edge *edges, size_t edge_room,
-                                           uint32_t *offsets, size_t offset_room, uint8_t *texts, size_t text_room, uint8_t *hints,
+                                           uint8_t *texts, size_t text_room, uint8_t *long_texts, size_t long_text_room, uint8_t *hints,
                                            size_t hint_room, uint32_t *results, size_t result_room, struct composecheck_sizes *sizes,
                                            size_t *result_count, struct composecheck_fault *fault);
 
@@ -103,14 +103,14 @@ uint32_t composecheck_explain(const uint8_t *header, size_t header_length, const
  * sequence commits which the key completes, without an end mark; a key that is part of no sequence commits none here.
  * Premise: the arrays are a table. */
 uint32_t composecheck_feed(const struct composecheck_node *nodes, size_t node_count, const struct composecheck_edge *edges, size_t edge_count,
-                           const uint32_t *offsets, size_t offset_count, const uint8_t *texts, size_t text_count,
+                           const uint8_t *texts, size_t text_count, const uint8_t *long_texts, size_t long_text_count,
                            const uint8_t *hints, size_t hint_count, struct composecheck_state *state, uint32_t keysym,
                            uint8_t text[COMPOSECHECK_MOST_TEXT], uint32_t *text_length);
 
 /* Takes the state over to another table, also in the middle of a sequence: what is pending is typed anew there, and nothing is committed.
  * Premise: the arrays are a table. */
 void composecheck_refeed(const struct composecheck_node *nodes, size_t node_count, const struct composecheck_edge *edges, size_t edge_count,
-                         const uint32_t *offsets, size_t offset_count, const uint8_t *texts, size_t text_count,
+                         const uint8_t *texts, size_t text_count, const uint8_t *long_texts, size_t long_text_count,
                          const uint8_t *hints, size_t hint_count, struct composecheck_state *state);
 
 void composecheck_reset(struct composecheck_state *state);
@@ -125,7 +125,7 @@ uint32_t composecheck_pending(const struct composecheck_state *state, uint32_t k
  * text that it would commit. False if index is not below their number; what it points to then stays as it was.
  * Premise: the arrays are a table. */
 bool composecheck_following(const struct composecheck_node *nodes, size_t node_count, const struct composecheck_edge *edges, size_t edge_count,
-                            const uint32_t *offsets, size_t offset_count, const uint8_t *texts, size_t text_count,
+                            const uint8_t *texts, size_t text_count, const uint8_t *long_texts, size_t long_text_count,
                             const uint8_t *hints, size_t hint_count, const struct composecheck_state *state, uint32_t index,
                             uint32_t *keysym, uint32_t *status, uint8_t text[COMPOSECHECK_MOST_TEXT], uint32_t *text_length);
 
@@ -133,7 +133,7 @@ bool composecheck_following(const struct composecheck_node *nodes, size_t node_c
  * the table. 0 if it completes none, if the sequence has none, or if results ends before it. The state stays as it is.
  * Premise: the arrays are a table. */
 uint32_t composecheck_result(const struct composecheck_node *nodes, size_t node_count, const struct composecheck_edge *edges, size_t edge_count,
-                             const uint32_t *offsets, size_t offset_count, const uint8_t *texts, size_t text_count,
+                             const uint8_t *texts, size_t text_count, const uint8_t *long_texts, size_t long_text_count,
                              const uint8_t *hints, size_t hint_count, const uint32_t *results, size_t result_count,
                              const struct composecheck_state *state, uint32_t keysym);
 
@@ -141,11 +141,11 @@ uint32_t composecheck_result(const struct composecheck_node *nodes, size_t node_
  * `composecheck check` says. False: fault says why; else it stays as it was. Premise: both arrays are tables. MALLOC */
 bool composecheck_check(const uint8_t *header, size_t header_length,
                         const struct composecheck_node *old_nodes, size_t old_node_count, const struct composecheck_edge *old_edges,
-                        size_t old_edge_count, const uint32_t *old_offsets, size_t old_offset_count, const uint8_t *old_texts,
-                        size_t old_text_count, const uint8_t *old_hints, size_t old_hint_count,
+                        size_t old_edge_count, const uint8_t *old_texts, size_t old_text_count, const uint8_t *old_long_texts,
+                        size_t old_long_text_count, const uint8_t *old_hints, size_t old_hint_count,
                         const struct composecheck_node *new_nodes, size_t new_node_count, const struct composecheck_edge *new_edges,
-                        size_t new_edge_count, const uint32_t *new_offsets, size_t new_offset_count, const uint8_t *new_texts,
-                        size_t new_text_count, const uint8_t *new_hints, size_t new_hint_count,
+                        size_t new_edge_count, const uint8_t *new_texts, size_t new_text_count, const uint8_t *new_long_texts,
+                        size_t new_long_text_count, const uint8_t *new_hints, size_t new_hint_count,
                         const uint8_t *repertoire, size_t repertoire_length, const uint8_t *certificate, size_t certificate_length,
                         struct composecheck_fault *fault);
 
@@ -153,17 +153,17 @@ bool composecheck_check(const uint8_t *header, size_t header_length,
  * Premise: the old arrays are a table. MALLOC */
 uint32_t composecheck_load(const uint8_t *header, size_t header_length,
                            const struct composecheck_node *old_nodes, size_t old_node_count, const struct composecheck_edge *old_edges,
-                           size_t old_edge_count, const uint32_t *old_offsets, size_t old_offset_count, const uint8_t *old_texts,
-                           size_t old_text_count, const uint8_t *old_hints, size_t old_hint_count,
+                           size_t old_edge_count, const uint8_t *old_texts, size_t old_text_count, const uint8_t *old_long_texts,
+                           size_t old_long_text_count, const uint8_t *old_hints, size_t old_hint_count,
                            const uint8_t *repertoire, size_t repertoire_length, const uint8_t *bundle, size_t bundle_length, bool longest,
                            struct composecheck_node *nodes, size_t node_room, struct composecheck_edge *edges, size_t edge_room,
-                           uint32_t *offsets, size_t offset_room, uint8_t *texts, size_t text_room, uint8_t *hints, size_t hint_room,
+                           uint8_t *texts, size_t text_room, uint8_t *long_texts, size_t long_text_room, uint8_t *hints, size_t hint_room,
                            struct composecheck_sizes *sizes, struct composecheck_fault *fault);
 
 /* Whether arrays of any numbers are a table: 1 they are, 0 they are the arrays of no table, 2 no memory. At most as dear as compiling the
  * table. MALLOC */
 uint32_t composecheck_is_table(const struct composecheck_node *nodes, size_t node_count, const struct composecheck_edge *edges, size_t edge_count,
-                               const uint32_t *offsets, size_t offset_count, const uint8_t *texts, size_t text_count);
+                               const uint8_t *texts, size_t text_count, const uint8_t *long_texts, size_t long_text_count);
 
 /* The characters of keysyms by the names of a header, each at its keysym's index; 0 if a keysym has none, or the number is above
  * 0x1fffffff. A key that is part of no sequence commits its character. It takes as long as reading the names: ask for all keys at once.
@@ -205,8 +205,7 @@ struct composecheck_table {
     struct composecheck_sizes sizes;
     const struct composecheck_node *nodes;
     const struct composecheck_edge *edges;
-    const uint32_t *offsets;
-    const uint8_t *texts, *hints;
+    const uint8_t *texts, *long_texts, *hints;
     const uint32_t *results;
     size_t result_count;
 };

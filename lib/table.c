@@ -8,9 +8,8 @@ struct room {
     struct composecheck_sizes sizes;
     struct composecheck_node *nodes;
     struct composecheck_edge *edges;
-    uint32_t *offsets;
-    uint8_t *texts, *hints;
     uint32_t *results;
+    uint8_t *texts, *long_texts, *hints;
 };
 
 /* ---- bundles */
@@ -87,8 +86,7 @@ static bool bundle_of(const struct composecheck_input *input, struct bundle *bun
 
 /* ---- blocks */
 
-/* Where the arrays lie behind a struct in one block, the wider entries first; the bytes of all of it. There are fewer result keysyms than
- * offsets. */
+/* Where the arrays lie behind a struct in one block, the wider entries first; the bytes of all of it. A text has a result keysym and four bytes. */
 static size_t lay_out(uint8_t *block, const struct composecheck_sizes *sizes, struct room *room)
 {
     uint8_t *at = block + sizeof(struct composecheck_table);
@@ -97,12 +95,12 @@ static size_t lay_out(uint8_t *block, const struct composecheck_sizes *sizes, st
     at += sizes->nodes * sizeof *room->nodes;
     room->edges = (struct composecheck_edge *) (void *) at;
     at += sizes->edges * sizeof *room->edges;
-    room->offsets = (uint32_t *) (void *) at;
-    at += sizes->offsets * sizeof *room->offsets;
     room->results = (uint32_t *) (void *) at;
-    at += sizes->offsets * sizeof *room->results;
+    at += sizes->texts / 4 * sizeof *room->results;
     room->texts = at;
     at += sizes->texts;
+    room->long_texts = at;
+    at += sizes->long_texts;
     room->hints = at;
     at += sizes->hints;
     return (size_t) (at - block);
@@ -111,7 +109,7 @@ static size_t lay_out(uint8_t *block, const struct composecheck_sizes *sizes, st
 static size_t block_size(const struct composecheck_sizes *sizes)
 {
     return sizeof(struct composecheck_table) + sizes->nodes * sizeof(struct composecheck_node) + sizes->edges * sizeof(struct composecheck_edge)
-           + 2 * sizes->offsets * sizeof(uint32_t) + sizes->texts + sizes->hints;
+           + sizes->texts / 4 * sizeof(uint32_t) + sizes->texts + sizes->long_texts + sizes->hints;
 }
 
 /* A block with room for this number of entries, which may hold anything. */
@@ -132,8 +130,8 @@ static struct composecheck_table *table_of(const struct room *wide, const struct
         return NULL;
     memcpy(room.nodes, wide->nodes, sizes->nodes * sizeof *room.nodes);
     memcpy(room.edges, wide->edges, sizes->edges * sizeof *room.edges);
-    memcpy(room.offsets, wide->offsets, sizes->offsets * sizeof *room.offsets);
     memcpy(room.texts, wide->texts, sizes->texts);
+    memcpy(room.long_texts, wide->long_texts, sizes->long_texts);
     memcpy(room.hints, wide->hints, sizes->hints);
     memcpy(room.results, wide->results, result_count * sizeof *room.results);
     struct composecheck_table *table = (struct composecheck_table *) (void *) block;
@@ -141,8 +139,8 @@ static struct composecheck_table *table_of(const struct room *wide, const struct
         .sizes = *sizes,
         .nodes = room.nodes,
         .edges = room.edges,
-        .offsets = room.offsets,
         .texts = room.texts,
+        .long_texts = room.long_texts,
         .hints = room.hints,
         .results = room.results,
         .result_count = result_count,
@@ -155,7 +153,7 @@ static struct composecheck_table *table_of(const struct room *wide, const struct
 static struct composecheck_sizes guess(size_t bytes)
 {
     size_t edges = bytes / 12 + 1;
-    struct composecheck_sizes sizes = { bytes / 3 + 2, edges, bytes / 5 + 2, bytes + 1, 2 * edges, { 0 } };
+    struct composecheck_sizes sizes = { bytes / 3 + 2, edges, 4 * (bytes / 5 + 2), bytes + 1, 2 * edges, { 0 } };
     return sizes;
 }
 
@@ -178,8 +176,8 @@ static uint32_t fill(const struct composecheck_input *input, const struct bundle
     size_t length;
     const uint8_t *header = header_of(input, &length);
     return composecheck_compile_with_results(header, length, bundle->bytes, bundle->length, input->longest, room->nodes, room->sizes.nodes,
-                                             room->edges, room->sizes.edges, room->offsets, room->sizes.offsets, room->texts, room->sizes.texts,
-                                             room->hints, room->sizes.hints, room->results, room->sizes.offsets, sizes, result_count, fault);
+                                             room->edges, room->sizes.edges, room->texts, room->sizes.texts, room->long_texts, room->sizes.long_texts,
+                                             room->hints, room->sizes.hints, room->results, room->sizes.texts / 4, sizes, result_count, fault);
 }
 
 /* Whether the certificate lets the table be loaded; its arrays are filled then. */
@@ -188,11 +186,11 @@ static uint32_t load(const struct composecheck_table *in_use, const struct compo
 {
     size_t length;
     const uint8_t *header = header_of(input, &length);
-    return composecheck_load(header, length, in_use->nodes, in_use->sizes.nodes, in_use->edges, in_use->sizes.edges, in_use->offsets,
-                             in_use->sizes.offsets, in_use->texts, in_use->sizes.texts, in_use->hints, in_use->sizes.hints,
+    return composecheck_load(header, length, in_use->nodes, in_use->sizes.nodes, in_use->edges, in_use->sizes.edges, in_use->texts,
+                             in_use->sizes.texts, in_use->long_texts, in_use->sizes.long_texts, in_use->hints, in_use->sizes.hints,
                              or_nothing(input->repertoire), input->repertoire_length, bundle->bytes, bundle->length, input->longest, room->nodes,
-                             room->sizes.nodes, room->edges, room->sizes.edges, room->offsets, room->sizes.offsets, room->texts,
-                             room->sizes.texts, room->hints, room->sizes.hints, sizes, fault);
+                             room->sizes.nodes, room->edges, room->sizes.edges, room->texts, room->sizes.texts, room->long_texts,
+                             room->sizes.long_texts, room->hints, room->sizes.hints, sizes, fault);
 }
 
 /* Reads into a block of this room. TOO_SMALL changes the room to what is needed. */
@@ -309,15 +307,15 @@ bool composecheck_table_check(const struct composecheck_table *old_table, const 
     const struct composecheck_table *a = old_table, *b = new_table;
     size_t length;
     const uint8_t *header = header_of(input, &length);
-    return composecheck_check(header, length, a->nodes, a->sizes.nodes, a->edges, a->sizes.edges, a->offsets, a->sizes.offsets, a->texts,
-                              a->sizes.texts, a->hints, a->sizes.hints, b->nodes, b->sizes.nodes, b->edges, b->sizes.edges, b->offsets,
-                              b->sizes.offsets, b->texts, b->sizes.texts, b->hints, b->sizes.hints, or_nothing(input->repertoire),
+    return composecheck_check(header, length, a->nodes, a->sizes.nodes, a->edges, a->sizes.edges, a->texts, a->sizes.texts, a->long_texts,
+                              a->sizes.long_texts, a->hints, a->sizes.hints, b->nodes, b->sizes.nodes, b->edges, b->sizes.edges, b->texts,
+                              b->sizes.texts, b->long_texts, b->sizes.long_texts, b->hints, b->sizes.hints, or_nothing(input->repertoire),
                               input->repertoire_length, or_nothing(input->certificate), input->certificate_length, fault);
 }
 
 uint32_t composecheck_table_is_table(const struct composecheck_table *t)
 {
-    return composecheck_is_table(t->nodes, t->sizes.nodes, t->edges, t->sizes.edges, t->offsets, t->sizes.offsets, t->texts, t->sizes.texts);
+    return composecheck_is_table(t->nodes, t->sizes.nodes, t->edges, t->sizes.edges, t->texts, t->sizes.texts, t->long_texts, t->sizes.long_texts);
 }
 
 /* ---- typing */
@@ -325,27 +323,27 @@ uint32_t composecheck_table_is_table(const struct composecheck_table *t)
 uint32_t composecheck_table_feed(const struct composecheck_table *t, struct composecheck_state *state, uint32_t keysym,
                                  uint8_t text[COMPOSECHECK_MOST_TEXT], uint32_t *text_length)
 {
-    return composecheck_feed(t->nodes, t->sizes.nodes, t->edges, t->sizes.edges, t->offsets, t->sizes.offsets, t->texts, t->sizes.texts,
+    return composecheck_feed(t->nodes, t->sizes.nodes, t->edges, t->sizes.edges, t->texts, t->sizes.texts, t->long_texts, t->sizes.long_texts,
                              t->hints, t->sizes.hints, state, keysym, text, text_length);
 }
 
 void composecheck_table_refeed(const struct composecheck_table *t, struct composecheck_state *state)
 {
-    composecheck_refeed(t->nodes, t->sizes.nodes, t->edges, t->sizes.edges, t->offsets, t->sizes.offsets, t->texts, t->sizes.texts,
+    composecheck_refeed(t->nodes, t->sizes.nodes, t->edges, t->sizes.edges, t->texts, t->sizes.texts, t->long_texts, t->sizes.long_texts,
                         t->hints, t->sizes.hints, state);
 }
 
 bool composecheck_table_following(const struct composecheck_table *t, const struct composecheck_state *state, uint32_t index,
                                   uint32_t *keysym, uint32_t *status, uint8_t text[COMPOSECHECK_MOST_TEXT], uint32_t *text_length)
 {
-    return composecheck_following(t->nodes, t->sizes.nodes, t->edges, t->sizes.edges, t->offsets, t->sizes.offsets, t->texts, t->sizes.texts,
+    return composecheck_following(t->nodes, t->sizes.nodes, t->edges, t->sizes.edges, t->texts, t->sizes.texts, t->long_texts, t->sizes.long_texts,
                                   t->hints, t->sizes.hints, state, index, keysym, status, text, text_length);
 }
 
 uint32_t composecheck_table_result(const struct composecheck_table *t, const struct composecheck_state *state, uint32_t keysym)
 {
     static const uint32_t none[1];
-    return composecheck_result(t->nodes, t->sizes.nodes, t->edges, t->sizes.edges, t->offsets, t->sizes.offsets, t->texts, t->sizes.texts,
+    return composecheck_result(t->nodes, t->sizes.nodes, t->edges, t->sizes.edges, t->texts, t->sizes.texts, t->long_texts, t->sizes.long_texts,
                                t->hints, t->sizes.hints, t->results ? t->results : none, t->results ? t->result_count : 0, state, keysym);
 }
 

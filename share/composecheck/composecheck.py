@@ -19,7 +19,7 @@ MOST_TEXT, MOST_PENDING = 255, 31
 
 
 class _Sizes(ctypes.Structure):
-    _fields_ = [(it, ctypes.c_size_t) for it in ("nodes", "edges", "offsets", "texts", "hints")] + [("reserved", ctypes.c_size_t * 3)]
+    _fields_ = [(it, ctypes.c_size_t) for it in ("nodes", "edges", "texts", "long_texts", "hints")] + [("reserved", ctypes.c_size_t * 3)]
 
 
 class _State(ctypes.Structure):
@@ -30,7 +30,7 @@ class _State(ctypes.Structure):
 
 
 class _Table(ctypes.Structure):
-    _fields_ = [("sizes", _Sizes)] + [(it, ctypes.c_void_p) for it in ("nodes", "edges", "offsets", "texts", "hints", "results")] + [
+    _fields_ = [("sizes", _Sizes)] + [(it, ctypes.c_void_p) for it in ("nodes", "edges", "texts", "long_texts", "hints", "results")] + [
         ("result_count", ctypes.c_size_t)
     ]  # fmt: skip
 

@@ -5,7 +5,8 @@
 #include <stdlib.h>
 #include <string.h>
 
-static const char table_text[] = "<Multi_key> <apostrophe> <e> : \"\xc3\xa9\"\n<Multi_key> <a> <b> <c> : \"abc\"\n<Multi_key> <a> <d> : \"\\\"\\\\\"\n<x> : \"y\"\n";
+static const char table_text[] = "<Multi_key> <apostrophe> <e> : \"\xc3\xa9\"\n<Multi_key> <a> <b> <c> : \"abc\"\n<Multi_key> <a> <d> : \"\\\"\\\\\"\n<x> : \"y\"\n"
+                                 "<z> <a> : \"abcdef\"\n<z> <b> : \"abcdef\"\n<z> <c> : \"xxabcdef\"\n";
 static uint64_t seed = 1;
 static int failed;
 
@@ -66,7 +67,7 @@ static void states(const struct composecheck_table *table, int rounds)
 /* Changes one number of one array, or cuts an array, and returns whether the arrays differ from the table's then. */
 static bool damage(struct composecheck_table *t, const struct composecheck_table *table, uint32_t *numbers, size_t count)
 {
-    size_t *sizes[] = { &t->sizes.nodes, &t->sizes.edges, &t->sizes.offsets, &t->sizes.texts };
+    size_t *sizes[] = { &t->sizes.nodes, &t->sizes.edges, &t->sizes.texts, &t->sizes.long_texts };
     if (chance() % 4 == 0) {
         size_t *size = sizes[chance() % 4];
         *size -= *size && chance() % 2 ? 1 : *size;
@@ -75,8 +76,7 @@ static bool damage(struct composecheck_table *t, const struct composecheck_table
     }
     return memcmp(&t->sizes, &table->sizes, sizeof t->sizes) != 0 || memcmp(t->nodes, table->nodes, table->sizes.nodes * sizeof *table->nodes) != 0
            || memcmp(t->edges, table->edges, table->sizes.edges * sizeof *table->edges) != 0
-           || memcmp(t->offsets, table->offsets, table->sizes.offsets * sizeof *table->offsets) != 0
-           || memcmp(t->texts, table->texts, table->sizes.texts) != 0;
+           || memcmp(t->texts, table->texts, table->sizes.texts) != 0 || memcmp(t->long_texts, table->long_texts, table->sizes.long_texts) != 0;
 }
 
 static void arrays(const struct composecheck_table *table)
@@ -86,12 +86,12 @@ static void arrays(const struct composecheck_table *table)
     for (int round = 0; round < 3000; round++) {
         struct composecheck_table t = *table;
         void *blocks[] = { copied(t.nodes, t.sizes.nodes * sizeof *t.nodes), copied(t.edges, t.sizes.edges * sizeof *t.edges),
-                           copied(t.offsets, t.sizes.offsets * sizeof *t.offsets), copied(t.texts, t.sizes.texts) };
-        size_t counts[] = { t.sizes.nodes * 2, t.sizes.edges * 2, t.sizes.offsets, t.sizes.texts / 4 }, which = chance() % 4;
+                           copied(t.texts, t.sizes.texts), copied(t.long_texts, t.sizes.long_texts) };
+        size_t counts[] = { t.sizes.nodes * 2, t.sizes.edges * 2, t.sizes.texts / 4, t.sizes.long_texts / 4 }, which = chance() % 4;
         t.nodes = blocks[0];
         t.edges = blocks[1];
-        t.offsets = blocks[2];
-        t.texts = blocks[3];
+        t.texts = blocks[2];
+        t.long_texts = blocks[3];
         bool differs = damage(&t, table, blocks[which], counts[which]);
         uint32_t is = composecheck_table_is_table(&t);
         expect(differs || is == 1, "the same arrays are a table");
@@ -128,6 +128,22 @@ static void other_numbers(const struct composecheck_table *table)
     free(edges);
 }
 
+/* A text of more than three bytes is kept once, and its entries may lead to any place where it is. */
+static void other_places(const struct composecheck_table *table)
+{
+    struct composecheck_table t = *table;
+    uint8_t *texts = copied(t.texts, t.sizes.texts), *entry = texts;
+    expect(t.sizes.long_texts == 14 && memcmp(t.long_texts, "abcdefxxabcdef", 14) == 0, "two equal texts are kept once");
+    t.texts = texts;
+    while (entry[3] != 6)
+        entry += 4;
+    for (uint8_t half = 0; half < 8; half++) {
+        entry[0] = half;
+        expect(composecheck_table_is_table(&t) == (half == 0 || half == 4), "a text is where its entry says");
+    }
+    free(texts);
+}
+
 static void rooms(const struct composecheck_input *input)
 {
     size_t header, length;
@@ -146,27 +162,26 @@ static void rooms(const struct composecheck_input *input)
         }
         struct composecheck_node *nodes = malloc(room[0] * sizeof *nodes);
         struct composecheck_edge *edges = calloc(room[1], sizeof *edges);
-        uint32_t *offsets = malloc(room[2] * sizeof *offsets);
-        uint8_t *texts = malloc(room[3]), *hints = malloc(room[4]);
+        uint8_t *texts = malloc(room[2]), *long_texts = malloc(room[3]), *hints = malloc(room[4]);
         size_t count = 999, result_room = table->result_count + chance() % 3 - 1;
         uint32_t *results = malloc(result_room * sizeof *results);
         struct composecheck_sizes sizes;
         struct composecheck_fault fault = { .part = 77 };
-        uint32_t done = composecheck_compile(names, header, bundle, length, true, nodes, room[0], edges, room[1], offsets, room[2], texts, room[3], hints,
+        uint32_t done = composecheck_compile(names, header, bundle, length, true, nodes, room[0], edges, room[1], texts, room[2], long_texts, room[3], hints,
                                              room[4], &sizes, &fault);
         expect(done == (fits ? COMPOSECHECK_DONE : COMPOSECHECK_TOO_SMALL) && fault.part == 77, "rooms");
         expect(memcmp(&sizes, &table->sizes, sizeof sizes) == 0, "what is needed");
-        done = composecheck_compile_with_results(names, header, bundle, length, true, nodes, room[0], edges, room[1], offsets, room[2], texts, room[3],
+        done = composecheck_compile_with_results(names, header, bundle, length, true, nodes, room[0], edges, room[1], texts, room[2], long_texts, room[3],
                                                  hints, room[4], results, result_room, &sizes, &count, &fault);
         fits = fits && result_room >= table->result_count;
         expect(done == (fits ? COMPOSECHECK_DONE : COMPOSECHECK_TOO_SMALL) && fault.part == 77, "rooms with results");
-        expect(count == table->result_count && count + 1 == sizes.offsets && memcmp(&sizes, &table->sizes, sizeof sizes) == 0, "what is needed with results");
+        expect(count == table->result_count && 4 * count == sizes.texts && memcmp(&sizes, &table->sizes, sizeof sizes) == 0, "what is needed with results");
         expect(!fits || memcmp(results, table->results, count * sizeof *results) == 0, "the same results");
         free(results);
         free(nodes);
         free(edges);
-        free(offsets);
         free(texts);
+        free(long_texts);
         free(hints);
     }
     composecheck_table_free(table);
@@ -286,6 +301,7 @@ int main(int count, char **arguments)
     states(table, 20000);
     arrays(table);
     other_numbers(table);
+    other_places(table);
     rooms(&input);
     short_lines();
     lines();

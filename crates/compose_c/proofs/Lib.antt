@@ -10,6 +10,7 @@ pub mod FirstDefinitions
 pub mod EdgeTargets
 pub mod SettledAgain
 pub mod LooseParts
+pub mod Entries
 pub mod NextDefinition
 pub mod NextEdge
 pub mod WholeTable

@@ -1,7 +1,6 @@
 -- The parts of arrays of unchecked numbers that belong to a node or to a leaf.
-use Rattle.std.proofs.Common.{◌≡◌, ℕ, zero, suc, ◌+◌, ◌-◌, ◌<◌, ◌≤◌, List, [], ◌∷◌, length, map, get_or, take, drop, refl, sym, ◌∙◌, ap, subst, arith}
+use Rattle.std.proofs.Common.{◌≡◌, ℕ, zero, suc, ◌+◌, ◌-◌, ◌*◌, ◌<◌, ◌≤◌, List, [], ◌∷◌, length, map, get_or, take, drop, refl, sym, ◌∙◌, ap, subst, arith}
 use Rattle.std.specs.Prelude.{Option, Some, None, MatchOption, slice_get}
-use Rattle.std.specs.Str.{IsUtf8}
 use Rattle.std.proofs.lemmas.List.{get_or_default, length-map}
 use Rattle.std.proofs.lemmas.Option.{slice_get-get_or}
 use Rattle.compose_model.specs.Table.{Definition}
@@ -11,7 +10,7 @@ use Rattle.compose_tree.specs.Rows.{row_of}
 use Rattle.compose_tree.specs.Packed.{packed_edge, texts_of}
 use Rattle.compose_tree.proofs.Lookups.{leaves_count}
 use Rattle.compose_tree.proofs.PackedLookups.{node_entries, edges_between}
-use Rattle.compose_tree.proofs.PackedTexts.{leaf_entries, offsets_counted, text_between}
+use Rattle.compose_tree.proofs.PackedTexts.{TextPiece, entries_counted, leaf_entry}
 use Rattle.compose_c.specs.Arrays.{edge_of, AreOf}
 use Rattle.compose_c.specs.declared.loose.LooseArrays.{LooseArrays}
 use Rattle.compose_c.specs.declared.loose.LooseEdge.{LooseEdge}
@@ -29,7 +28,7 @@ mapped_drop f (suc n) (x ∷ xs) = mapped_drop f n xs
 module _ (a : LooseArrays) (table : List Definition) (is : AreOf a table) where
   -- there is an entry after that of a node
   pub node_within : (i : ℕ) → i < length (nodes table) → i + 1 < length a.nodes.now
-  node_within i h = let q = (node_entries a.nodes.now (map edge_of a.edges.now) a.offsets.now a.texts.now table is i h).within in omega arith
+  node_within i h = let q = (node_entries a.nodes.now (map edge_of a.edges.now) a.texts.now a.long_texts.now table is i h).within in omega arith
 
   -- the edges between the indexes of a node are its own
   pub own_edges : (i : ℕ) (d : PackedNode) → i < length (nodes table)
@@ -41,7 +40,7 @@ module _ (a : LooseArrays) (table : List Definition) (is : AreOf a table) where
       let x = get_or a.nodes.now i d in
       let y = get_or a.nodes.now (i + 1) d in
       let b =
-      edges_between a.nodes.now (map edge_of a.edges.now) a.offsets.now a.texts.now table is i x.first y.first x y h
+      edges_between a.nodes.now (map edge_of a.edges.now) a.texts.now a.long_texts.now table is i x.first y.first x y h
       (get_or_default a.nodes.now i d x (omega arith)) (get_or_default a.nodes.now (i + 1) d y within) refl refl in
       let n = length-map a.edges.now edge_of in (
         b.0,
@@ -49,32 +48,19 @@ module _ (a : LooseArrays) (table : List Definition) (is : AreOf a table) where
         (λ own e. ap (map edge_of) e ∙ mapped_take edge_of (y.first - x.first) (drop x.first a.edges.now) ∙ ap (take (y.first - x.first)) (mapped_drop edge_of x.first a.edges.now) ∙ b.2),
       )
 
-  -- there is an offset after that of a leaf
-  pub leaf_within : (i : ℕ) → i < length table → i + 1 < length a.offsets.now
+  -- there are four bytes for each leaf
+  pub leaf_within : (i : ℕ) → i < length table → 4 * i + 4 ≤ length a.texts.now
   leaf_within i h =
-      let n = offsets_counted a.nodes.now (map edge_of a.edges.now) a.offsets.now a.texts.now table is in
+      let n = entries_counted a.nodes.now (map edge_of a.edges.now) a.texts.now a.long_texts.now table is in
       let m = leaves_count table is.settled in omega arith
 
-  -- the bytes between the offsets of a leaf are its text
-  pub own_text : (i d : ℕ) → i < length table
-      → (get_or a.offsets.now i d ≤ get_or a.offsets.now (i + 1) d) × (get_or a.offsets.now (i + 1) d ≤ length a.texts.now)
-      × ((own : List ℕ) → own ≡ take (get_or a.offsets.now (i + 1) d - get_or a.offsets.now i d) (drop (get_or a.offsets.now i d) a.texts.now)
-      → IsUtf8 own × (slice_get (texts_of table) i ≡ Some own))
-  own_text i d h =
-      let within = leaf_within i h in
-      let x = get_or a.offsets.now i d in
-      let y = get_or a.offsets.now (i + 1) d in
-      let leaf : i < length (leaves table) = (let m = leaves_count table is.settled in omega arith) in
-      let b =
-      text_between a.nodes.now (map edge_of a.edges.now) a.offsets.now a.texts.now table is i x y x y leaf
-      (get_or_default a.offsets.now i d x (omega arith)) (get_or_default a.offsets.now (i + 1) d y within) refl refl in
-      let q = leaf_entries a.nodes.now (map edge_of a.edges.now) a.offsets.now a.texts.now table is i leaf in
-      let got : slice_get (texts_of table) i ≡ Some (get_or (texts_of table) i []) =
-      slice_get-get_or (texts_of table) i [] (let n = length-map table (λ (t : Definition). t.text) in omega arith) in (
-        b.order,
-        b.within,
-        (λ own e. let same : own ≡ get_or (texts_of table) i [] = e ∙ b.cut in (subst IsUtf8 (sym same) q.text_utf8, got ∙ ap (λ t. Some t) (sym same))),
-      )
+  -- they are the entry of its text
+  pub own_text : (i : ℕ) → i < length table → TextPiece a.texts.now a.long_texts.now i (get_or (texts_of table) i [])
+  own_text i h = leaf_entry a.nodes.now (map edge_of a.edges.now) a.texts.now a.long_texts.now table is i (let m = leaves_count table is.settled in omega arith)
+
+  -- which is the text at its index
+  pub text_there : (i : ℕ) → i < length table → slice_get (texts_of table) i ≡ Some (get_or (texts_of table) i [])
+  text_there i h = slice_get-get_or (texts_of table) i [] (let n = length-map table (λ (t : Definition). t.text) in omega arith)
 
 -- what is found has another property too
 pub on_some : {X : Type 0} (P Q : X → Type 0) (o : Option X) → MatchOption o ⊥ P → ((x : X) → P x → Q x) → MatchOption o ⊥ Q

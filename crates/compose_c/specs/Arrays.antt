@@ -2,7 +2,7 @@
 use Rattle.std.specs.Prelude.{◌≡◌, ℕ, ◌-◌, true, ◌||◌, List, ◌++◌, map, length}
 use Rattle.compose_model.specs.Table.{Definition, is_sequence}
 use Rattle.compose_model.specs.Nodes.{is_node}
-use Rattle.compose_tree.specs.Packed.{IsPacked, packed_target, spelled, spelled_after}
+use Rattle.compose_tree.specs.Packed.{HasLongText, IsPacked, packed_target, spelled, spelled_after, text_entry}
 use Rattle.compose_tree.specs.Rows.{rows_of, where_to}
 use Rattle.compose_tree.specs.declared.packed.PackedEdge.{PackedEdge}
 use Rattle.compose_c.specs.declared.loose.LooseArrays.{LooseArrays}
@@ -14,9 +14,17 @@ edge_of e = record { keysym = e.keysym; target = e.target }
 
 -- the arrays are those of this table
 abbrev pub AreOf : LooseArrays → List Definition → Type 0
-AreOf a table = IsPacked a.nodes.now (map edge_of a.edges.now) a.offsets.now a.texts.now table
+AreOf a table = IsPacked a.nodes.now (map edge_of a.edges.now) a.texts.now a.long_texts.now table
 
--- ---- the definitions of such arrays one after another. Definitions for private functions
+-- ---- the entries of texts. Definitions for private functions
+
+-- this is an entry of the text
+pub record IsEntry (entry text long : List ℕ) : Type 0 where
+  pub before : ℕ
+  pub is : entry ≡ text_entry before text
+  pub placed : HasLongText before text long
+
+-- ---- the definitions of such arrays one after another
 
 -- the sequences that begin with these keysyms, which lead to a node or a leaf, in order
 abbrev pub sequences_from : List Definition → List ℕ → List (List ℕ)

@@ -21,10 +21,10 @@ pub struct Sizes {
     pub nodes: usize,
     /// The length of `edges`: an entry for each edge.
     pub edges: usize,
-    /// The length of `offsets`: an entry for each text, and one for the end of the texts.
-    pub offsets: usize,
-    /// The length of `texts`, in bytes.
+    /// The length of `texts`: four bytes for each text.
     pub texts: usize,
+    /// The length of `long_texts`, in bytes.
+    pub long_texts: usize,
     /// The length of `hints`, in bytes.
     pub hints: usize,
     /// Reserved; always 0.
@@ -63,19 +63,19 @@ fn read(
 fn sizes_of(arrays: &LentArrays<'_>) -> Sizes
     ensures nodes { result.nodes ≡ length arrays.now.nodes.now }
     ensures edges { result.edges ≡ length arrays.now.edges.now }
-    ensures offsets { result.offsets ≡ length arrays.now.offsets.now }
     ensures texts { result.texts ≡ length arrays.now.texts.now }
+    ensures long_texts { result.long_texts ≡ length arrays.now.long_texts.now }
     ensures hints { result.hints ≡ length arrays.now.hints.now }
     ensures table { (table : List Definition)
-        → IsPacked arrays.now.nodes.now arrays.now.edges.now arrays.now.offsets.now
-        arrays.now.texts.now table
+        → IsPacked arrays.now.nodes.now arrays.now.edges.now arrays.now.texts.now
+        arrays.now.long_texts.now table
         → length arrays.now.hints.now ≡ 2 * length arrays.now.edges.now → AreSizes table result }
 {
     Sizes {
         nodes: arrays.nodes.len(),
         edges: arrays.edges.len(),
-        offsets: arrays.offsets.len(),
         texts: arrays.texts.len(),
+        long_texts: arrays.long_texts.len(),
         hints: arrays.hints.len(),
         reserved: [0; 3],
     }
@@ -94,40 +94,40 @@ pub fn put_table(
     table: &PackedTable,
     nodes: &mut [PackedNode],
     edges: &mut [PackedEdge],
-    offsets: &mut [u32],
     texts: &mut [u8],
+    long_texts: &mut [u8],
     hints: &mut [u8],
     sizes: &mut Sizes,
 ) -> bool
     ensures same { result ≡ true → unpacked (take sizes.new.nodes nodes.new)
-        (take sizes.new.edges edges.new) (take sizes.new.offsets offsets.new)
-        (take sizes.new.texts texts.new) ≡ table.now }
+        (take sizes.new.edges edges.new) (take sizes.new.texts texts.new)
+        (take sizes.new.long_texts long_texts.new) ≡ table.now }
     ensures packed { result ≡ true → IsPacked (take sizes.new.nodes nodes.new)
-        (take sizes.new.edges edges.new) (take sizes.new.offsets offsets.new)
-        (take sizes.new.texts texts.new) table.now }
+        (take sizes.new.edges edges.new) (take sizes.new.texts texts.new)
+        (take sizes.new.long_texts long_texts.new) table.now }
     ensures fits { result ≡ true → Fits sizes.new (length nodes.old) (length edges.old)
-        (length offsets.old) (length texts.old) (length hints.old) }
+        (length texts.old) (length long_texts.old) (length hints.old) }
     ensures wide { result ≡ false → Fits sizes.new (length nodes.old) (length edges.old)
-        (length offsets.old) (length texts.old) (length hints.old) → ⊥ }
+        (length texts.old) (length long_texts.old) (length hints.old) → ⊥ }
     ensures sizes { AreSizes table.now sizes.new }
     ensures untouched { result ≡ false → (nodes.new ≡ nodes.old) × (edges.new ≡ edges.old)
-        × (offsets.new ≡ offsets.old) × (texts.new ≡ texts.old) × (hints.new ≡ hints.old) }
+        × (texts.new ≡ texts.old) × (long_texts.new ≡ long_texts.old) × (hints.new ≡ hints.old) }
 {
     let arrays = table.arrays();
     let needed = sizes_of(&arrays);
     *sizes = needed;
     if needed.nodes > nodes.len()
         || needed.edges > edges.len()
-        || needed.offsets > offsets.len()
         || needed.texts > texts.len()
+        || needed.long_texts > long_texts.len()
         || needed.hints > hints.len()
     {
         return false;
     }
     put(arrays.nodes, nodes);
     put(arrays.edges, edges);
-    put(arrays.offsets, offsets);
     put(arrays.texts, texts);
+    put(arrays.long_texts, long_texts);
     put(arrays.hints, hints);
     true
 }
@@ -140,36 +140,36 @@ pub fn compile(
     longest: bool,
     nodes: &mut [PackedNode],
     edges: &mut [PackedEdge],
-    offsets: &mut [u32],
     texts: &mut [u8],
+    long_texts: &mut [u8],
     hints: &mut [u8],
     sizes: &mut Sizes,
     fault: &mut FaultRecord,
 ) -> u32
     ensures read { result ≡ 0 → IsRead header.now bundle.now (rule_of longest)
         (unpacked (take sizes.new.nodes nodes.new) (take sizes.new.edges edges.new)
-        (take sizes.new.offsets offsets.new) (take sizes.new.texts texts.new)) }
+        (take sizes.new.texts texts.new) (take sizes.new.long_texts long_texts.new)) }
     ensures packed { result ≡ 0 → IsPacked (take sizes.new.nodes nodes.new)
-        (take sizes.new.edges edges.new) (take sizes.new.offsets offsets.new)
-        (take sizes.new.texts texts.new)
+        (take sizes.new.edges edges.new) (take sizes.new.texts texts.new)
+        (take sizes.new.long_texts long_texts.new)
         (unpacked (take sizes.new.nodes nodes.new) (take sizes.new.edges edges.new)
-        (take sizes.new.offsets offsets.new) (take sizes.new.texts texts.new)) }
+        (take sizes.new.texts texts.new) (take sizes.new.long_texts long_texts.new)) }
     ensures refused { result ≡ 1 → Reports header.now bundle.now (rule_of longest) fault.new }
     ensures fits { result ≡ 0 → Fits sizes.new (length nodes.old) (length edges.old)
-        (length offsets.old) (length texts.old) (length hints.old) }
+        (length texts.old) (length long_texts.old) (length hints.old) }
     ensures wide { result ≡ 2 → Fits sizes.new (length nodes.old) (length edges.old)
-        (length offsets.old) (length texts.old) (length hints.old) → ⊥ }
+        (length texts.old) (length long_texts.old) (length hints.old) → ⊥ }
     ensures sizes { result ≢ 1
         → AreSizesOf (IsRead header.now bundle.now (rule_of longest)) sizes.new }
     ensures few { result ≤ 2 }
     ensures same_fault { result ≢ 1 → fault.new ≡ fault.old }
     ensures same_sizes { result ≡ 1 → sizes.new ≡ sizes.old }
     ensures untouched { result ≢ 0 → (nodes.new ≡ nodes.old) × (edges.new ≡ edges.old)
-        × (offsets.new ≡ offsets.old) × (texts.new ≡ texts.old) × (hints.new ≡ hints.old) }
+        × (texts.new ≡ texts.old) × (long_texts.new ≡ long_texts.old) × (hints.new ≡ hints.old) }
 {
     match read(alloc, header, bundle, longest) {
         Ok(table) => {
-            if put_table(&table, nodes, edges, offsets, texts, hints, sizes) {
+            if put_table(&table, nodes, edges, texts, long_texts, hints, sizes) {
                 return 0;
             }
             2

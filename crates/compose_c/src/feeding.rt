@@ -1,6 +1,6 @@
 //! Feeds one key to a state in C's memory, as `ComposeState::feed_alone` does, without a copy of
 //! the state.
-ghost use Rattle.std.specs.Prelude.{◌≡◌, ◌≤◌, ◌<◌, true, length, take, get_or, [], ◌∷◌, ◌++◌, Some, option_map, IsTrue, IsFalse, if◌then◌else◌};
+ghost use Rattle.std.specs.Prelude.{◌≡◌, ◌≤◌, ◌<◌, true, length, take, [], ◌∷◌, ◌++◌, Some, option_map, IsTrue, IsFalse, if◌then◌else◌};
 ghost use Rattle.std.specs.List.{list_all};
 ghost use Rattle.keysym_core.specs.Keysym.{is_keysym, is_ignored};
 ghost use Rattle.compose_model.specs.Nodes as words;
@@ -21,38 +21,38 @@ use compose_state::{Fed, FedText};
 use compose_tree::{ComposeTable, NodeId, Target};
 use keysym_core::Keysym;
 
-/// Returns the node after the keysym, if the keysym leads to a node. The edge with the index `hint`
-/// is tried first.
+/// Returns the keysym with this number. O(1).
 #[inline(always)]
-fn child_at<T: ComposeTable>(table: &T, node: NodeId, keysym: Keysym, hint: u32) -> Option<NodeId>
-    requires { node.0 < length (nodes (T.definitions table.now)) }
+fn keysym_of(number: u32) -> Keysym
+    requires { IsTrue (is_keysym number) }
+    ensures { result ≡ number }
+{
+    match Keysym::new(number) {
+        Some(keysym) => keysym,
+        None => Keysym::default(),
+    }
+}
+
+/// Returns the node after the keysym with this number, if it leads to a node. The edge with the
+/// index `hint` is tried first.
+#[inline(always)]
+fn child_at<T: ComposeTable>(table: &T, node: NodeId, number: u32, hint: u32) -> Option<NodeId>
+    requires at { node.0 < length (nodes (T.definitions table.now)) }
+    requires keysym { IsTrue (is_keysym number) }
     ensures { result
         ≡ node_id (T.definitions table.now)
-        (words.node (T.definitions table.now) node.0 ++ keysym ∷ []) }
+        (words.node (T.definitions table.now) node.0 ++ number ∷ []) }
 {
     if hint < table.edge_count(node) {
         let (there, target) = table.edge(node, hint);
-        if there == keysym {
+        if there.value() == number {
             return match target {
                 Target::Node(next) => Some(next),
                 Target::Leaf(_) => None,
             };
         }
     }
-    child(table, node, keysym)
-}
-
-/// Returns the keysym at this index. O(1).
-#[inline(always)]
-fn keysym_at(numbers: &[u32], index: usize) -> Keysym
-    requires in_range { index < length numbers.now }
-    requires keysyms { IsTrue (list_all is_keysym numbers.now) }
-    ensures { result ≡ get_or numbers.now index 0 }
-{
-    match Keysym::new(numbers[index]) {
-        Some(keysym) => keysym,
-        None => Keysym::default(),
-    }
+    child(table, node, keysym_of(number))
 }
 
 /// Returns the node of the keysyms with these numbers, if they are a node of the table.
@@ -64,8 +64,7 @@ fn node_of<T: ComposeTable>(table: &T, numbers: &[u32], hints: &[u32; 31]) -> Op
 {
     let mut node = NodeId::ROOT;
     for index in 0..numbers.len() {
-        let keysym = keysym_at(numbers, index);
-        node = child_at(table, node, keysym, hints[index])?;
+        node = child_at(table, node, numbers[index], hints[index])?;
     }
     Some(node)
 }

@@ -7,7 +7,7 @@
 //! allocates memory frees all of it before it returns.
 #![tactic(auto)]
 
-ghost use Rattle.std.specs.Prelude.{◌≡◌, ◌≢◌, ◌≤◌, ◌<◌, ◌+◌, ℕ, List, true, false, take, map, length, slice_get, Some, None, option_map};
+ghost use Rattle.std.specs.Prelude.{◌≡◌, ◌≢◌, ◌≤◌, ◌<◌, ◌+◌, ℕ, List, true, false, take, map, length, slice_get, Some, None, option_map, ◌*◌};
 ghost use Rattle.compose_model.specs.Nodes.{edges as keys_behind};
 ghost use Rattle.compose_model.specs.Step.{effect};
 ghost use Rattle.compose_model.specs.Table.{Definition};
@@ -78,23 +78,23 @@ use std::alloc::Global;
 pub extern "C" fn composecheck_feed(
     nodes: &[PackedNode],
     edges: &[PackedEdge],
-    offsets: &[u32],
     texts: &[u8],
+    long_texts: &[u8],
     hints: &[u8],
     state: &mut State,
     key: u32,
     text: &mut [u8; 255],
     text_length: &mut u32,
 ) -> u32
-    requires { IsPacked nodes.now edges.now offsets.now texts.now
-        (unpacked nodes.now edges.now offsets.now texts.now) }
+    requires { IsPacked nodes.now edges.now texts.now long_texts.now
+        (unpacked nodes.now edges.now texts.now long_texts.now) }
     ensures state { key ≤ 0x1fffffff → session_of state.new
-        ≡ fed (unpacked nodes.now edges.now offsets.now texts.now) (session_of state.old) key }
+        ≡ fed (unpacked nodes.now edges.now texts.now long_texts.now) (session_of state.old) key }
     ensures text { key ≤ 0x1fffffff → take text_length.new text.new
         ≡ sequence_text
-        (effect (unpacked nodes.now edges.now offsets.now texts.now)
+        (effect (unpacked nodes.now edges.now texts.now long_texts.now)
         (session_of state.old).pending key)
-        (unpacked nodes.now edges.now offsets.now texts.now) (session_of state.old).pending key }
+        (unpacked nodes.now edges.now texts.now long_texts.now) (session_of state.old).pending key }
     ensures length { text_length.new ≤ 255 }
     ensures reported { result ≡ feed_number key }
     ensures no_keysym { 0x1fffffff < key → state.new ≡ state.old }
@@ -105,7 +105,7 @@ pub extern "C" fn composecheck_feed(
         *text_length = 0;
         return 2;
     };
-    let table = LentTable::of(nodes, edges, offsets, texts, hints);
+    let table = LentTable::of(nodes, edges, texts, long_texts, hints);
     let fed = feed(state, &table, keysym);
     *text_length = put_text(&fed, text);
     u32::from(fed.accepted)
@@ -117,17 +117,17 @@ pub extern "C" fn composecheck_feed(
 pub extern "C" fn composecheck_refeed(
     nodes: &[PackedNode],
     edges: &[PackedEdge],
-    offsets: &[u32],
     texts: &[u8],
+    long_texts: &[u8],
     hints: &[u8],
     state: &mut State,
 )
-    requires { IsPacked nodes.now edges.now offsets.now texts.now
-        (unpacked nodes.now edges.now offsets.now texts.now) }
+    requires { IsPacked nodes.now edges.now texts.now long_texts.now
+        (unpacked nodes.now edges.now texts.now long_texts.now) }
     ensures { session_of state.new
-        ≡ loaded (unpacked nodes.now edges.now offsets.now texts.now) (session_of state.old) }
+        ≡ loaded (unpacked nodes.now edges.now texts.now long_texts.now) (session_of state.old) }
 {
-    let table = LentTable::of(nodes, edges, offsets, texts, hints);
+    let table = LentTable::of(nodes, edges, texts, long_texts, hints);
     let mut now = session(state);
     now.refeed_alone(&table);
     keep(state, &now);
@@ -174,8 +174,8 @@ pub extern "C" fn composecheck_pending(state: &State, keysyms: &mut [u32; 31]) -
 pub extern "C" fn composecheck_following(
     nodes: &[PackedNode],
     edges: &[PackedEdge],
-    offsets: &[u32],
     texts: &[u8],
+    long_texts: &[u8],
     hints: &[u8],
     state: &State,
     index: u32,
@@ -184,31 +184,31 @@ pub extern "C" fn composecheck_following(
     text: &mut [u8; 255],
     text_length: &mut u32,
 ) -> bool
-    requires { IsPacked nodes.now edges.now offsets.now texts.now
-        (unpacked nodes.now edges.now offsets.now texts.now) }
+    requires { IsPacked nodes.now edges.now texts.now long_texts.now
+        (unpacked nodes.now edges.now texts.now long_texts.now) }
     ensures none { result ≡ false
         → length
-        (keys_behind (unpacked nodes.now edges.now offsets.now texts.now)
+        (keys_behind (unpacked nodes.now edges.now texts.now long_texts.now)
         (session_of state.now).pending) ≤ index }
     ensures key { result ≡ true
         → slice_get
-        (keys_behind (unpacked nodes.now edges.now offsets.now texts.now)
+        (keys_behind (unpacked nodes.now edges.now texts.now long_texts.now)
         (session_of state.now).pending) index ≡ Some key.new }
     ensures status { result ≡ true → status.new
         ≡ status_number
-        (fed (unpacked nodes.now edges.now offsets.now texts.now) (session_of state.now)
+        (fed (unpacked nodes.now edges.now texts.now long_texts.now) (session_of state.now)
         key.new).status }
     ensures text { result ≡ true → take text_length.new text.new
         ≡ sequence_text
-        (effect (unpacked nodes.now edges.now offsets.now texts.now)
+        (effect (unpacked nodes.now edges.now texts.now long_texts.now)
         (session_of state.now).pending key.new)
-        (unpacked nodes.now edges.now offsets.now texts.now) (session_of state.now).pending
+        (unpacked nodes.now edges.now texts.now long_texts.now) (session_of state.now).pending
         key.new }
     ensures length { result ≡ true → text_length.new ≤ 255 }
     ensures untouched { result ≡ false → (key.new ≡ key.old) × (status.new ≡ status.old)
         × (text.new ≡ text.old) × (text_length.new ≡ text_length.old) }
 {
-    let table = LentTable::of(nodes, edges, offsets, texts, hints);
+    let table = LentTable::of(nodes, edges, texts, long_texts, hints);
     let mut now = session(state);
     let Some(keysym) = following(&table, now.pending(), index) else {
         return false;
@@ -239,41 +239,41 @@ pub extern "C" fn composecheck_compile(
     longest: bool,
     nodes: &mut [PackedNode],
     edges: &mut [PackedEdge],
-    offsets: &mut [u32],
     texts: &mut [u8],
+    long_texts: &mut [u8],
     hints: &mut [u8],
     sizes: &mut Sizes,
     fault: &mut FaultRecord,
 ) -> u32
     ensures read { result ≡ 0 → IsRead header.now bundle.now (rule_of longest)
         (unpacked (take sizes.new.nodes nodes.new) (take sizes.new.edges edges.new)
-        (take sizes.new.offsets offsets.new) (take sizes.new.texts texts.new)) }
+        (take sizes.new.texts texts.new) (take sizes.new.long_texts long_texts.new)) }
     ensures packed { result ≡ 0 → IsPacked (take sizes.new.nodes nodes.new)
-        (take sizes.new.edges edges.new) (take sizes.new.offsets offsets.new)
-        (take sizes.new.texts texts.new)
+        (take sizes.new.edges edges.new) (take sizes.new.texts texts.new)
+        (take sizes.new.long_texts long_texts.new)
         (unpacked (take sizes.new.nodes nodes.new) (take sizes.new.edges edges.new)
-        (take sizes.new.offsets offsets.new) (take sizes.new.texts texts.new)) }
+        (take sizes.new.texts texts.new) (take sizes.new.long_texts long_texts.new)) }
     ensures refused { result ≡ 1 → Reports header.now bundle.now (rule_of longest) fault.new }
     ensures fits { result ≡ 0 → Fits sizes.new (length nodes.old) (length edges.old)
-        (length offsets.old) (length texts.old) (length hints.old) }
+        (length texts.old) (length long_texts.old) (length hints.old) }
     ensures wide { result ≡ 2 → Fits sizes.new (length nodes.old) (length edges.old)
-        (length offsets.old) (length texts.old) (length hints.old) → ⊥ }
+        (length texts.old) (length long_texts.old) (length hints.old) → ⊥ }
     ensures sizes { result ≢ 1
         → AreSizesOf (IsRead header.now bundle.now (rule_of longest)) sizes.new }
     ensures few { result ≤ 2 }
     ensures same_fault { result ≢ 1 → fault.new ≡ fault.old }
     ensures same_sizes { result ≡ 1 → sizes.new ≡ sizes.old }
     ensures untouched { result ≢ 0 → (nodes.new ≡ nodes.old) × (edges.new ≡ edges.old)
-        × (offsets.new ≡ offsets.old) × (texts.new ≡ texts.old) × (hints.new ≡ hints.old) }
+        × (texts.new ≡ texts.old) × (long_texts.new ≡ long_texts.old) × (hints.new ≡ hints.old) }
 {
     compile(
-        alloc, header, bundle, longest, nodes, edges, offsets, texts, hints, sizes, fault,
+        alloc, header, bundle, longest, nodes, edges, texts, long_texts, hints, sizes, fault,
     )
 }
 
 /// Reads a table as `composecheck_compile` does, and also puts the result keysym of each of its
-/// leaves into `results`, in the order of their texts. `result_count` is their number, one less
-/// than the number of offsets.
+/// leaves into `results`, in the order of their texts. `result_count` is their number, a quarter of
+/// the bytes of `texts`.
 ///
 /// The result keysym is the one on the line that defines the sequence; if that line names none, it
 /// is the least keysym of the text's character, or 0 (`XKB_KEY_NoSymbol`) if the text isn't one
@@ -289,8 +289,8 @@ pub extern "C" fn composecheck_compile_with_results(
     longest: bool,
     nodes: &mut [PackedNode],
     edges: &mut [PackedEdge],
-    offsets: &mut [u32],
     texts: &mut [u8],
+    long_texts: &mut [u8],
     hints: &mut [u8],
     results: &mut [u32],
     sizes: &mut Sizes,
@@ -299,29 +299,29 @@ pub extern "C" fn composecheck_compile_with_results(
 ) -> u32
     ensures read { result ≡ 0 → IsReadWithResults header.now bundle.now (rule_of longest)
         (unpacked (take sizes.new.nodes nodes.new) (take sizes.new.edges edges.new)
-        (take sizes.new.offsets offsets.new) (take sizes.new.texts texts.new))
+        (take sizes.new.texts texts.new) (take sizes.new.long_texts long_texts.new))
         (take result_count.new results.new) }
     ensures packed { result ≡ 0 → IsPacked (take sizes.new.nodes nodes.new)
-        (take sizes.new.edges edges.new) (take sizes.new.offsets offsets.new)
-        (take sizes.new.texts texts.new)
+        (take sizes.new.edges edges.new) (take sizes.new.texts texts.new)
+        (take sizes.new.long_texts long_texts.new)
         (unpacked (take sizes.new.nodes nodes.new) (take sizes.new.edges edges.new)
-        (take sizes.new.offsets offsets.new) (take sizes.new.texts texts.new)) }
+        (take sizes.new.texts texts.new) (take sizes.new.long_texts long_texts.new)) }
     ensures refused { result ≡ 1 → Reports header.now bundle.now (rule_of longest) fault.new }
     ensures fits { result ≡ 0 → Fits sizes.new (length nodes.old) (length edges.old)
-        (length offsets.old) (length texts.old) (length hints.old) }
+        (length texts.old) (length long_texts.old) (length hints.old) }
     ensures results_fit { result ≡ 0 → result_count.new ≤ length results.old }
     ensures wide { result ≡ 2 → Fits sizes.new (length nodes.old) (length edges.old)
-        (length offsets.old) (length texts.old) (length hints.old)
+        (length texts.old) (length long_texts.old) (length hints.old)
         → result_count.new ≤ length results.old → ⊥ }
     ensures sizes { result ≢ 1
         → AreSizesOf (IsRead header.now bundle.now (rule_of longest)) sizes.new }
-    ensures count { result ≢ 1 → result_count.new + 1 ≡ sizes.new.offsets }
+    ensures count { result ≢ 1 → 4 * result_count.new ≡ sizes.new.texts }
     ensures few { result ≤ 2 }
     ensures same_fault { result ≢ 1 → fault.new ≡ fault.old }
     ensures same_sizes { result ≡ 1 → sizes.new ≡ sizes.old }
     ensures same_count { result ≡ 1 → result_count.new ≡ result_count.old }
     ensures untouched { result ≢ 0 → (nodes.new ≡ nodes.old) × (edges.new ≡ edges.old)
-        × (offsets.new ≡ offsets.old) × (texts.new ≡ texts.old) × (hints.new ≡ hints.old) }
+        × (texts.new ≡ texts.old) × (long_texts.new ≡ long_texts.old) × (hints.new ≡ hints.old) }
     ensures untouched_results { result ≢ 0 → results.new ≡ results.old }
 {
     compile_with_results(
@@ -331,8 +331,8 @@ pub extern "C" fn composecheck_compile_with_results(
         longest,
         nodes,
         edges,
-        offsets,
         texts,
+        long_texts,
         hints,
         results,
         sizes,
@@ -349,25 +349,25 @@ pub extern "C" fn composecheck_compile_with_results(
 pub extern "C" fn composecheck_result(
     nodes: &[PackedNode],
     edges: &[PackedEdge],
-    offsets: &[u32],
     texts: &[u8],
+    long_texts: &[u8],
     hints: &[u8],
     results: &[u32],
     state: &State,
     key: u32,
 ) -> u32
-    requires { IsPacked nodes.now edges.now offsets.now texts.now
-        (unpacked nodes.now edges.now offsets.now texts.now) }
+    requires { IsPacked nodes.now edges.now texts.now long_texts.now
+        (unpacked nodes.now edges.now texts.now long_texts.now) }
     ensures some { key ≤ 0x1fffffff → result
         ≡ result_at results.now
-        (target_of (unpacked nodes.now edges.now offsets.now texts.now)
+        (target_of (unpacked nodes.now edges.now texts.now long_texts.now)
         (session_of state.now).pending key) }
     ensures none { 0x1fffffff < key → result ≡ 0 }
 {
     let Some(keysym) = Keysym::new(key) else {
         return 0;
     };
-    let table = LentTable::of(nodes, edges, offsets, texts, hints);
+    let table = LentTable::of(nodes, edges, texts, long_texts, hints);
     result_of(&table, session(state).pending(), keysym, results)
 }
 
@@ -415,34 +415,34 @@ pub extern "C" fn composecheck_check(
     header: &[u8],
     old_nodes: &[PackedNode],
     old_edges: &[PackedEdge],
-    old_offsets: &[u32],
     old_texts: &[u8],
+    old_long_texts: &[u8],
     old_hints: &[u8],
     new_nodes: &[PackedNode],
     new_edges: &[PackedEdge],
-    new_offsets: &[u32],
     new_texts: &[u8],
+    new_long_texts: &[u8],
     new_hints: &[u8],
     repertoire: &[u8],
     certificate: &[u8],
     fault: &mut FaultRecord,
 ) -> bool
-    requires old { IsPacked old_nodes.now old_edges.now old_offsets.now old_texts.now
-        (unpacked old_nodes.now old_edges.now old_offsets.now old_texts.now) }
-    requires new { IsPacked new_nodes.now new_edges.now new_offsets.now new_texts.now
-        (unpacked new_nodes.now new_edges.now new_offsets.now new_texts.now) }
+    requires old { IsPacked old_nodes.now old_edges.now old_texts.now old_long_texts.now
+        (unpacked old_nodes.now old_edges.now old_texts.now old_long_texts.now) }
+    requires new { IsPacked new_nodes.now new_edges.now new_texts.now new_long_texts.now
+        (unpacked new_nodes.now new_edges.now new_texts.now new_long_texts.now) }
     ensures valid { result ≡ true → IsCertified header.now
-        (unpacked old_nodes.now old_edges.now old_offsets.now old_texts.now)
-        (unpacked new_nodes.now new_edges.now new_offsets.now new_texts.now) repertoire.now
+        (unpacked old_nodes.now old_edges.now old_texts.now old_long_texts.now)
+        (unpacked new_nodes.now new_edges.now new_texts.now new_long_texts.now) repertoire.now
         certificate.now }
     ensures refused { result ≡ false → ReportsUncertified header.now
-        (unpacked old_nodes.now old_edges.now old_offsets.now old_texts.now)
-        (unpacked new_nodes.now new_edges.now new_offsets.now new_texts.now) repertoire.now
+        (unpacked old_nodes.now old_edges.now old_texts.now old_long_texts.now)
+        (unpacked new_nodes.now new_edges.now new_texts.now new_long_texts.now) repertoire.now
         certificate.now fault.new }
     ensures same_fault { result ≡ true → fault.new ≡ fault.old }
 {
-    let old = LentTable::of(old_nodes, old_edges, old_offsets, old_texts, old_hints);
-    let new = LentTable::of(new_nodes, new_edges, new_offsets, new_texts, new_hints);
+    let old = LentTable::of(old_nodes, old_edges, old_texts, old_long_texts, old_hints);
+    let new = LentTable::of(new_nodes, new_edges, new_texts, new_long_texts, new_hints);
     check(alloc, header, &old, &new, repertoire, certificate, fault)
 }
 
@@ -457,52 +457,52 @@ pub extern "C" fn composecheck_load(
     header: &[u8],
     old_nodes: &[PackedNode],
     old_edges: &[PackedEdge],
-    old_offsets: &[u32],
     old_texts: &[u8],
+    old_long_texts: &[u8],
     old_hints: &[u8],
     repertoire: &[u8],
     bundle: &[u8],
     longest: bool,
     nodes: &mut [PackedNode],
     edges: &mut [PackedEdge],
-    offsets: &mut [u32],
     texts: &mut [u8],
+    long_texts: &mut [u8],
     hints: &mut [u8],
     sizes: &mut Sizes,
     fault: &mut FaultRecord,
 ) -> u32
-    requires { IsPacked old_nodes.now old_edges.now old_offsets.now old_texts.now
-        (unpacked old_nodes.now old_edges.now old_offsets.now old_texts.now) }
+    requires { IsPacked old_nodes.now old_edges.now old_texts.now old_long_texts.now
+        (unpacked old_nodes.now old_edges.now old_texts.now old_long_texts.now) }
     ensures loaded { result ≡ 0 → IsLoaded header.now
-        (unpacked old_nodes.now old_edges.now old_offsets.now old_texts.now) repertoire.now
+        (unpacked old_nodes.now old_edges.now old_texts.now old_long_texts.now) repertoire.now
         bundle.now (rule_of longest)
         (unpacked (take sizes.new.nodes nodes.new) (take sizes.new.edges edges.new)
-        (take sizes.new.offsets offsets.new) (take sizes.new.texts texts.new)) }
+        (take sizes.new.texts texts.new) (take sizes.new.long_texts long_texts.new)) }
     ensures packed { result ≡ 0 → IsPacked (take sizes.new.nodes nodes.new)
-        (take sizes.new.edges edges.new) (take sizes.new.offsets offsets.new)
-        (take sizes.new.texts texts.new)
+        (take sizes.new.edges edges.new) (take sizes.new.texts texts.new)
+        (take sizes.new.long_texts long_texts.new)
         (unpacked (take sizes.new.nodes nodes.new) (take sizes.new.edges edges.new)
-        (take sizes.new.offsets offsets.new) (take sizes.new.texts texts.new)) }
+        (take sizes.new.texts texts.new) (take sizes.new.long_texts long_texts.new)) }
     ensures refused { result ≡ 1 → ReportsNotLoaded header.now
-        (unpacked old_nodes.now old_edges.now old_offsets.now old_texts.now) repertoire.now
+        (unpacked old_nodes.now old_edges.now old_texts.now old_long_texts.now) repertoire.now
         bundle.now (rule_of longest) fault.new }
     ensures fits { result ≡ 0 → Fits sizes.new (length nodes.old) (length edges.old)
-        (length offsets.old) (length texts.old) (length hints.old) }
+        (length texts.old) (length long_texts.old) (length hints.old) }
     ensures wide { result ≡ 2 → Fits sizes.new (length nodes.old) (length edges.old)
-        (length offsets.old) (length texts.old) (length hints.old) → ⊥ }
+        (length texts.old) (length long_texts.old) (length hints.old) → ⊥ }
     ensures sizes { result ≢ 1 → AreSizesOf
         (IsLoaded header.now
-        (unpacked old_nodes.now old_edges.now old_offsets.now old_texts.now) repertoire.now bundle.now
+        (unpacked old_nodes.now old_edges.now old_texts.now old_long_texts.now) repertoire.now bundle.now
         (rule_of longest)) sizes.new }
     ensures few { result ≤ 2 }
     ensures same_fault { result ≢ 1 → fault.new ≡ fault.old }
     ensures same_sizes { result ≡ 1 → sizes.new ≡ sizes.old }
     ensures untouched { result ≢ 0 → (nodes.new ≡ nodes.old) × (edges.new ≡ edges.old)
-        × (offsets.new ≡ offsets.old) × (texts.new ≡ texts.old) × (hints.new ≡ hints.old) }
+        × (texts.new ≡ texts.old) × (long_texts.new ≡ long_texts.old) × (hints.new ≡ hints.old) }
 {
-    let old = LentTable::of(old_nodes, old_edges, old_offsets, old_texts, old_hints);
+    let old = LentTable::of(old_nodes, old_edges, old_texts, old_long_texts, old_hints);
     load(
-        alloc, header, &old, repertoire, bundle, longest, nodes, edges, offsets, texts, hints,
+        alloc, header, &old, repertoire, bundle, longest, nodes, edges, texts, long_texts, hints,
         sizes, fault,
     )
 }
@@ -515,20 +515,20 @@ pub extern "C" fn composecheck_is_table(
     alloc: Global,
     nodes: &[PackedNode],
     edges: &[LooseEdge],
-    offsets: &[u32],
     texts: &[u8],
+    long_texts: &[u8],
 ) -> u32
-    ensures packed { result ≡ 1 → IsPacked nodes.now (map edge_of edges.now) offsets.now texts.now
-        (unpacked nodes.now (map edge_of edges.now) offsets.now texts.now) }
+    ensures packed { result ≡ 1 → IsPacked nodes.now (map edge_of edges.now) texts.now long_texts.now
+        (unpacked nodes.now (map edge_of edges.now) texts.now long_texts.now) }
     ensures refused { result ≡ 0 → (table : List Definition)
-        → IsPacked nodes.now (map edge_of edges.now) offsets.now texts.now table → ⊥ }
+        → IsPacked nodes.now (map edge_of edges.now) texts.now long_texts.now table → ⊥ }
     ensures few { result ≤ 2 }
 {
     let arrays = LooseArrays {
         nodes,
         edges,
-        offsets,
         texts,
+        long_texts,
     };
     match is_table(alloc, &arrays) {
         Ok(true) => 1,

@@ -123,8 +123,8 @@ pub fn load<T: ComposeTable>(
     longest: bool,
     nodes: &mut [PackedNode],
     edges: &mut [PackedEdge],
-    offsets: &mut [u32],
     texts: &mut [u8],
+    long_texts: &mut [u8],
     hints: &mut [u8],
     sizes: &mut Sizes,
     fault: &mut FaultRecord,
@@ -132,18 +132,18 @@ pub fn load<T: ComposeTable>(
     ensures loaded { result ≡ 0 → IsLoaded header.now (T.definitions old.now) repertoire.now
         bundle.now (rule_of longest)
         (unpacked (take sizes.new.nodes nodes.new) (take sizes.new.edges edges.new)
-        (take sizes.new.offsets offsets.new) (take sizes.new.texts texts.new)) }
+        (take sizes.new.texts texts.new) (take sizes.new.long_texts long_texts.new)) }
     ensures packed { result ≡ 0 → IsPacked (take sizes.new.nodes nodes.new)
-        (take sizes.new.edges edges.new) (take sizes.new.offsets offsets.new)
-        (take sizes.new.texts texts.new)
+        (take sizes.new.edges edges.new) (take sizes.new.texts texts.new)
+        (take sizes.new.long_texts long_texts.new)
         (unpacked (take sizes.new.nodes nodes.new) (take sizes.new.edges edges.new)
-        (take sizes.new.offsets offsets.new) (take sizes.new.texts texts.new)) }
+        (take sizes.new.texts texts.new) (take sizes.new.long_texts long_texts.new)) }
     ensures refused { result ≡ 1 → ReportsNotLoaded header.now (T.definitions old.now)
         repertoire.now bundle.now (rule_of longest) fault.new }
     ensures fits { result ≡ 0 → Fits sizes.new (length nodes.old) (length edges.old)
-        (length offsets.old) (length texts.old) (length hints.old) }
+        (length texts.old) (length long_texts.old) (length hints.old) }
     ensures wide { result ≡ 2 → Fits sizes.new (length nodes.old) (length edges.old)
-        (length offsets.old) (length texts.old) (length hints.old) → ⊥ }
+        (length texts.old) (length long_texts.old) (length hints.old) → ⊥ }
     ensures sizes { result ≢ 1 → AreSizesOf
         (IsLoaded header.now
         (T.definitions old.now) repertoire.now bundle.now
@@ -152,11 +152,11 @@ pub fn load<T: ComposeTable>(
     ensures same_fault { result ≢ 1 → fault.new ≡ fault.old }
     ensures same_sizes { result ≡ 1 → sizes.new ≡ sizes.old }
     ensures untouched { result ≢ 0 → (nodes.new ≡ nodes.old) × (edges.new ≡ edges.old)
-        × (offsets.new ≡ offsets.old) × (texts.new ≡ texts.old) × (hints.new ≡ hints.old) }
+        × (texts.new ≡ texts.old) × (long_texts.new ≡ long_texts.old) × (hints.new ≡ hints.old) }
 {
     match read(alloc, header, old, repertoire, bundle, longest) {
         Ok(table) => {
-            if put_table(&table, nodes, edges, offsets, texts, hints, sizes) {
+            if put_table(&table, nodes, edges, texts, long_texts, hints, sizes) {
                 return 0;
             }
             2

@@ -11,7 +11,7 @@ ghost use Rattle.compose_c.specs.Arrays as words;
 ghost use Rattle.compose_c.specs.Arrays.{AreOf, AreFirst, LeadsTo, sequences_from};
 
 use compose_read::{Definitions, Draft};
-use compose_tree::PackedNode;
+use compose_tree::{PackedNode, TEXT_ENTRY, entry_text};
 use keysym_core::Keysym;
 use std::alloc::{AllocError, Global};
 
@@ -22,10 +22,10 @@ const MOST_KEYSYMS: usize = 32;
 #[repr(C)]
 #[derive(Clone, Copy)]
 pub struct LooseEdge {
-    /// The number of the keysym; it may be too large for one.
-    pub keysym: u32,
     /// The target, as in `PackedEdge`; it may be out of range.
     pub target: u32,
+    /// The number of the keysym; it may be too large for one.
+    pub keysym: u32,
 }
 
 /// Arrays of any numbers, as those of a table.
@@ -35,10 +35,10 @@ pub struct LooseArrays<'t> {
     pub nodes: &'t [PackedNode],
     /// The edges of all nodes.
     pub edges: &'t [LooseEdge],
-    /// For each text its offset in `texts`, and after them the end of the texts.
-    pub offsets: &'t [u32],
-    /// The texts, one after another.
+    /// The entries of all texts, four bytes each.
     pub texts: &'t [u8],
+    /// The texts that don't stand in their entries.
+    pub long_texts: &'t [u8],
 }
 
 /// Returns the items between two indexes, if the indexes are in order and in range. O(1).
@@ -71,15 +71,13 @@ fn text_of<'t>(arrays: &LooseArrays<'t>, leaf: usize) -> Option<&'t str>
     ensures { (table : List Definition) → AreOf arrays.now table → leaf < length table
         → MatchOption result ⊥ (λ text. slice_get (texts_of table) leaf ≡ Some text.now) }
 {
-    if leaf >= arrays.offsets.len().saturating_sub(1) {
+    if leaf >= arrays.texts.len() / TEXT_ENTRY {
         return None;
     }
-    let first = arrays.offsets[leaf] as usize;
-    let end = arrays.offsets[leaf + 1] as usize;
-    let Some(bytes) = part(arrays.texts, first, end) else {
-        return None;
-    };
-    match std::str::from_utf8(bytes) {
+    let first = leaf * TEXT_ENTRY;
+    let entry = part(arrays.texts, first, first + TEXT_ENTRY)?;
+    let bytes = entry_text(entry, arrays.long_texts)?;
+    match str::from_utf8(bytes) {
         Ok(text) => Some(text),
         Err(_) => None,
     }

@@ -1,5 +1,5 @@
 //! Result keysyms: they are read with a table, and found by the keys that complete a sequence.
-ghost use Rattle.std.specs.Prelude.{◌≡◌, ◌≢◌, ◌≤◌, ◌<◌, ◌+◌, true, false, length, take, slice_get, unwrap_or, MatchResult};
+ghost use Rattle.std.specs.Prelude.{◌≡◌, ◌≢◌, ◌≤◌, ◌<◌, ◌+◌, true, false, length, take, slice_get, unwrap_or, MatchResult, ◌*◌};
 ghost use Rattle.compose_model.specs.Nodes as words;
 ghost use Rattle.compose_model.specs.Nodes.{nodes};
 ghost use Rattle.compose_tree.specs.Packed.{IsPacked, unpacked};
@@ -50,8 +50,8 @@ pub fn compile_with_results(
     longest: bool,
     nodes: &mut [PackedNode],
     edges: &mut [PackedEdge],
-    offsets: &mut [u32],
     texts: &mut [u8],
+    long_texts: &mut [u8],
     hints: &mut [u8],
     results: &mut [u32],
     sizes: &mut Sizes,
@@ -60,35 +60,37 @@ pub fn compile_with_results(
 ) -> u32
     ensures read { result ≡ 0 → IsReadWithResults header.now bundle.now (rule_of longest)
         (unpacked (take sizes.new.nodes nodes.new) (take sizes.new.edges edges.new)
-        (take sizes.new.offsets offsets.new) (take sizes.new.texts texts.new))
+        (take sizes.new.texts texts.new) (take sizes.new.long_texts long_texts.new))
         (take result_count.new results.new) }
     ensures packed { result ≡ 0 → IsPacked (take sizes.new.nodes nodes.new)
-        (take sizes.new.edges edges.new) (take sizes.new.offsets offsets.new)
-        (take sizes.new.texts texts.new)
+        (take sizes.new.edges edges.new) (take sizes.new.texts texts.new)
+        (take sizes.new.long_texts long_texts.new)
         (unpacked (take sizes.new.nodes nodes.new) (take sizes.new.edges edges.new)
-        (take sizes.new.offsets offsets.new) (take sizes.new.texts texts.new)) }
+        (take sizes.new.texts texts.new) (take sizes.new.long_texts long_texts.new)) }
     ensures refused { result ≡ 1 → Reports header.now bundle.now (rule_of longest) fault.new }
     ensures fits { result ≡ 0 → Fits sizes.new (length nodes.old) (length edges.old)
-        (length offsets.old) (length texts.old) (length hints.old) }
+        (length texts.old) (length long_texts.old) (length hints.old) }
     ensures results_fit { result ≡ 0 → result_count.new ≤ length results.old }
     ensures wide { result ≡ 2 → Fits sizes.new (length nodes.old) (length edges.old)
-        (length offsets.old) (length texts.old) (length hints.old)
+        (length texts.old) (length long_texts.old) (length hints.old)
         → result_count.new ≤ length results.old → ⊥ }
     ensures sizes { result ≢ 1
         → AreSizesOf (IsRead header.now bundle.now (rule_of longest)) sizes.new }
-    ensures count { result ≢ 1 → result_count.new + 1 ≡ sizes.new.offsets }
+    ensures count { result ≢ 1 → 4 * result_count.new ≡ sizes.new.texts }
     ensures few { result ≤ 2 }
     ensures same_fault { result ≢ 1 → fault.new ≡ fault.old }
     ensures same_sizes { result ≡ 1 → sizes.new ≡ sizes.old }
     ensures same_count { result ≡ 1 → result_count.new ≡ result_count.old }
     ensures untouched { result ≢ 0 → (nodes.new ≡ nodes.old) × (edges.new ≡ edges.old)
-        × (offsets.new ≡ offsets.old) × (texts.new ≡ texts.old) × (hints.new ≡ hints.old) }
+        × (texts.new ≡ texts.old) × (long_texts.new ≡ long_texts.old) × (hints.new ≡ hints.old) }
     ensures untouched_results { result ≢ 0 → results.new ≡ results.old }
 {
     match read(alloc, header, bundle, longest) {
         Ok(read) => {
             *result_count = read.results.len();
-            if put_read(&read, nodes, edges, offsets, texts, hints, results, sizes) {
+            if put_read(
+                &read, nodes, edges, texts, long_texts, hints, results, sizes,
+            ) {
                 return 0;
             }
             2
@@ -106,36 +108,36 @@ fn put_read(
     read: &ResultTable<PackedTable>,
     nodes: &mut [PackedNode],
     edges: &mut [PackedEdge],
-    offsets: &mut [u32],
     texts: &mut [u8],
+    long_texts: &mut [u8],
     hints: &mut [u8],
     results: &mut [u32],
     sizes: &mut Sizes,
 ) -> bool
     ensures same { result ≡ true → unpacked (take sizes.new.nodes nodes.new)
-        (take sizes.new.edges edges.new) (take sizes.new.offsets offsets.new)
-        (take sizes.new.texts texts.new) ≡ read.now.table }
+        (take sizes.new.edges edges.new) (take sizes.new.texts texts.new)
+        (take sizes.new.long_texts long_texts.new) ≡ read.now.table }
     ensures packed { result ≡ true → IsPacked (take sizes.new.nodes nodes.new)
-        (take sizes.new.edges edges.new) (take sizes.new.offsets offsets.new)
-        (take sizes.new.texts texts.new) read.now.table }
+        (take sizes.new.edges edges.new) (take sizes.new.texts texts.new)
+        (take sizes.new.long_texts long_texts.new) read.now.table }
     ensures results { result ≡ true
         → take (length read.now.results.items) results.new ≡ read.now.results.items }
     ensures fits { result ≡ true → Fits sizes.new (length nodes.old) (length edges.old)
-        (length offsets.old) (length texts.old) (length hints.old) }
+        (length texts.old) (length long_texts.old) (length hints.old) }
     ensures results_fit { result ≡ true → length read.now.results.items ≤ length results.old }
     ensures wide { result ≡ false → Fits sizes.new (length nodes.old) (length edges.old)
-        (length offsets.old) (length texts.old) (length hints.old)
+        (length texts.old) (length long_texts.old) (length hints.old)
         → length read.now.results.items ≤ length results.old → ⊥ }
     ensures sizes { AreSizes read.now.table sizes.new }
     ensures untouched { result ≡ false → (nodes.new ≡ nodes.old) × (edges.new ≡ edges.old)
-        × (offsets.new ≡ offsets.old) × (texts.new ≡ texts.old) × (hints.new ≡ hints.old) }
+        × (texts.new ≡ texts.old) × (long_texts.new ≡ long_texts.old) × (hints.new ≡ hints.old) }
     ensures untouched_results { result ≡ false → results.new ≡ results.old }
 {
     if read.results.len() > results.len() {
         measure(&read.table, sizes);
         return false;
     }
-    if !put_table(&read.table, nodes, edges, offsets, texts, hints, sizes) {
+    if !put_table(&read.table, nodes, edges, texts, long_texts, hints, sizes) {
         return false;
     }
     put_numbers(&read.results, results);

@@ -129,12 +129,14 @@ pub fn put_keysyms(keysyms: &[Keysym], target: &mut [u32; 31]) -> u32
     keysyms.len() as u32
 }
 
-/// Stores the state as numbers. O(pending keysyms).
+/// Stores the state as numbers, and the hints if something is pending. O(pending keysyms).
 pub fn keep(state: &mut State, session: &ComposeState)
     ensures { session_of state.new ≡ session.now }
 {
     state.count = put_keysyms(session.pending(), &mut state.pending);
-    state.hints = session.edge_indexes();
+    if state.count > 0 {
+        state.hints = session.edge_indexes();
+    }
     state.status = number_of(session.status());
 }
 

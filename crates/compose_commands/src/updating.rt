@@ -109,21 +109,10 @@ fn keep_loaded(
     match loaded.ended {
         Ended::Yes => {
             let kept = outcome_of(rt.alloc(), form, keep(rt, folder, stored, ""))?;
-            one_after_another(rt.alloc(), &loaded, &kept)
+            Ok(loaded.followed_by(&kept)?)
         }
         _ => Ok(loaded),
     }
-}
-
-/// Returns what is printed if both outcomes are, and ends as the second one does.
-fn one_after_another(alloc: Global, first: &Outcome, second: &Outcome) -> Result<Outcome, Fault> {
-    Ok(Outcome {
-        notes: format!(in alloc; "{}{}", first.notes, second.notes)?,
-        output: format!(in alloc; "{}{}", first.output, second.output)?,
-        errors: format!(in alloc; "{}{}", first.errors, second.errors)?,
-        file: None,
-        ended: second.ended,
-    })
 }
 
 /// Keeps the bytes of the table for the next start of the service. The note may be empty.

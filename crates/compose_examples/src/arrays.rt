@@ -9,17 +9,19 @@ use std::process::Abort;
 use std::test::Fail;
 
 /// The lines of a table, and its arrays: depth and first edge of each node, keysym and target of
-/// each edge, the offsets of the texts, the texts, and the number of hints.
+/// each edge, the entries of the texts, the long texts, and the number of hints.
 struct ArraysRow {
     lines: &'static str,
     prints: &'static str,
 }
 
 #[rattlefmt::skip]
-static ARRAYS: [ArraysRow; 3] = [
-    ArraysRow { lines: "", prints: "0 from 0;0 from 0;||0 ||0" },
-    ArraysRow { lines: "<a> : \"é\"", prints: "0 from 0;0 from 1;|0x61 to 1;|0 2 |é|2" },
-    ArraysRow { lines: "<a> <b> : \"x\"\n<a> <c> : \"yz\"\n<d> : \"w\"", prints: "0 from 0;1 from 2;0 from 4;|0x61 to 2;0x64 to 5;0x62 to 1;0x63 to 3;|0 1 3 4 |xyzw|8" },
+static ARRAYS: [ArraysRow; 5] = [
+    ArraysRow { lines: "", prints: "0 from 0;0 from 0;||||0" },
+    ArraysRow { lines: "<a> : \"é\"", prints: "0 from 0;0 from 1;|0x61 to 1;|195 169 0 2 ||2" },
+    ArraysRow { lines: "<a> <b> : \"x\"\n<a> <c> : \"yz\"\n<d> : \"w\"", prints: "0 from 0;1 from 2;0 from 4;|0x61 to 2;0x64 to 5;0x62 to 1;0x63 to 3;|120 0 0 1 121 122 0 2 119 0 0 1 ||8" },
+    ArraysRow { lines: "<a> : \"12345\"\n<b> : \"6789\"", prints: "0 from 0;0 from 2;|0x61 to 1;0x62 to 3;|0 0 0 5 3 0 0 4 |12345\u{0}6789|4" },
+    ArraysRow { lines: "<a> : \"12345\"\n<b> : \"6789\"\n<c> : \"12345\"", prints: "0 from 0;0 from 3;|0x61 to 1;0x62 to 3;0x63 to 5;|0 0 0 5 3 0 0 4 0 0 0 5 |12345\u{0}6789|6" },
 ];
 
 /// Prints the nodes and the edges.
@@ -37,12 +39,12 @@ fn push_nodes_and_edges(text: &mut String, arrays: &LentArrays<'_>) -> Result<()
     Ok(())
 }
 
-/// Prints the offsets, the texts and the number of hints.
+/// Prints the entries of the texts, the long texts and the number of hints.
 fn push_texts_and_hints(text: &mut String, arrays: &LentArrays<'_>) -> Result<(), AllocError> {
-    for offset in arrays.offsets {
-        write!(text, "{offset} ")?;
+    for byte in arrays.texts {
+        write!(text, "{byte} ")?;
     }
-    let texts = str::from_utf8(arrays.texts).unwrap_or("?");
+    let texts = str::from_utf8(arrays.long_texts).unwrap_or("?");
     let hints = arrays.hints.len();
     write!(text, "|{texts}|{hints}")?;
     Ok(())

@@ -6,7 +6,7 @@ use Rattle.std.proofs.lemmas.List.Folds.{list_any-append}
 use Rattle.compose_model.specs.Session.{Session, rest, fed as session_fed, loaded as session_loaded}
 use Rattle.compose_wire.specs.Messages.{Body, open_session, key, reset, close, load, ask, session_taken, no_session, full, bad_keysym, bad_bundle, table_refused, certificate_refused, verdict_no, no_memory, ReplyBody, opened, fed, was_reset, closed, loaded, state, refused}
 use Rattle.compose_machine.specs.Machine.{ServiceState, Reading, Row, Answers, session_of}
-use Rattle.compose_machine.specs.Laws.{Exchange, IsHistory}
+use Rattle.compose_machine.specs.Laws.{IsHistory}
 use Rattle.compose_machine.proofs.Rows.{session_of-with, session_of-append, session_of-without, session_of-loaded}
 use Rattle.compose_many.specs.Connection.{Event, receives, answers, refuses, sends, closes, exchange_of, exchanges}
 use Rattle.compose_many.specs.Service.{NumberedEvent}

@@ -1,12 +1,12 @@
 -- A connection that ended with its sessions owns none.
-use Rattle.std.proofs.Common.{◌≡◌, ℕ, List, [], ◌∷◌, ◌++◌, Bool, true, false, cond, map, refl, sym, ◌∙◌, ap, subst}
+use Rattle.std.proofs.Common.{◌≡◌, ℕ, List, [], ◌∷◌, ◌++◌, Bool, true, false, cond, map, refl, ◌∙◌, ap}
 use Rattle.std.specs.Prelude.{◌==◌, not, Option, Some, None, fold, filter}
 use Rattle.std.proofs.lemmas.List.Sums.{fold-append}
 use Rattle.compose_wire.specs.Messages.{Body, open_session, key, reset, close, load, ask, ReplyBody, opened, fed, was_reset, closed, loaded, state, refused}
 use Rattle.compose_machine.specs.Laws.{Exchange}
-use Rattle.compose_many.specs.Connection.{Event, closes, exchange_of}
+use Rattle.compose_many.specs.Connection.{closes, exchange_of}
 use Rattle.compose_many.specs.Service.{NumberedEvent, events_of, numbered}
-use Rattle.compose_many.specs.Owners.{owners_when, owners_after, owners_by, owners_of, without, with_owner, first_own, ClosesOwn, EndedWithItsSessions, EndedOwnNone}
+use Rattle.compose_many.specs.Owners.{owners_when, owners_after, owners_by, owners_of, without, first_own, ClosesOwn, EndedOwnNone}
 use Rattle.compose_many.specs.declared.owners.Owner.{Owner}
 use Rattle.compose_many.proofs.Owning.{exchanges_closed, owners_on}
 

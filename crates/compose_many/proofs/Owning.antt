@@ -1,5 +1,5 @@
 -- The owners of the open sessions.
-use Rattle.std.proofs.Common.{◌≡◌, ℕ, ◌+◌, ◌<◌, ◌≤◌, List, [], ◌∷◌, ◌++◌, Bool, true, false, cond, length, map, refl, sym, ◌∙◌, ap, subst, append-nil, append_assoc, eq-eqb, arith}
+use Rattle.std.proofs.Common.{◌≡◌, ℕ, ◌<◌, ◌≤◌, List, [], ◌∷◌, ◌++◌, Bool, true, false, cond, length, map, refl, sym, ◌∙◌, ap, subst, append-nil, append_assoc, eq-eqb, arith}
 use Rattle.std.specs.Prelude.{not, Option, Some, None}
 use Rattle.compose_wire.specs.Messages.{Body, close, ReplyBody, opened, fed, was_reset, closed, loaded, state, refused}
 use Rattle.compose_wire.specs.Requests.{body_of}

@@ -43,6 +43,16 @@ pub record IsNoted (expected : List ℕ) (before outcome : Outcome) : Type 0 whe
   pub file : outcome.file ≡ before.file
   pub ended : outcome.ended ≡ before.ended
 
+-- ---- two runs, one after the other
+
+-- what the first prints, then what the second prints, and the end of the second
+pub record PrintsBoth (first second outcome : Outcome) : Type 0 where
+  pub notes : string_bytes outcome.notes ≡ string_bytes first.notes ++ string_bytes second.notes
+  pub output : string_bytes outcome.output ≡ string_bytes first.output ++ string_bytes second.output
+  pub errors : string_bytes outcome.errors ≡ string_bytes first.errors ++ string_bytes second.errors
+  pub file : outcome.file ≡ None
+  pub ends : outcome.ended ≡ second.ended
+
 -- ---- an answer, or a refusal
 
 -- the text of an answer, on standard output

@@ -1,8 +1,8 @@
 //! What a run prints, and how it ends.
-ghost use Rattle.std.specs.Prelude.{string_bytes};
+ghost use Rattle.std.specs.Prelude.{string_bytes, IfOk};
 
 use compose_answer::Ended;
-use std::alloc::Global;
+use std::alloc::{AllocError, Global};
 
 /// What a run prints, in this order, and how it then ends. If the answer can't be written, the run
 /// ends as refused.
@@ -21,7 +21,7 @@ pub struct Outcome {
 }
 
 impl Outcome {
-    ghost use Rattle.compose_report.specs.Outcomes.{IsNoted, PrintsOutput, PrintsErrors};
+    ghost use Rattle.compose_report.specs.Outcomes.{IsNoted, PrintsBoth, PrintsOutput, PrintsErrors};
 
     /// Returns the outcome of a run that prints this text to standard output alone. Takes no
     /// memory.
@@ -55,5 +55,20 @@ impl Outcome {
         ensures { IsNoted (string_bytes notes) self result }
     {
         Outcome { notes, ..self }
+    }
+
+    /// Returns the outcome of a run that prints what this one does, then what the next one does,
+    /// and ends as that does. Neither output goes to a file then. O(bytes).
+    ///
+    /// Errors: `AllocError` if memory runs out.
+    pub fn followed_by(mut self, next: &Outcome) -> Result<Outcome, AllocError>
+        ensures { IfOk result (λ both. PrintsBoth self next.now both) }
+    {
+        self.notes.push_str(&next.notes)?;
+        self.output.push_str(&next.output)?;
+        self.errors.push_str(&next.errors)?;
+        self.file = None;
+        self.ended = next.ended;
+        Ok(self)
     }
 }

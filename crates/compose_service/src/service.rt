@@ -560,7 +560,6 @@ impl<T: BuildTable> Service<T> {
 
 /// Replaces an answer by that to a key which was fed. In an answer to a key it writes the status
 /// and the bytes of the text, and nothing else; in the place of any other answer it puts a new one.
-/// It comes after the key is fed, since a new `ArrayString` clears all of its bytes.
 #[inline(always)]
 fn put_fed(fed: &Fed<'_>, answer: &mut ReplyBody)
     ensures { HasAnswerValue answer.new
@@ -572,6 +571,16 @@ fn put_fed(fed: &Fed<'_>, answer: &mut ReplyBody)
         fed.text_into(text);
         return;
     }
+    put_new(fed, answer);
+}
+
+/// Puts a new answer to a key in the place of any other one. It is a function of its own, since a
+/// new `ArrayString` clears all of its bytes: in `put_fed` they would be cleared at every key.
+#[inline(never)]
+fn put_new(fed: &Fed<'_>, answer: &mut ReplyBody)
+    ensures { HasAnswerValue answer.new
+        (words.fed fed.now.status fed.now.accepted (text_bytes fed.now.text)) }
+{
     let mut text = ArrayString::new();
     fed.text_into(&mut text);
     *answer = ReplyBody::Fed(fed.status, fed.accepted, text);

@@ -14,6 +14,7 @@
 #![tactic(auto)]
 
 mod fed;
+mod pending;
 mod state;
 
 pub use fed::{Fed, FedText};

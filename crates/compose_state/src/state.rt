@@ -14,6 +14,7 @@ ghost use Rattle.keysym_core.specs.Keysym.{is_ignored};
 ghost use Rattle.keysym_core.specs.Names.{KeysymNames, text as names_text};
 
 use crate::fed::{Fed, FedText};
+use crate::pending::Pending;
 use arrayvec::ArrayVec;
 use compose_model::Status;
 use compose_tree::{ComposeTable, NodeId, Target};
@@ -24,7 +25,7 @@ use std::marker::Model;
 /// any table.
 #[derive(Drop)]
 pub struct ComposeState {
-    pending: ArrayVec<Keysym, 31>,
+    pending: Pending,
     // for each pending keysym, the index of its edge in the table with which it was fed: a hint, which is always
     // checked
     edge_indexes: [u32; 31],
@@ -34,9 +35,9 @@ pub struct ComposeState {
 impl Model for ComposeState {
     ghost Value = { Session };
 
-    ghost view = { λ s. record { pending = s.pending.items; status = s.status } };
+    ghost view = { λ s. record { pending = s.pending; status = s.status } };
 
-    ghost invariant = { λ s. length s.pending.items ≤ 31 };
+    ghost invariant = { λ s. length s.pending ≤ 31 };
 }
 
 impl ComposeState {
@@ -45,7 +46,7 @@ impl ComposeState {
         ensures { result ≡ rest }
     {
         ComposeState {
-            pending: ArrayVec::new(),
+            pending: Pending::new(),
             edge_indexes: [0; 31],
             status: Status::Nothing,
         }
@@ -100,7 +101,7 @@ impl ComposeState {
     }
 
     /// Returns the state with these pending keysyms and this status. For each pending keysym there
-    /// is a hint, the index of its edge; any numbers will do as hints. O(1).
+    /// is a hint, the index of its edge; any numbers will do as hints. O(pending keysyms).
     pub fn restored(
         pending: ArrayVec<Keysym, 31>,
         edge_indexes: [u32; 31],
@@ -109,7 +110,7 @@ impl ComposeState {
         ensures { result ≡ record { pending = pending.items; status = status } }
     {
         ComposeState {
-            pending,
+            pending: Pending::of(pending.as_slice()),
             edge_indexes,
             status,
         }
@@ -219,13 +220,12 @@ impl ComposeState {
         self.edge_indexes = refed.edge_indexes;
     }
 
-    /// Ends what is pending, with this status. A new list takes fewer instructions than `clear`, which
-    /// calls a function.
+    /// Ends what is pending, with this status.
     #[inline(always)]
     fn end(&mut self, status: Status)
         ensures { self.new ≡ record { pending = []; status = status } }
     {
-        self.pending = ArrayVec::new();
+        self.pending.clear();
         self.status = status;
     }
 

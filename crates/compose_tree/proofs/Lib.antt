@@ -10,6 +10,7 @@ pub mod Scattering
 pub mod Counts
 pub mod Lookups
 pub mod Unpacking
+pub mod LongTexts
 pub mod Spelling
 pub mod PackedLookups
 pub mod PackedTexts

@@ -1,31 +1,30 @@
 -- How the packed arrays are built, step by step, and the results of searches in them.
 use Rattle.std.proofs.Common.{◌≡◌, ℕ, zero, suc, ◌+◌, ◌-◌, ◌<◌, ◌≤◌, List, [], ◌∷◌, ◌++◌, true, ◌⊎◌, length, map, get_or, slice_index, take, drop, refl, sym, ◌∙◌, ap, subst, arith, inl, inr, eq-eqb, add-one, add-zero, zero-add, append_assoc, length-append, drop-cons}
-use Rattle.std.specs.Prelude.{◌==◌, Some, None, option_map, slice_get}
+use Rattle.std.specs.Prelude.{◌==◌, ◌%◌, Some, None, option_map, replicate, slice_get}
 use Rattle.std.specs.List.{list_all}
 use Rattle.std.specs.List.Sorted.{IsStrictlyIncreasing}
 use Rattle.std.specs.Str.{is_utf8, IsUtf8}
 use Rattle.std.proofs.Math.Nat.{eq-or-lt_of_le}
 use Rattle.std.proofs.lemmas.Bool.{and_from, cases_lt}
-use Rattle.std.proofs.lemmas.List.{get_or-map, length-map}
+use Rattle.std.proofs.lemmas.List.{get_or-map, length-map, length-replicate}
 use Rattle.std.proofs.lemmas.Map.Keys.{below_from_sorted, sorted_from_strictly_increasing, IsStrictlyIncreasing-from_sorted, any_passes_from_place}
 use Rattle.std.proofs.lemmas.Option.{slice_get-get_or}
 use Rattle.std.proofs.lemmas.Str.{is_utf8-from_IsUtf8}
 use Rattle.compose_model.specs.Table.{Definition}
 use Rattle.compose_model.specs.Nodes.{nodes, node, edges}
 use Rattle.compose_model.proofs.NodeLemmas.{listed_edge}
-use Rattle.compose_read.specs.Settle.{IsSettled}
 use Rattle.compose_tree.specs.declared.packed.PackedEdge.{PackedEdge}
 use Rattle.compose_tree.specs.declared.packed.PackedNode.{PackedNode}
 use Rattle.compose_tree.specs.declared.table.Target.{Target}
 use Rattle.compose_tree.specs.Targets.{target_of}
 use Rattle.compose_tree.specs.Rows.{NodeRow, row_at, rows_of, row_of, edge_of, where_to}
-use Rattle.compose_tree.specs.Packed.{packed_edge, packed_nodes, packed_edges, packed_offsets, pool, texts_of, unpacked_target, unpacked, keys_of, with_texts, spelled, unpacked_texts, IsPacked}
+use Rattle.compose_tree.specs.Packed.{packed_edge, packed_nodes, packed_edges, long_text, texts_of, unpacked_rows, unpacked_target, unpacked, keys_of, with_texts, spelled, unpacked_texts, IsPacked}
 use Rattle.compose_tree.proofs.OneMore.{edges_sorted}
 use Rattle.compose_tree.proofs.Lookups.{text_read, target_at_edge, leads_nowhere, key_read}
 use Rattle.compose_tree.proofs.Unpacking.{piece, unpack_rows, unpack_texts, unpack_target, put_together}
 use Rattle.compose_tree.proofs.Spelling.{spelled_all}
 
--- ---- making the pool
+-- ---- making the entries of texts
 
 -- the texts from an index on
 pub texts_on : (all : List Definition) (i : ℕ) (t : List ℕ) → i < length all → option_map (λ (d : Definition). d.text) (slice_get all i) ≡ Some t
@@ -34,21 +33,16 @@ texts_on all i t h e =
     let d : Definition = record { sequence = []; text = [] } in
     rw add-one (ap texts_of (drop-cons all i d h) ∙ ap (λ x. x ∷ texts_of (drop (suc i) all)) (sym (text_read all i t d h e)))
 
--- with the offset of one more text pushed, those of the remaining texts come after it
-pub offsets_step : (all : List Definition) (i offset next : ℕ) (whole offsets more t : List ℕ) → whole ≡ offsets ++ packed_offsets offset (texts_of (drop i all))
-    → texts_of (drop i all) ≡ t ∷ texts_of (drop (i + 1) all)
-    → more ≡ offsets ++ offset ∷ [] → next ≡ offset + length t → whole ≡ more ++ packed_offsets next (texts_of (drop (i + 1) all))
-offsets_step all i offset next whole offsets more t e f g h =
-    let rest = texts_of (drop (i + 1) all) in
-    e ∙ ap (λ ts. offsets ++ packed_offsets offset ts) f ∙ sym (append_assoc offsets (offset ∷ []) (packed_offsets (offset + length t) rest))
-    ∙ ap (λ x. x ++ packed_offsets (offset + length t) rest) (sym g) ∙ ap (λ n. more ++ packed_offsets n rest) (sym h)
-
--- with one more text pushed to the pool, the remaining texts come after it
-pub pool_step : (all : List Definition) (i : ℕ) (whole bytes more t : List ℕ) → whole ≡ bytes ++ pool (texts_of (drop i all)) → texts_of (drop i all) ≡ t ∷ texts_of (drop (i + 1) all)
-    → more ≡ bytes ++ t → whole ≡ more ++ pool (texts_of (drop (i + 1) all))
-pool_step all i whole bytes more t e f g =
-    let rest = texts_of (drop (i + 1) all) in
-    e ∙ ap (λ ts. bytes ++ pool ts) f ∙ sym (append_assoc bytes t (pool rest)) ∙ ap (λ x. x ++ pool rest) (sym g)
+-- a text takes at most one byte more than it has
+pub long_few : (t : List ℕ) → length (long_text t) ≤ length t + 1
+long_few [] = omega arith
+long_few (a ∷ []) = omega arith
+long_few (a ∷ b ∷ []) = omega arith
+long_few (a ∷ b ∷ c ∷ []) = omega arith
+long_few (a ∷ b ∷ c ∷ d ∷ more) =
+    let n = length-append (a ∷ b ∷ c ∷ d ∷ more) (replicate (length more % 2) 0) in
+    let m = length-replicate {A = ℕ} (length more % 2) 0 in
+    omega (arith, n, m)
 
 -- a text in UTF-8 before others in UTF-8
 pub utf8_step : (all : List Definition) (i : ℕ) (t : List ℕ) → texts_of (drop i all) ≡ t ∷ texts_of (drop (i + 1) all) → IsUtf8 t → list_all is_utf8 (texts_of (drop (i + 1) all)) ≡ true
@@ -110,14 +104,6 @@ nowhere_else edges key first count few below above not_there k h same = elim (ca
 
 -- ---- the arrays of a table mean that table
 
--- a settled table that is packed is unpacked again
-pub unpack : (table : List Definition) → IsSettled table → unpacked (packed_nodes 0 (rows_of table)) (packed_edges (rows_of table)) (packed_offsets 0 (texts_of table)) (pool (texts_of table)) ≡ table
-unfolding unpacked
-unpack table s =
-    ap (λ rows. with_texts (spelled rows 32 0) (unpacked_texts (packed_offsets 0 (texts_of table)) (pool (texts_of table)))) (unpack_rows (rows_of table))
-    ∙ ap (with_texts (spelled (rows_of table) 32 0)) (unpack_texts (texts_of table))
-    ∙ ap (λ ss. with_texts ss (texts_of table)) (spelled_all table s 32 (omega arith)) ∙ put_together table
-
 -- ---- a node's entries
 
 -- the entries of node i and of the one after it, counted from an index, and its edges among all
@@ -167,7 +153,7 @@ node_piece (r ∷ rows) offset (suc i) h =
     placed : (offset a b c : ℕ) → c ≡ a + b → offset + a + b ≡ offset + c
     placed offset a b c e = omega arith
 
-module _ (nodes' : List PackedNode) (edges' : List PackedEdge) (offsets bytes : List ℕ) (table : List Definition) (p : IsPacked nodes' edges' offsets bytes table) where
+module _ (nodes' : List PackedNode) (edges' : List PackedEdge) (entries long : List ℕ) (table : List Definition) (p : IsPacked nodes' edges' entries long table) where
   row_at_node : (i : ℕ) → i < length (nodes table) → row_at (rows_of table) i ≡ row_of table (node table i)
   row_at_node i h = get_or-map (row_of table) (nodes table) i [] (record { depth = 0; edges = [] }) h
 
@@ -249,14 +235,17 @@ pub edges_counted : (table : List Definition) (x : List ℕ) (es : List PackedEd
 edges_counted table x es e = ap length e ∙ length-map (map (edge_of table x) (edges table x)) packed_edge ∙ length-map (edges table x) (edge_of table x)
 
 -- arrays that are those of their meaning are those of this table, if it is their meaning
-pub packed_as : (nodes' : List PackedNode) (edges' : List PackedEdge) (offsets bytes : List ℕ) (table : List Definition) → IsPacked nodes' edges' offsets bytes (unpacked nodes' edges' offsets bytes)
-    → unpacked nodes' edges' offsets bytes ≡ table → IsPacked nodes' edges' offsets bytes table
-packed_as nodes' edges' offsets bytes table p e = subst (IsPacked nodes' edges' offsets bytes) e p
+pub packed_as : (nodes' : List PackedNode) (edges' : List PackedEdge) (entries long : List ℕ) (table : List Definition) → IsPacked nodes' edges' entries long (unpacked nodes' edges' entries long)
+    → unpacked nodes' edges' entries long ≡ table → IsPacked nodes' edges' entries long table
+packed_as nodes' edges' entries long table p e = subst (IsPacked nodes' edges' entries long) e p
 
 -- the arrays of a table mean that table
-pub unpack_packed : (nodes' : List PackedNode) (edges' : List PackedEdge) (offsets bytes : List ℕ) (table : List Definition) → IsPacked nodes' edges' offsets bytes table
-    → unpacked nodes' edges' offsets bytes ≡ table
-unpack_packed nodes' edges' offsets bytes table p =
-    ap (λ x. unpacked x edges' offsets bytes) p.nodes_are ∙ ap (λ x. unpacked (packed_nodes 0 (rows_of table)) x offsets bytes) p.edges_are
-    ∙ ap (λ x. unpacked (packed_nodes 0 (rows_of table)) (packed_edges (rows_of table)) x bytes) p.offsets_are
-    ∙ ap (unpacked (packed_nodes 0 (rows_of table)) (packed_edges (rows_of table)) (packed_offsets 0 (texts_of table))) p.bytes_are ∙ unpack table p.settled
+pub unpack_packed : (nodes' : List PackedNode) (edges' : List PackedEdge) (entries long : List ℕ) (table : List Definition) → IsPacked nodes' edges' entries long table
+    → unpacked nodes' edges' entries long ≡ table
+unfolding unpacked
+unpack_packed nodes' edges' entries long table p =
+    ap (λ x. with_texts (spelled (unpacked_rows x edges') 32 0) (unpacked_texts entries long)) p.nodes_are
+    ∙ ap (λ x. with_texts (spelled (unpacked_rows (packed_nodes 0 (rows_of table)) x) 32 0) (unpacked_texts entries long)) p.edges_are
+    ∙ ap (λ rows. with_texts (spelled rows 32 0) (unpacked_texts entries long)) (unpack_rows (rows_of table))
+    ∙ ap (with_texts (spelled (rows_of table) 32 0)) (unpack_texts (texts_of table) entries long p.entries_are)
+    ∙ ap (λ ss. with_texts ss (texts_of table)) (spelled_all table p.settled 32 (omega arith)) ∙ put_together table

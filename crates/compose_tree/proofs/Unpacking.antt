@@ -1,16 +1,16 @@
 -- Unpacking the packed arrays of rows and texts returns these rows and texts.
-use Rattle.std.proofs.Common.{◌≡◌, ℕ, zero, suc, ◌+◌, ◌-◌, ◌*◌, ◌/◌, ◌%◌, List, [], ◌∷◌, ◌++◌, true, false, cond, length, map, take, drop, refl, sym, ◌∙◌, ap, arith, inl, inr, eqb-true, eq-eqb, append_assoc, length-append}
-use Rattle.std.specs.Prelude.{◌==◌}
+use Rattle.std.proofs.Common.{◌≡◌, ℕ, zero, suc, ◌+◌, ◌-◌, ◌*◌, ◌/◌, ◌%◌, ◌≤◌, List, [], ◌∷◌, ◌++◌, true, false, cond, length, map, take, drop, refl, sym, ◌∙◌, ap, arith, inl, inr, eqb-true, eq-eqb, append_assoc, length-append}
+use Rattle.std.specs.Prelude.{◌==◌, nat_lt, replicate}
 use Rattle.std.proofs.Math.Seq.{drop-append_seam}
-use Rattle.std.proofs.lemmas.Bool.{cases_Bool}
-use Rattle.std.proofs.lemmas.List.{length-map}
+use Rattle.std.proofs.lemmas.Bool.{cases_Bool, le-ltb}
+use Rattle.std.proofs.lemmas.List.{length-map, length-replicate}
 use Rattle.compose_model.specs.Table.{Definition}
 use Rattle.compose_tree.specs.declared.edge.Edge.{Edge}
 use Rattle.compose_tree.specs.declared.packed.PackedEdge.{PackedEdge}
 use Rattle.compose_tree.specs.declared.table.Target.{Target}
 use Rattle.compose_tree.specs.declared.table.Target.TheVariants.{Node, Leaf}
 use Rattle.compose_tree.specs.Rows.{NodeRow}
-use Rattle.compose_tree.specs.Packed.{packed_target, packed_edge, packed_nodes, packed_edges, packed_offsets, pool, texts_of, unpacked_target, unpacked_edge, unpacked_rows, unpacked_texts, with_texts}
+use Rattle.compose_tree.specs.Packed.{packed_target, packed_edge, packed_nodes, packed_edges, entry_text, long_text, text_entry, texts_of, unpacked_target, unpacked_edge, unpacked_rows, unpacked_texts, with_texts, AreEntries, HasLongText}
 
 -- ---- entries
 
@@ -81,23 +81,60 @@ unpack_rows rows = rows_unpack rows 0 [] refl
 
 -- ---- texts
 
-texts_unpack : (texts : List (List ℕ)) (offset : ℕ) (prefix : List ℕ) → length prefix ≡ offset → unpacked_texts (packed_offsets offset texts) (prefix ++ pool texts) ≡ texts
-texts_unpack [] offset prefix e = refl
-texts_unpack (t ∷ texts) offset prefix e =
-    let here : take (offset + length t - offset) (drop offset (prefix ++ (t ++ pool texts))) ≡ t = piece offset (offset + length t) prefix t (pool texts) e refl in
-    let later : unpacked_texts (packed_offsets (offset + length t) texts) (prefix ++ (t ++ pool texts)) ≡ texts =
-    ap (unpacked_texts (packed_offsets (offset + length t) texts)) (sym (append_assoc prefix t (pool texts)))
-    ∙ texts_unpack texts (offset + length t) (prefix ++ t) (let m = length-append prefix t in omega arith) in
-    two offset t texts (prefix ++ (t ++ pool texts)) here later
-  where
-    two : (offset : ℕ) (t : List ℕ) (texts : List (List ℕ)) (bytes : List ℕ) → take (offset + length t - offset) (drop offset bytes) ≡ t
-        → unpacked_texts (packed_offsets (offset + length t) texts) bytes ≡ texts → unpacked_texts (packed_offsets offset (t ∷ texts)) bytes ≡ t ∷ texts
-    two offset t [] bytes h l = λ i. h i ∷ l i
-    two offset t (u ∷ texts) bytes h l = λ i. h i ∷ l i
+-- the three bytes of an entry say how many bytes of long texts come before
+pub before_read : (before : ℕ) → before % 2 ≡ 0 → 2 * (before / 2 % 256 + 256 * (before / 512 % 256) + 65536 * (before / 131072)) ≡ before
+before_read before even = omega (arith, even)
 
--- texts that are packed in a pool are unpacked again
-pub unpack_texts : (texts : List (List ℕ)) → unpacked_texts (packed_offsets 0 texts) (pool texts) ≡ texts
-unpack_texts texts = texts_unpack texts 0 [] refl
+-- a long text takes an even number of bytes
+pub long_even : (text : List ℕ) → length (long_text text) % 2 ≡ 0
+long_even [] = refl
+long_even (a ∷ []) = refl
+long_even (a ∷ b ∷ []) = refl
+long_even (a ∷ b ∷ c ∷ []) = refl
+long_even (a ∷ b ∷ c ∷ d ∷ more) =
+    let n = length-append (a ∷ b ∷ c ∷ d ∷ more) (replicate (length more % 2) 0) in
+    let m = length-replicate {A = ℕ} (length more % 2) 0 in
+    omega (arith, n, m)
+
+-- a text of more than three bytes stands where it is put
+pub long_read : (text : List ℕ) (before : ℕ) (prefix : List ℕ) → length prefix ≡ before → 4 ≤ length text
+    → (before + length text ≤ length (prefix ++ long_text text)) × (take (length text) (drop before (prefix ++ long_text text)) ≡ text)
+long_read [] before prefix e h = absurd (omega (arith, h))
+long_read (a ∷ []) before prefix e h = absurd (omega (arith, h))
+long_read (a ∷ b ∷ []) before prefix e h = absurd (omega (arith, h))
+long_read (a ∷ b ∷ c ∷ []) before prefix e h = absurd (omega (arith, h))
+long_read (a ∷ b ∷ c ∷ d ∷ more) before prefix e h =
+    let text : List ℕ = a ∷ b ∷ c ∷ d ∷ more in
+    let pad : List ℕ = replicate (length more % 2) 0 in
+    let n : length (prefix ++ (text ++ pad)) ≡ length prefix + (length text + length pad) = length-append prefix (text ++ pad) ∙ ap (λ m. length prefix + m) (length-append text pad) in (
+      omega (arith, e, n),
+      ap (take (length text)) (drop_prefix before prefix (text ++ pad) e) ∙ take_prefix (length text) text pad refl,
+    )
+
+-- the text of the entry of a text is that text
+unpack_text : (text : List ℕ) (before : ℕ) (long entries : List ℕ) → HasLongText before text long → unpacked_texts (text_entry before text ++ entries) long ≡ text ∷ unpacked_texts entries long
+unpack_text [] before long entries placed = refl
+unpack_text (a ∷ []) before long entries placed = refl
+unpack_text (a ∷ b ∷ []) before long entries placed = refl
+unpack_text (a ∷ b ∷ c ∷ []) before long entries placed = refl
+unpack_text (a ∷ b ∷ c ∷ d ∷ more) before long entries placed =
+    let text : List ℕ = a ∷ b ∷ c ∷ d ∷ more in
+    let x = before / 2 % 256 in
+    let y = before / 512 % 256 in
+    let z = before / 131072 in
+    let count = length more + 4 in
+    let wide : nat_lt count 4 ≡ false = le-ltb count 4 (omega arith) in
+    let same : count ≡ length text = omega arith in
+    let here : entry_text x y z count long ≡ text =
+    ap (λ u. cond {A = List ℕ} u (take count (x ∷ y ∷ z ∷ [])) (take count (drop (2 * (x + 256 * y + 65536 * z)) long))) wide
+    ∙ ap (λ m. take count (drop m long)) (before_read before placed.even) ∙ ap (λ m. take m (drop before long)) same ∙ placed.there (omega arith) in
+    ap (λ t. t ∷ unpacked_texts entries long) here
+
+-- texts that are packed are unpacked again
+pub unpack_texts : (texts : List (List ℕ)) (entries long : List ℕ) → AreEntries entries texts long → unpacked_texts entries long ≡ texts
+unpack_texts [] entries long h = ap (λ x. unpacked_texts x long) h
+unpack_texts (t ∷ texts) entries long h =
+    ap (λ x. unpacked_texts x long) h.2 ∙ unpack_text t h.0 long h.1 h.3 ∙ ap (λ ts. t ∷ ts) (unpack_texts texts h.1 long h.4)
 
 -- sequences with their texts are the definitions
 pub put_together : (table : List Definition) → with_texts (map (λ d. d.sequence) table) (texts_of table) ≡ table

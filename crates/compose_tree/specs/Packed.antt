@@ -1,8 +1,10 @@
 -- The packed form of a table: flat arrays of nodes, edges and texts, and their meaning. Definitions for the contracts
 -- of private functions.
-use Rattle.std.specs.Prelude.{◌≡◌, ◌≤◌, IsTrue, ℕ, zero, suc, ◌+◌, ◌-◌, ◌*◌, ◌/◌, ◌%◌, ◌==◌, List, [], ◌∷◌, map, length, take, drop, flat_map, if◌then◌else◌}
-use Rattle.std.specs.List.{list_all}
+use Rattle.std.specs.Prelude.{◌≡◌, ◌≤◌, IsTrue, ℕ, zero, suc, ◌+◌, ◌-◌, ◌*◌, ◌/◌, ◌%◌, ◌==◌, List, [], ◌∷◌, map, length, take, drop, ◌++◌, flat_map, filter, replicate, nat_lt, bytes_eq, if◌then◌else◌}
+use Rattle.std.specs.Borrow.{Bor}
+use Rattle.std.specs.List.{list_all, AllByRecursion}
 use Rattle.std.specs.Str.{is_utf8}
+use Rattle.indexmap.specs.IndexSet.{insert_all, insert_key}
 use Rattle.compose_model.specs.Table.{Definition}
 use Rattle.compose_model.specs.Nodes as model
 use Rattle.compose_read.specs.Read.{max_definitions}
@@ -34,14 +36,42 @@ packed_nodes offset (row ∷ rows) = record { depth = row.depth; first = offset 
 abbrev pub packed_edges : List NodeRow → List PackedEdge
 packed_edges rows = flat_map (λ row. map packed_edge row.edges) rows
 
--- for each text its offset in the pool, from this offset on, and after them the end of the pool
-abbrev pub packed_offsets : ℕ → List (List ℕ) → List ℕ
-packed_offsets offset [] = offset ∷ []
-packed_offsets offset (text ∷ texts) = offset ∷ packed_offsets (offset + length text) texts
+-- what a text has among the long ones: nothing if it has at most three bytes, else its bytes, and a zero behind them if
+-- their number is odd
+abbrev pub long_text : List ℕ → List ℕ
+long_text [] = []
+long_text (a ∷ []) = []
+long_text (a ∷ b ∷ []) = []
+long_text (a ∷ b ∷ c ∷ []) = []
+long_text (a ∷ b ∷ c ∷ d ∷ more) = (a ∷ b ∷ c ∷ d ∷ more) ++ replicate (length more % 2) 0
 
--- the texts, one after another
-abbrev pub pool : List (List ℕ) → List ℕ
-pool texts = flat_map (λ text. text) texts
+-- the entry of a text, if the long ones before it take this number of bytes: its bytes, zeros up to three, and its
+-- length; or half of that number in three bytes, the lowest first, and its length
+abbrev pub text_entry : ℕ → List ℕ → List ℕ
+text_entry before [] = 0 ∷ 0 ∷ 0 ∷ 0 ∷ []
+text_entry before (a ∷ []) = a ∷ 0 ∷ 0 ∷ 1 ∷ []
+text_entry before (a ∷ b ∷ []) = a ∷ b ∷ 0 ∷ 2 ∷ []
+text_entry before (a ∷ b ∷ c ∷ []) = a ∷ b ∷ c ∷ 3 ∷ []
+text_entry before (a ∷ b ∷ c ∷ d ∷ more) = (before / 2 % 256) ∷ (before / 512 % 256) ∷ (before / 131072) ∷ (length more + 4) ∷ []
+
+-- a text of more than three bytes stands among the long ones after this even number of bytes
+pub record HasLongText (before : ℕ) (text long : List ℕ) : Type 0 where
+  pub even : before % 2 ≡ 0
+  pub fits : 4 ≤ length text → before + length text ≤ length long
+  pub there : 4 ≤ length text → take (length text) (drop before long) ≡ text
+
+-- the entries of these texts, one after another, and each of more than three bytes stands among the long ones
+abbrev pub AreEntries : List ℕ → List (List ℕ) → List ℕ → Type 0
+AreEntries entries [] long = entries ≡ []
+AreEntries entries (text ∷ texts) long = (before : ℕ) × (more : List ℕ) × (entries ≡ text_entry before text ++ more) × HasLongText before text long × AreEntries more texts long
+
+-- the long ones, one after another
+abbrev pub long_texts : List (List ℕ) → List ℕ
+long_texts texts = flat_map long_text texts
+
+-- the texts of more than three bytes, each once, in the order in which they come first
+abbrev pub different_long : List (List ℕ) → List (List ℕ)
+different_long texts = insert_all bytes_eq [] (filter (λ t. nat_lt 3 (length t)) texts)
 
 abbrev pub texts_of : List Definition → List (List ℕ)
 texts_of table = map (λ d. d.text) table
@@ -59,10 +89,16 @@ unpacked_rows [] edges = []
 unpacked_rows (a ∷ []) edges = []
 unpacked_rows (a ∷ b ∷ nodes) edges = record { depth = a.depth; edges = map unpacked_edge (take (b.first - a.first) (drop a.first edges)) } ∷ unpacked_rows (b ∷ nodes) edges
 
+-- the text of an entry of these four bytes
+abbrev pub entry_text : ℕ → ℕ → ℕ → ℕ → List ℕ → List ℕ
+entry_text a b c count long = if nat_lt count 4 then take count (a ∷ b ∷ c ∷ []) else take count (drop (2 * (a + 256 * b + 65536 * c)) long)
+
 abbrev pub unpacked_texts : List ℕ → List ℕ → List (List ℕ)
-unpacked_texts [] bytes = []
-unpacked_texts (a ∷ []) bytes = []
-unpacked_texts (a ∷ b ∷ offsets) bytes = take (b - a) (drop a bytes) ∷ unpacked_texts (b ∷ offsets) bytes
+unpacked_texts (a ∷ b ∷ c ∷ count ∷ entries) long = entry_text a b c count long ∷ unpacked_texts entries long
+unpacked_texts [] long = []
+unpacked_texts (a ∷ []) long = []
+unpacked_texts (a ∷ b ∷ []) long = []
+unpacked_texts (a ∷ b ∷ c ∷ []) long = []
 
 -- the lists of keysyms after an edge: all lists from a node, or the empty one from a leaf
 abbrev pub spelled_after : Target → (ℕ → List (List ℕ)) → List (List ℕ)
@@ -81,17 +117,18 @@ with_texts (s ∷ sequences) (t ∷ texts) = record { sequence = s; text = t } �
 
 -- the definitions that the arrays mean; a sequence has at most 32 keysyms
 unfoldable pub unpacked : List PackedNode → List PackedEdge → List ℕ → List ℕ → List Definition
-unpacked nodes edges offsets bytes = with_texts (spelled (unpacked_rows nodes edges) 32 0) (unpacked_texts offsets bytes)
+unpacked nodes edges entries long = with_texts (spelled (unpacked_rows nodes edges) 32 0) (unpacked_texts entries long)
 
 -- ---- the properties of a packed table
 
--- the arrays are those of this table: its rows, one list of edges after another, and its texts, one after another
-pub record IsPacked (nodes : List PackedNode) (edges : List PackedEdge) (offsets bytes : List ℕ) (table : List Definition) : Type 0 where
+-- the arrays are those of this table: its rows, one list of edges after another, an entry for each text, and the long
+-- texts, each kept once
+pub record IsPacked (nodes : List PackedNode) (edges : List PackedEdge) (entries long : List ℕ) (table : List Definition) : Type 0 where
   pub settled : IsSettled table
   pub nodes_are : nodes ≡ packed_nodes 0 (rows_of table)
   pub edges_are : edges ≡ packed_edges (rows_of table)
-  pub offsets_are : offsets ≡ packed_offsets 0 (texts_of table)
-  pub bytes_are : bytes ≡ pool (texts_of table)
+  pub entries_are : AreEntries entries (texts_of table) long
+  pub long_are : long ≡ long_texts (different_long (texts_of table))
   pub texts_are_utf8 : IsTrue (list_all is_utf8 (texts_of table))
   pub few_nodes : length (model.nodes table) ≤ max_nodes
   pub few_leaves : length table ≤ max_definitions
@@ -99,3 +136,18 @@ pub record IsPacked (nodes : List PackedNode) (edges : List PackedEdge) (offsets
 -- the keysyms of some edges
 abbrev pub keys_of : List PackedEdge → List ℕ
 keys_of edges = map (λ e. e.keysym) edges
+
+-- ---- long texts as they are collected
+
+-- the texts of a map of places, each behind a reference
+abbrev pub kept_texts : List (Bor (List ℕ) × ℕ) → List (List ℕ)
+kept_texts places = map (λ e. e.0.now) places
+
+-- the texts after this one too was kept, if it is a long one and none of them is equal
+abbrev pub with_kept : List (List ℕ) → List ℕ → List (List ℕ)
+with_kept kept text = if nat_lt 3 (length text) then insert_key bytes_eq kept text else kept
+
+-- the bytes are those of the texts, one after another, and each text stands at its place
+pub record AreKept (places : List (Bor (List ℕ) × ℕ)) (bytes : List ℕ) : Type 0 where
+  pub bytes_are : bytes ≡ long_texts (kept_texts places)
+  pub placed : AllByRecursion (λ e. HasLongText e.1 e.0.now bytes × (e.1 ≤ length bytes)) places

@@ -1,10 +1,10 @@
 //! The packed form of a table in borrowed memory: five arrays, which may be passed to C.
-ghost use Rattle.std.specs.Prelude.{◌≡◌, ◌<◌, ◌≤◌, ℕ, length, map, slice_index, MatchOption, IsTrue};
+ghost use Rattle.std.specs.Prelude.{◌≡◌, ◌<◌, ◌≤◌, ℕ, List, length, map, slice_index, MatchOption, IsTrue};
 ghost use Rattle.std.specs.List.Sorted.{IsStrictlyIncreasing};
-ghost use Rattle.compose_tree.specs.Packed.{keys_of, packed_edge, unpacked_target};
+ghost use Rattle.compose_tree.specs.Packed.{keys_of, packed_edge, text_entry, unpacked_target, HasLongText};
 
 use crate::hints::{hint_at, slots};
-use crate::packed::{PackedEdge, PackedNode};
+use crate::packed::{PackedEdge, PackedNode, SHORT_TEXT, TEXT_ENTRY};
 use crate::table::{ComposeTable, LeafId, NodeId, Target};
 use keysym_core::Keysym;
 use std::marker::Model;
@@ -19,10 +19,11 @@ pub struct LentArrays<'t> {
     pub nodes: &'t [PackedNode],
     /// The edges of all nodes, those of one node after another.
     pub edges: &'t [PackedEdge],
-    /// For each leaf the offset of its text in `texts`, and after them the end of the texts.
-    pub offsets: &'t [u32],
-    /// The texts of all leaves, one after another, in UTF-8.
+    /// For each leaf four bytes: its text in UTF-8, or if that has more than three bytes, where it is
+    /// in `long_texts`; and its length.
     pub texts: &'t [u8],
+    /// The texts of more than three bytes, each at an even offset.
+    pub long_texts: &'t [u8],
     /// The hints; see `Hints`.
     pub hints: &'t [u8],
 }
@@ -32,8 +33,8 @@ pub struct LentArrays<'t> {
 pub struct LentTable<'t> {
     nodes: &'t [PackedNode],
     edges: &'t [PackedEdge],
-    offsets: &'t [u32],
     texts: &'t [u8],
+    long_texts: &'t [u8],
     hints: &'t [u8],
 }
 
@@ -44,10 +45,10 @@ impl<'t> Model for LentTable<'t> {
 
     ghost Value = { List Definition };
 
-    ghost view = { λ t. unpacked t.nodes.now t.edges.now t.offsets.now t.texts.now };
+    ghost view = { λ t. unpacked t.nodes.now t.edges.now t.texts.now t.long_texts.now };
 
-    ghost invariant = { λ t. IsPacked t.nodes.now t.edges.now t.offsets.now t.texts.now
-        (unpacked t.nodes.now t.edges.now t.offsets.now t.texts.now) };
+    ghost invariant = { λ t. IsPacked t.nodes.now t.edges.now t.texts.now t.long_texts.now
+        (unpacked t.nodes.now t.edges.now t.texts.now t.long_texts.now) };
 }
 
 /// Returns the target of a code.
@@ -138,6 +139,24 @@ fn index_by_hints(edges: &[PackedEdge], hints: &[u8], node: NodeId, keysym: Keys
     index_of(edges, keysym)
 }
 
+/// Returns the text of an entry, or `None` if it is not one. O(1).
+#[inline(always)]
+pub fn entry_text<'t>(entry: &'t [u8], long_texts: &'t [u8]) -> Option<&'t [u8]>
+    ensures { (before : ℕ) (text : List ℕ) → entry.now ≡ text_entry before text
+        → HasLongText before text long_texts.now
+        → MatchOption result ⊥ (λ bytes. bytes.now ≡ text) }
+{
+    if entry.len() != TEXT_ENTRY {
+        return None;
+    }
+    let count = usize::from(entry[3]);
+    if count <= SHORT_TEXT {
+        return entry.get(..count);
+    }
+    let half = usize::from(entry[0]) + 256 * usize::from(entry[1]) + 65536 * usize::from(entry[2]);
+    long_texts.get(2 * half..2 * half + count)
+}
+
 impl<'t> LentTable<'t> {
     ghost use Rattle.std.specs.Prelude.{◌≡◌, ◌<◌, ◌≤◌, length, Some};
     ghost use Rattle.compose_model.specs.Nodes as model;
@@ -147,27 +166,29 @@ impl<'t> LentTable<'t> {
     ghost use Rattle.compose_tree.specs.Targets.{leaf_text};
 
     /// Makes a table of these arrays. The hints may be any bytes. O(1).
+    #[inline(always)]
     pub fn of(
         nodes: &'t [PackedNode],
         edges: &'t [PackedEdge],
-        offsets: &'t [u32],
         texts: &'t [u8],
+        long_texts: &'t [u8],
         hints: &'t [u8],
     ) -> LentTable<'t>
-        requires { IsPacked nodes.now edges.now offsets.now texts.now
-            (unpacked nodes.now edges.now offsets.now texts.now) }
-        ensures { result ≡ unpacked nodes.now edges.now offsets.now texts.now }
+        requires { IsPacked nodes.now edges.now texts.now long_texts.now
+            (unpacked nodes.now edges.now texts.now long_texts.now) }
+        ensures { result ≡ unpacked nodes.now edges.now texts.now long_texts.now }
     {
         LentTable {
             nodes,
             edges,
-            offsets,
             texts,
+            long_texts,
             hints,
         }
     }
 
     /// Returns the edges of a node. O(1).
+    #[inline(always)]
     fn edges_of(&self, node: NodeId) -> &'t [PackedEdge]
         requires { node.0 < length (model.nodes self.now) }
         ensures value { result.now
@@ -183,16 +204,17 @@ impl<'t> LentTable<'t> {
     }
 
     /// Returns the text of the leaf, at most 255 bytes, for as long as the arrays are lent. O(1).
+    #[inline(always)]
     pub(crate) fn text_of(&self, leaf: LeafId) -> &'t str
         requires { leaf.0 < length (model.leaves self.now) }
         ensures value { leaf_text self.now leaf.0 ≡ Some result.now }
         ensures few { length result.now ≤ 255 }
     {
-        let number = leaf.0 as usize;
-        let first = self.offsets[number] as usize;
-        let end = self.offsets[number + 1] as usize;
-        let (_, from_first) = self.texts.split_at(first);
-        let (bytes, _) = from_first.split_at(end - first);
+        let (_, from_entry) = self.texts.split_at(leaf.0 as usize * TEXT_ENTRY);
+        let (entry, _) = from_entry.split_at(TEXT_ENTRY);
+        let Some(bytes) = entry_text(entry, self.long_texts) else {
+            return "";
+        };
         // each text of a table is UTF-8
         unsafe { std::str::from_utf8_unchecked(bytes) }
     }
@@ -201,27 +223,33 @@ impl<'t> LentTable<'t> {
 impl<'t> ComposeTable for LentTable<'t> {
     ghost definitions = { λ t. t };
 
+    #[inline(always)]
     fn node_count(&self) -> u32 {
         (self.nodes.len() - 1) as u32
     }
 
+    #[inline(always)]
     fn leaf_count(&self) -> u32 {
-        (self.offsets.len() - 1) as u32
+        (self.texts.len() / TEXT_ENTRY) as u32
     }
 
+    #[inline(always)]
     fn depth(&self, node: NodeId) -> u32 {
         self.nodes[node.0 as usize].depth
     }
 
+    #[inline(always)]
     fn edge_count(&self, node: NodeId) -> u32 {
         self.edges_of(node).len() as u32
     }
 
+    #[inline(always)]
     fn edge(&self, node: NodeId, index: u32) -> (Keysym, Target) {
         let edge = self.edges_of(node)[index as usize];
         (edge.keysym, unpack_target(edge.target))
     }
 
+    #[inline(always)]
     fn find(&self, node: NodeId, keysym: Keysym) -> Option<u32> {
         let Some(index) = index_by_hints(self.edges_of(node), self.hints, node, keysym) else {
             return None;
@@ -229,6 +257,7 @@ impl<'t> ComposeTable for LentTable<'t> {
         Some(index as u32)
     }
 
+    #[inline(always)]
     fn step(&self, node: NodeId, keysym: Keysym) -> Option<Target> {
         let edges = self.edges_of(node);
         let Some(index) = index_by_hints(edges, self.hints, node, keysym) else {
@@ -237,6 +266,7 @@ impl<'t> ComposeTable for LentTable<'t> {
         Some(unpack_target(edges[index].target))
     }
 
+    #[inline(always)]
     fn text(&self, leaf: LeafId) -> &str {
         self.text_of(leaf)
     }

@@ -24,9 +24,9 @@ mod reading;
 mod rows;
 mod table;
 
-pub use lent_table::{LentArrays, LentTable};
+pub use lent_table::{LentArrays, LentTable, entry_text};
 pub use list_table::ListTable;
-pub use packed::{PackedEdge, PackedNode};
+pub use packed::{PackedEdge, PackedNode, TEXT_ENTRY};
 pub use packed_table::PackedTable;
 pub use reading::{TableFault, read_first_table, read_table};
 pub use table::{BuildFault, BuildTable, ComposeTable, LeafId, NodeId, Target};

@@ -15,8 +15,15 @@ pub struct PackedNode {
 #[derive(Clone, Copy)]
 #[repr(C)]
 pub struct PackedEdge {
+    /// The target of the edge: twice the number of a node, or twice the number of a leaf plus one. It
+    /// comes first: a processor tests the lowest bit of eight bytes with one instruction.
+    pub target: u32,
     /// The keysym of the edge.
     pub keysym: Keysym,
-    /// The target of the edge: twice the number of a node, or twice the number of a leaf plus one.
-    pub target: u32,
 }
+
+/// The number of bytes of a text's entry.
+pub const TEXT_ENTRY: usize = 4;
+
+/// A text of at most this number of bytes stands in its entry.
+pub const SHORT_TEXT: usize = 3;

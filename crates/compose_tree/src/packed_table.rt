@@ -11,61 +11,54 @@
 //!          keysym   a        d        b        c
 //!          target   node 1   leaf 2   leaf 0   leaf 1
 //!
-//! offsets  leaf     0        1        2        end
-//!          offset   0        1        3        4
-//! texts             x        y z      w
+//! texts    leaf     0        1        2
+//!          bytes    x 0 0 1  y z 0 2  w 0 0 1          the text, and its length
 //! ```
 //!
 //! The edges of a node are contiguous, in increasing order of keysyms, and end where those of the
 //! next node begin. There are also hints for the index of each edge, two of which a search tries
 //! first. The hints are no part of the table's meaning.
-ghost use Rattle.std.specs.Prelude.{◌≡◌, ◌<◌, ◌≤◌, ◌+◌, ◌*◌, ◌++◌, ℕ, length, map, slice_index, MatchOption, IfOk, OnOk, IsTrue, string_bytes};
+ghost use Rattle.std.specs.Prelude.{◌≡◌, ◌<◌, ◌≤◌, ◌+◌, ◌*◌, ◌++◌, ℕ, List, length, IfOk, OnOk, IsTrue};
 ghost use Rattle.std.specs.List.{list_all};
-ghost use Rattle.std.specs.List.Sorted.{IsStrictlyIncreasing};
 ghost use Rattle.std.specs.Str.{is_utf8};
 ghost use Rattle.compose_tree.specs.Rows.{counts_of, gathered_rows, target_number, AreAtNodes, HaveNumbersBelow};
 ghost use Rattle.compose_tree.specs.Packed as words;
-ghost use Rattle.compose_tree.specs.Packed.{keys_of, packed_edge, packed_target, unpacked_target, packed_nodes, packed_edges, packed_offsets, pool, texts_of};
+ghost use Rattle.compose_tree.specs.Packed.{packed_edge, packed_target, packed_nodes, packed_edges, different_long, kept_texts, long_text, long_texts, texts_of, with_kept, AreEntries, AreKept, HasLongText};
 
 use crate::edge::{Edge, NodeEdge};
 use crate::hints::Hints;
 use crate::lent_table::{LentArrays, LentTable};
-use crate::packed::{PackedEdge, PackedNode};
+use crate::packed::{PackedEdge, PackedNode, SHORT_TEXT, TEXT_ENTRY};
 use crate::rows::build_rows;
 use crate::table::{BuildFault, BuildTable, ComposeTable, LeafId, NodeId, Target};
 use compose_read::Sequences;
+use indexmap::IndexMap;
 use keysym_core::Keysym;
 use std::alloc::{AllocError, Global};
 use std::marker::Model;
 
-/// The number of bytes to allocate for each text at first. Few texts are longer, since most are one
-/// character.
-const COMMON_TEXT: usize = 3;
-
-/// A table as flat arrays: 8 bytes per node, 10 bytes per edge (2 of them hints), and for each leaf
-/// 4 bytes and its text.
+/// A table as flat arrays: 8 bytes per node, 10 bytes per edge (2 of them hints), 4 bytes per
+/// leaf, and each text of more than three bytes once.
 #[derive(Drop)]
 pub struct PackedTable {
     nodes: Vec<PackedNode>,
     edges: Vec<PackedEdge>,
-    offsets: Vec<u32>,
-    texts: String,
+    texts: Vec<u8>,
+    long_texts: Vec<u8>,
     hints: Hints,
 }
 
 impl Model for PackedTable {
-    ghost use Rattle.std.specs.Prelude.{◌≡◌, ◌*◌, List, length, string_bytes};
+    ghost use Rattle.std.specs.Prelude.{◌≡◌, ◌*◌, List, length};
     ghost use Rattle.compose_model.specs.Table.{Definition};
     ghost use Rattle.compose_tree.specs.Packed.{unpacked, IsPacked};
 
     ghost Value = { List Definition };
 
-    ghost view = { λ t. unpacked t.nodes.items t.edges.items t.offsets.items
-        (string_bytes t.texts) };
+    ghost view = { λ t. unpacked t.nodes.items t.edges.items t.texts.items t.long_texts.items };
 
-    ghost invariant = { λ t. IsPacked t.nodes.items t.edges.items t.offsets.items
-        (string_bytes t.texts)
-        (unpacked t.nodes.items t.edges.items t.offsets.items (string_bytes t.texts))
+    ghost invariant = { λ t. IsPacked t.nodes.items t.edges.items t.texts.items t.long_texts.items
+        (unpacked t.nodes.items t.edges.items t.texts.items t.long_texts.items)
         × (length t.hints ≡ 2 * length t.edges.items) };
 }
 
@@ -169,26 +162,93 @@ fn pack_edges(
     Ok(packed)
 }
 
-/// Returns for each text its offset in the pool, and after them the end of the pool; and the pool,
-/// which is all texts, one after another.
-fn pack_texts(alloc: Global, sequences: &Sequences) -> Result<(Vec<u32>, String), AllocError>
-    ensures offsets { IfOk result
-        (λ packed. packed.0.items ≡ packed_offsets 0 (texts_of sequences.now)) }
-    ensures bytes { IfOk result (λ packed. string_bytes packed.1 ≡ pool (texts_of sequences.now)) }
+/// Returns the entry of a text, if the long ones before it take this number of bytes.
+fn text_entry(before: usize, text: &[u8]) -> [u8; TEXT_ENTRY]
+    requires few { before < 33554432 }
+    requires short { length text.now ≤ 255 }
+    ensures { result ≡ words.text_entry before text.now }
+{
+    match text {
+        [] => [0, 0, 0, 0],
+        [a] => [*a, 0, 0, 1],
+        [a, b] => [*a, *b, 0, 2],
+        [a, b, c] => [*a, *b, *c, 3],
+        _ => [
+            (before / 2 % 256) as u8,
+            (before / 512 % 256) as u8,
+            (before / 131072) as u8,
+            text.len() as u8,
+        ],
+    }
+}
+
+/// Adds a text to the long ones, if it is one, and a zero behind it if its length is odd.
+fn push_long(long_texts: &mut Vec<u8>, text: &[u8]) -> Result<(), AllocError>
+    ensures { OnOk result (long_texts.new.items ≡ long_texts.old.items ++ long_text text.now) }
+{
+    if text.len() <= SHORT_TEXT {
+        return Ok(());
+    }
+    long_texts.extend_from_slice(text)?;
+    if text.len() % 2 == 1 {
+        long_texts.push(0)?;
+    }
+    Ok(())
+}
+
+/// Texts of more than three bytes, one after another, and where each of them stands.
+#[derive(Drop)]
+struct LongTexts<'s> {
+    bytes: Vec<u8>,
+    places: IndexMap<&'s str, usize>,
+}
+
+/// Returns after how many bytes a text stands among the long ones. It is added if it is a long one,
+/// and no equal text is there; for a short one 0 is returned. O(bytes), by its hash.
+fn place_of<'s>(long_texts: &mut LongTexts<'s>, text: &'s str) -> Result<usize, AllocError>
+    requires { AreKept long_texts.old.places.entries long_texts.old.bytes.items }
+    ensures kept { OnOk result (AreKept long_texts.new.places.entries long_texts.new.bytes.items) }
+    ensures texts { OnOk result
+        (kept_texts long_texts.new.places.entries
+        ≡ with_kept (kept_texts long_texts.old.places.entries) text.now) }
+    ensures place { IfOk result (λ place. HasLongText place text.now long_texts.new.bytes.items) }
+    ensures within { IfOk result (λ place. place ≤ length long_texts.new.bytes.items) }
+    ensures others { OnOk result
+        ((more : List ℕ) × (long_texts.new.bytes.items ≡ long_texts.old.bytes.items ++ more)
+        × (length more ≤ length text.now + 1)) }
+{
+    if text.len() <= SHORT_TEXT {
+        return Ok(0);
+    }
+    if let Some(place) = long_texts.places.get(text) {
+        return Ok(*place);
+    }
+    let place = long_texts.bytes.len();
+    push_long(&mut long_texts.bytes, text.as_bytes())?;
+    long_texts.places.insert(text, place)?;
+    Ok(place)
+}
+
+/// Returns the entries of all texts, and the long ones, each kept once.
+fn pack_texts(alloc: Global, sequences: &Sequences) -> Result<(Vec<u8>, Vec<u8>), AllocError>
+    ensures entries { IfOk result
+        (λ packed. AreEntries packed.0.items (texts_of sequences.now) packed.1.items) }
+    ensures long { IfOk result
+        (λ packed. packed.1.items ≡ long_texts (different_long (texts_of sequences.now))) }
     ensures utf8 { IfOk result (λ _. IsTrue (list_all is_utf8 (texts_of sequences.now))) }
 {
-    let mut offsets = Vec::with_capacity(alloc, sequences.len().saturating_add(1))?;
-    let mut texts = String::with_capacity(alloc, sequences.len().saturating_mul(COMMON_TEXT))?;
-    let mut offset = 0;
+    let mut entries = Vec::with_capacity(alloc, sequences.len().saturating_mul(TEXT_ENTRY))?;
+    let mut long_texts = LongTexts {
+        bytes: Vec::new(alloc),
+        places: IndexMap::new(alloc),
+    };
     for index in 0..sequences.len() {
         let text = sequences.text(index);
-        offsets.push(offset)?;
-        offset += text.len() as u32;
-        texts.push_str(text)?;
+        let place = place_of(&mut long_texts, text)?;
+        entries.extend_from_slice(&text_entry(place, text.as_bytes()))?;
     }
-    offsets.push(offset)?;
-    texts.shrink_to_fit();
-    Ok((offsets, texts))
+    long_texts.bytes.shrink_to_fit();
+    Ok((entries, long_texts.bytes))
 }
 
 /// Makes a table of these arrays, which are those of the sequences.
@@ -196,12 +256,12 @@ fn from_arrays(
     sequences: &Sequences,
     nodes: Vec<PackedNode>,
     edges: Vec<PackedEdge>,
-    offsets: Vec<u32>,
-    texts: String,
+    texts: Vec<u8>,
+    long_texts: Vec<u8>,
     hints: Hints,
 ) -> PackedTable
-    requires packed { words.IsPacked nodes.items edges.items offsets.items
-        (string_bytes texts) sequences.now }
+    requires packed { words.IsPacked nodes.items edges.items texts.items long_texts.items
+        sequences.now }
     requires hints { length hints ≡ 2 * length edges.items }
     ensures { result ≡ sequences.now }
 {
@@ -210,8 +270,8 @@ fn from_arrays(
     PackedTable {
         nodes,
         edges,
-        offsets,
         texts,
+        long_texts,
         hints,
     }
 }
@@ -221,18 +281,19 @@ impl PackedTable {
     ghost use Rattle.compose_tree.specs.Packed.{unpacked};
 
     /// Returns its arrays. O(1).
+    #[inline(always)]
     pub fn arrays(&self) -> LentArrays<'_>
-        ensures value { unpacked result.nodes.now result.edges.now result.offsets.now
-            result.texts.now ≡ self.now }
-        ensures packed { words.IsPacked result.nodes.now result.edges.now result.offsets.now
-            result.texts.now self.now }
+        ensures value { unpacked result.nodes.now result.edges.now result.texts.now
+            result.long_texts.now ≡ self.now }
+        ensures packed { words.IsPacked result.nodes.now result.edges.now result.texts.now
+            result.long_texts.now self.now }
         ensures hints { length result.hints.now ≡ 2 * length result.edges.now }
     {
         LentArrays {
             nodes: self.nodes.as_slice(),
             edges: self.edges.as_slice(),
-            offsets: self.offsets.as_slice(),
-            texts: self.texts.as_str().as_bytes(),
+            texts: self.texts.as_slice(),
+            long_texts: self.long_texts.as_slice(),
             hints: self.hints.bytes(),
         }
     }
@@ -246,8 +307,8 @@ impl PackedTable {
         LentTable::of(
             arrays.nodes,
             arrays.edges,
-            arrays.offsets,
             arrays.texts,
+            arrays.long_texts,
             arrays.hints,
         )
     }
@@ -256,34 +317,42 @@ impl PackedTable {
 impl ComposeTable for PackedTable {
     ghost definitions = { λ t. t };
 
+    #[inline(always)]
     fn node_count(&self) -> u32 {
         self.lent().node_count()
     }
 
+    #[inline(always)]
     fn leaf_count(&self) -> u32 {
         self.lent().leaf_count()
     }
 
+    #[inline(always)]
     fn depth(&self, node: NodeId) -> u32 {
         self.lent().depth(node)
     }
 
+    #[inline(always)]
     fn edge_count(&self, node: NodeId) -> u32 {
         self.lent().edge_count(node)
     }
 
+    #[inline(always)]
     fn edge(&self, node: NodeId, index: u32) -> (Keysym, Target) {
         self.lent().edge(node, index)
     }
 
+    #[inline(always)]
     fn find(&self, node: NodeId, keysym: Keysym) -> Option<u32> {
         self.lent().find(node, keysym)
     }
 
+    #[inline(always)]
     fn step(&self, node: NodeId, keysym: Keysym) -> Option<Target> {
         self.lent().step(node, keysym)
     }
 
+    #[inline(always)]
     fn text(&self, leaf: LeafId) -> &str {
         self.lent().text_of(leaf)
     }
@@ -296,7 +365,7 @@ impl BuildTable for PackedTable {
         let nodes = pack_nodes(alloc, depths, node_edges)?;
         let mut hints = Hints::new(alloc, node_edges.len())?;
         let edges = pack_edges(alloc, &nodes, depths, node_edges, &mut hints)?;
-        let (offsets, texts) = pack_texts(alloc, &sequences)?;
-        Ok(from_arrays(&sequences, nodes, edges, offsets, texts, hints))
+        let (texts, long_texts) = pack_texts(alloc, &sequences)?;
+        Ok(from_arrays(&sequences, nodes, edges, texts, long_texts, hints))
     }
 }

@@ -5,7 +5,7 @@ use crate::failure::Failure;
 use crate::input::{read_names, read_sources, read_table};
 use compose_model::Rule;
 use compose_read::{Definitions, Sequences, Sources, read_definitions, settle};
-use compose_tree::{BuildTable, ComposeTable, LeafId, NodeId, PackedTable};
+use compose_tree::{BuildTable, ComposeTable, NodeId, PackedTable};
 use keysym_core::Names;
 
 /// The least times of the three parts of a compilation, and of the whole.
@@ -144,7 +144,7 @@ fn print_table(rt: &HostRuntime, names: &Names, path: &str) -> Result<(), Failur
     print_counts(rt, &table)
 }
 
-/// Prints the numbers of nodes, edges and sequences of a table, and of the bytes of its texts.
+/// Prints the numbers of nodes, edges and sequences of a table, and of the bytes of its arrays.
 fn print_counts(rt: &HostRuntime, table: &PackedTable) -> Result<(), Failure> {
     print(
         rt,
@@ -153,7 +153,7 @@ fn print_counts(rt: &HostRuntime, table: &PackedTable) -> Result<(), Failure> {
             ("edges", count_edges(table)),
             ("root edges", u64::from(table.edge_count(NodeId::ROOT))),
             ("sequences", u64::from(table.leaf_count())),
-            ("text bytes", count_text_bytes(table)),
+            ("bytes", array_bytes(table)),
         ],
     )
 }
@@ -167,11 +167,19 @@ fn count_edges(table: &PackedTable) -> u64 {
     count
 }
 
-/// Returns the number of bytes of all texts.
-fn count_text_bytes(table: &PackedTable) -> u64 {
-    let mut count = 0u64;
-    for leaf in 0..table.leaf_count() {
-        count = count.saturating_add(table.text(LeafId(leaf)).len() as u64);
+/// Returns the number of bytes of the arrays of a table.
+fn array_bytes(table: &PackedTable) -> u64 {
+    let arrays = table.arrays();
+    let lengths = [
+        arrays.nodes.len().saturating_mul(8),
+        arrays.edges.len().saturating_mul(8),
+        arrays.texts.len(),
+        arrays.long_texts.len(),
+        arrays.hints.len(),
+    ];
+    let mut bytes = 0u64;
+    for length in lengths {
+        bytes = bytes.saturating_add(length as u64);
     }
-    count
+    bytes
 }

@@ -1,4 +1,4 @@
-use Rattle.std.proofs.Common.{◌≡◌, ◌<◌, ◌∙◌, List, length, ap, sym, subst, rules}
+use Rattle.std.proofs.Common.{◌≡◌, ◌<◌, List, length, sym, subst, rules}
 use Rattle.std.specs.Prelude.{Some, None}
 use Rattle.compose_many.specs.Owners.{first_own}
 use Rattle.compose_many.specs.declared.owners.Owner.{Owner}

@@ -9,15 +9,15 @@ use Rattle.compose_state.proofs.state.ComposeState.follow.Goals as goal
 pub returns-in-Node-clause-state : goal.returns-in-Node-clause-state
 returns-in-Node-clause-state g c =
     let table = g.T.ComposeTable.definitions c.args.table.now in
-    let s : Session = record { pending = c.self.inside.pending.items; status = c.self.inside.status } in
+    let s : Session = record { pending = c.self.inside.pending; status = c.self.inside.status } in
     let t : Option Target = Some (Node c.in-Node.field-0) in
     let leads : target_of table s.pending c.args.keysym ≡ t = search rules in
-    session_after table s c.args.keysym t c.requires.accepted leads c.push.new.self.items _ c.push.ensures.items refl ∙ ap (λ x. fed table x c.args.keysym) c.self.view_is
+    session_after table s c.args.keysym t c.requires.accepted leads c.push.new.self _ c.push.ensures refl ∙ ap (λ x. fed table x c.args.keysym) c.self.view_is
 
 pub returns-in-Node-clause-reported : goal.returns-in-Node-clause-reported
 returns-in-Node-clause-reported g c names =
     let table = g.T.ComposeTable.definitions c.args.table.now in
-    let s : Session = record { pending = c.self.inside.pending.items; status = c.self.inside.status } in
+    let s : Session = record { pending = c.self.inside.pending; status = c.self.inside.status } in
     let t : Option Target = Some (Node c.in-Node.field-0) in
     let leads : target_of table s.pending c.args.keysym ≡ t = search rules in
     answered table s c.args.keysym t c.requires.accepted leads c.args.self.now c.self.view_is names _ refl refl refl (λ e. cc)
