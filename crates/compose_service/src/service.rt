@@ -1,4 +1,5 @@
 //! The service: sessions over one current table.
+ghost use Rattle.std.specs.Prelude.{[], false};
 ghost use Rattle.compose_state.specs.Texts.{text_bytes};
 ghost use Rattle.compose_wire.specs.Messages as words;
 ghost use Rattle.compose_wire.specs.Replies.{HasAnswerValue};
@@ -10,7 +11,7 @@ use arrayvec::ArrayString;
 use compose_bundle::read_bundle;
 use compose_cert::{CertFault, Certificate, Repertoire};
 use compose_check::{CheckFault, Verdict, check};
-use compose_model::Rule;
+use compose_model::{Rule, Status};
 use compose_read::Sources;
 use compose_serve::{Pull, Push, ServeFault, StreamEnd, serve};
 use compose_state::Fed;
@@ -274,11 +275,10 @@ impl<T: BuildTable> Service<T> {
     ///
     /// - Open: O(1), amortized.
     /// - Key: what `ComposeState::refeed_and_feed` costs. If no load came since the session was
-    ///   last used, that is what `feed` costs. The pending keys are walked once more only after a
-    ///   load, and when the key breaks off a sequence. The session is looked up where one with the
-    ///   same last twelve bits of its number was found last, and failing that by its hash. If the
-    ///   reply was one to a key, only its status and the bytes of its text are written, and
-    ///   otherwise a whole reply is.
+    ///   last used, that is what `feed` costs. The session is looked up where one with the same last
+    ///   twelve bits of its number was found last, and failing that by its hash. If the reply was
+    ///   one to a key, only its status and the bytes of its text are written, and otherwise a whole
+    ///   reply is.
     /// - Reset, Ask: O(1) besides refeeding.
     /// - Close: the same, and O(sessions opened later), since the order of opening is kept.
     /// - Load: the cost of reading, settling, building and checking. An accepted load touches no
@@ -558,30 +558,29 @@ impl<T: BuildTable> Service<T> {
     }
 }
 
-/// Replaces an answer by that to a key which was fed. In an answer to a key it writes the status
-/// and the bytes of the text, and nothing else; in the place of any other answer it puts a new one.
+/// Replaces an answer by that to a key which was fed: it writes the status and the bytes of the
+/// text, and nothing else. An answer of another kind becomes an empty one to a key first.
 #[inline(always)]
 fn put_fed(fed: &Fed<'_>, answer: &mut ReplyBody)
     ensures { HasAnswerValue answer.new
         (words.fed fed.now.status fed.now.accepted (text_bytes fed.now.text)) }
 {
+    if !matches!(answer, ReplyBody::Fed(_, _, _)) {
+        put_empty(answer);
+    }
     if let ReplyBody::Fed(status, accepted, text) = answer {
         *status = fed.status;
         *accepted = fed.accepted;
         fed.text_into(text);
-        return;
     }
-    put_new(fed, answer);
 }
 
-/// Puts a new answer to a key in the place of any other one. It is a function of its own, since a
-/// new `ArrayString` clears all of its bytes: in `put_fed` they would be cleared at every key.
+/// Puts an empty answer to a key in the place of any other one. It is a function of its own, since
+/// a new `ArrayString` clears all of its bytes: in `put_fed` they would be cleared at every key.
+/// What was fed isn't passed to it, and so can stay in registers.
 #[inline(never)]
-fn put_new(fed: &Fed<'_>, answer: &mut ReplyBody)
-    ensures { HasAnswerValue answer.new
-        (words.fed fed.now.status fed.now.accepted (text_bytes fed.now.text)) }
+fn put_empty(answer: &mut ReplyBody)
+    ensures { HasAnswerValue answer.new (words.fed Status.Nothing false []) }
 {
-    let mut text = ArrayString::new();
-    fed.text_into(&mut text);
-    *answer = ReplyBody::Fed(fed.status, fed.accepted, text);
+    *answer = ReplyBody::Fed(Status::Nothing, false, ArrayString::new());
 }

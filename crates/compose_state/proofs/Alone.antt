@@ -1,9 +1,9 @@
 -- The effect of a key on a session without keysym names.
-use Rattle.std.proofs.Common.{◌≡◌, ℕ, List, [], Bool, true, false, not, sym, refl, ◌∙◌, ap, Option, Some, None}
+use Rattle.std.proofs.Common.{◌≡◌, ℕ, List, [], Bool, true, false, not, sym, refl, ◌∙◌, ap, Some, None}
 use Rattle.keysym_core.specs.Keysym.{is_ignored}
 use Rattle.keysym_core.specs.Names.{KeysymNames}
 use Rattle.compose_model.specs.Table.{Definition}
-use Rattle.compose_model.specs.Step.{Effect, effect, is_empty, text_by}
+use Rattle.compose_model.specs.Step.{is_empty, text_by}
 use Rattle.compose_model.specs.Session.{Session}
 use Rattle.compose_tree.specs.declared.table.Target.{Target}
 use Rattle.compose_tree.specs.declared.table.Target.TheVariants.{Node, Leaf}

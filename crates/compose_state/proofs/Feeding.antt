@@ -4,8 +4,8 @@ use Rattle.std.proofs.lemmas.List.{length-append}
 use Rattle.keysym_core.specs.Keysym.{is_ignored}
 use Rattle.keysym_core.specs.Names.{KeysymNames, text}
 use Rattle.compose_model.specs.Table.{Definition, is_table, text_at}
-use Rattle.compose_model.specs.Step.{Effect, passes, cancels, effect, is_empty, pending, pending_by, status_by, text_by, step}
-use Rattle.compose_model.specs.Session.{Session, fed, loaded}
+use Rattle.compose_model.specs.Step.{Effect, passes, cancels, effect, is_empty, pending_by, status_by, text_by, step}
+use Rattle.compose_model.specs.Session.{Session, fed}
 use Rattle.compose_model.specs.declared.Status.{Status}
 use Rattle.compose_model.specs.declared.Status.TheVariants.{Nothing, Cancelled}
 use Rattle.std.specs.Prelude.{if◌then◌else◌}
@@ -94,33 +94,29 @@ module _ (table : List Definition) (s : Session) (k : ℕ) (accepted : is_ignore
       same_text true = refl
       same_text false = refl
 
--- a key that leads somewhere, if typing the pending keysyms again leaves them pending: refeeding first makes no
--- difference
-module _ (table : List Definition) (s : Session) (k : ℕ) (t : Target) (accepted : is_ignored k ≡ false) (leads : target_of table s.pending k ≡ Some t)
-    (again : pending table s.pending ≡ s.pending) where
-  refed_effect : effect table (loaded table s).pending k ≡ effect_at (is_empty s.pending) (Some t)
-  refed_effect = ap (λ p. effect table p k) again ∙ effect_is_by table s.pending k (Some t) accepted leads
+-- two sessions with the same pending keysyms, and a key that is not ignored: its effect sets the status, whatever it was
+module _ (table : List Definition) (s other : Session) (k : ℕ) (accepted : is_ignored k ≡ false) (same : s.pending ≡ other.pending) where
+  status_set : (b : Bool) (t : Option Target) → status_by (effect_at b t) s.status ≡ status_by (effect_at b t) other.status
+  status_set b (Some (Node n)) = refl
+  status_set b (Some (Leaf l)) = refl
+  status_set true None = refl
+  status_set false None = refl
 
-  same_after : (u : List ℕ) (x y : Status) (t : Target) → u ≡ s.pending
-      → (let after : Session = record { pending = pending_by (effect_at (is_empty s.pending) (Some t)) s.pending k; status = status_by (effect_at (is_empty s.pending) (Some t)) x } in after)
-      ≡ (let after : Session = record { pending = pending_by (effect_at (is_empty s.pending) (Some t)) u k; status = status_by (effect_at (is_empty s.pending) (Some t)) y } in after)
-  same_after u x y (Node n) e =
-      ap
-      (λ v. let after : Session = record { pending = pending_by (effect_at (is_empty s.pending) (Some (Node n))) v k; status = status_by (effect_at (is_empty s.pending) (Some (Node n))) x } in after)
-      (sym e)
-  same_after u x y (Leaf l) e = refl
+  abbrev effect_of : Effect
+  effect_of = effect_at (is_empty s.pending) (target_of table s.pending k)
 
-  -- the session after the key is the same, whether or not the pending keysyms are typed again first
-  pub refed_fed : fed table s k ≡ fed table (loaded table s) k
-  refed_fed =
-      fed_by table s k (effect_at (is_empty s.pending) (Some t)) (effect_is_by table s.pending k (Some t) accepted leads)
-      ∙ same_after (loaded table s).pending s.status (loaded table s).status t again ∙ sym (fed_by table (loaded table s) k (effect_at (is_empty s.pending) (Some t)) refed_effect)
+  -- the session after the key is the same
+  pub same_fed : fed table s k ≡ fed table other k
+  same_fed =
+      fed_by table s k effect_of (effect_is_by table s.pending k (target_of table s.pending k) accepted refl)
+      ∙ ap₂ (λ (p : List ℕ) (x : Status). let after : Session = record { pending = pending_by effect_of p k; status = x } in after) same (status_set (is_empty s.pending) (target_of table s.pending k))
+      ∙ sym (fed_by table other k effect_of (ap (λ p. effect table p k) (sym same) ∙ effect_is_by table s.pending k (target_of table s.pending k) accepted refl))
 
-  -- the answer to the key is the same, whether or not the pending keysyms are typed again first
-  pub refed_answered : (names : KeysymNames) (answer : Fed) → IsFed names table s k answer → IsFed names table (loaded table s) k answer
-  refed_answered names answer h = record {
+  -- the answer to the key is the same
+  pub same_answered : (names : KeysymNames) (answer : Fed) → IsFed names table s k answer → IsFed names table other k answer
+  same_answered names answer h = record {
     accepted = h.accepted;
-    status = h.status ∙ ap (λ z. z.status) refed_fed;
-    text = h.text ∙ ap (λ p. (step names table p k).text) (sym again);
-    source = subst (λ p. ComesFrom (effect table p k) answer.text) (sym again) h.source;
+    status = h.status ∙ ap (λ z. z.status) same_fed;
+    text = h.text ∙ ap (λ p. (step names table p k).text) same;
+    source = subst (λ p. ComesFrom (effect table p k) answer.text) same h.source;
   }

@@ -145,8 +145,8 @@ impl ComposeState {
     }
 
     /// Moves the state to the table, and feeds one key: `refeed` and then `feed`. Allocates
-    /// nothing. It costs as much as `feed` alone if nothing is pending, or if a sequence of the
-    /// table continues the pending keysyms with the key; and else as much as both.
+    /// nothing. It costs as much as `feed` alone if the pending keysyms are a node of the table, as
+    /// they are if they were fed with it, or if nothing is pending; and else as much as both.
     #[inline(always)]
     pub fn refeed_and_feed<'t, T: ComposeTable>(
         &mut self,
@@ -159,18 +159,19 @@ impl ComposeState {
         ensures reported { IsFed names.now (T.definitions table.now)
             (loaded (T.definitions table.now) self.old) keysym result }
     {
-        if !self.pending.is_empty() && !keysym.is_ignored() {
-            if let Some((edge_index, target)) = target(
-                table,
-                self.pending.as_slice(),
-                &self.edge_indexes,
-                keysym,
-            ) {
-                return self.follow(table, keysym, edge_index, target);
-            }
+        if keysym.is_ignored() {
+            self.refeed(table, names);
+            return Fed {
+                accepted: false,
+                status: self.status,
+                text: FedText::Empty,
+            };
         }
-        self.refeed(table, names);
-        self.feed(table, names, keysym)
+        let node = self.refed_node(table);
+        match edge_after(table, node, keysym) {
+            Some((edge_index, target)) => return self.follow(table, keysym, edge_index, target),
+            None => return self.feed_apart(names, keysym),
+        }
     }
 
     /// Moves the state to the table: the pending keysyms are fed to it, starting at rest. If
@@ -220,6 +221,33 @@ impl ComposeState {
         self.edge_indexes = refed.edge_indexes;
     }
 
+    /// Moves the pending keysyms to the table as `refeed` does, and returns their node. The status
+    /// stays as it was: the key that is fed next sets it.
+    #[inline(always)]
+    fn refed_node<T: ComposeTable>(&mut self, table: &T) -> NodeId
+        ensures pending { self.new.pending ≡ pending (T.definitions table.now) self.old.pending }
+        ensures node { node_id (T.definitions table.now) self.new.pending ≡ Some result }
+    {
+        match node_of(table, self.pending.as_slice(), &self.edge_indexes) {
+            Some(node) => return node,
+            None => return self.refeed_to_node(table),
+        }
+    }
+
+    /// Does the same, and refeeds in any case. It is a function of its own, so that `refed_node` is
+    /// short enough to be inlined.
+    #[inline(never)]
+    fn refeed_to_node<T: ComposeTable>(&mut self, table: &T) -> NodeId
+        ensures pending { self.new.pending ≡ pending (T.definitions table.now) self.old.pending }
+        ensures node { node_id (T.definitions table.now) self.new.pending ≡ Some result }
+    {
+        self.refeed_pending(table);
+        match node_of(table, self.pending.as_slice(), &self.edge_indexes) {
+            Some(node) => return node,
+            None => return NodeId::ROOT,
+        }
+    }
+
     /// Ends what is pending, with this status.
     #[inline(always)]
     fn end(&mut self, status: Status)
@@ -240,13 +268,12 @@ impl ComposeState {
     ) -> Fed<'t>
         requires accepted { IsFalse (is_ignored keysym) }
         requires leads { target_of (T.definitions table.now) self.old.pending keysym ≡ Some target }
-        requires room { (node : _) → target ≡ Target.Node node → length self.old.pending < 31 }
-        requires leaf { (leaf : _) → target ≡ Target.Leaf leaf
-            → leaf.0 < length (leaves (T.definitions table.now)) }
         ensures state { self.new ≡ fed (T.definitions table.now) self.old keysym }
         ensures reported { (names : KeysymNames)
             → IsFed names (T.definitions table.now) self.old keysym result }
     {
+        // every table is settled, by the contract of its count of nodes
+        let _nodes = table.node_count();
         match target {
             Target::Node(_) => {
                 self.edge_indexes[self.pending.len()] = edge_index;
@@ -424,16 +451,21 @@ fn target<T: ComposeTable>(
     requires { length pending.now ≤ 31 }
     ensures value { option_map (λ found. found.1) result
         ≡ target_of (T.definitions table.now) pending.now keysym }
-    ensures room { (edge_index : _) → (node : _) → result ≡ Some (edge_index, Target.Node node)
-        → length pending.now < 31 }
-    ensures leaf { (edge_index : _) → (leaf : _) → result ≡ Some (edge_index, Target.Leaf leaf)
-        → leaf.0 < length (leaves (T.definitions table.now)) }
     ensures again { IsSome result
         → steps.pending (T.definitions table.now) pending.now ≡ pending.now }
 {
-    // every table is settled, by the contract of its count of nodes
-    let _nodes = table.node_count();
     let node = node_of(table, pending, edge_indexes)?;
+    edge_after(table, node, keysym)
+}
+
+/// Returns the index and the target of the keysym's edge after the node, if it has one.
+#[inline(always)]
+fn edge_after<T: ComposeTable>(table: &T, node: NodeId, keysym: Keysym) -> Option<(u32, Target)>
+    requires { node.0 < length (nodes (T.definitions table.now)) }
+    ensures { option_map (λ found. found.1) result
+        ≡ target_of (T.definitions table.now)
+        (words.node (T.definitions table.now) node.0) keysym }
+{
     let edge_index = table.find(node, keysym)?;
     let (_, target) = table.edge(node, edge_index);
     Some((edge_index, target))

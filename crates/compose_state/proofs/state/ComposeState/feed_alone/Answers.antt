@@ -1,4 +1,4 @@
-use Rattle.std.proofs.Common.{◌≡◌, ◌∙◌, ap, sym, None, Some, rules}
+use Rattle.std.proofs.Common.{◌≡◌, ◌∙◌, ap, sym, None, rules}
 use Rattle.compose_tree.specs.Targets.{target_of}
 use Rattle.compose_state.proofs.Feeding.{fed_apart}
 use Rattle.compose_state.proofs.Alone.{alone_apart, alone_to}
