@@ -12,9 +12,9 @@
 # make deb            the same, as a Debian package, and one each for the engine of IBus and the addon of fcitx5, and three for the C libraries
 # make test-packages  looks at what the packages hold
 # make desk           types into windows through IBus and fcitx5, on displays that nobody sees (docs/TYPING.md)
-# make names          writes the built-in names anew from HEADERS (/usr/include/X11/keysymdef.h and XF86keysym.h), and prints what changed
+# make names          writes the built-in names anew from HEADERS (those in packaging/xorgproto), and prints what changed
 # make compose_trials proves and builds ./compose_trials, which `make real` and `make bench` need too
-# make real           runs the program on the tables that Debian ships, and types in other readers of Compose files beside it
+# make real           runs the program on the tables that Debian ships, its newest ones too, and types in other readers of Compose files beside it
 # make bench          measures the program
 # make lib            proves and builds the C libraries (docs/LIBRARY.md) in build/lib
 # make lib-client     the library of clients alone, which the engines of IBus and fcitx5 stand on
@@ -88,7 +88,7 @@ test-whole:
 # Where $(PYTHON) looks for modules below PREFIX, if it does.
 MODULES = $(shell $(PYTHON) -c 'import site, sys; print(next((it for it in site.getsitepackages() if it.startswith(sys.argv[1])), ""))' $(PREFIX)/lib/ 2> /dev/null)
 IBUS_ID = org.freedesktop.ibus.engine.composecheck
-UNITS = composecheck.service composecheck.socket composecheck-update@.path composecheck-update@.service
+UNITS = composecheck.service composecheck.socket composecheck-update@.path composecheck-update@.service composecheck-update@.timer
 
 # What the engine of IBus can't be built without, as far as it isn't there.
 IBUS_LACKS = $(shell for it in cmake c++ pkg-config; do command -v $$it > /dev/null || echo $$it; done; pkg-config --exists ibus-1.0 2> /dev/null || echo libibus-1.0-dev)
@@ -149,7 +149,7 @@ test-packages: composecheck
 desk: composecheck lib
 	python3 tests/desk/run.py ./composecheck
 
-HEADERS = /usr/include/X11/keysymdef.h /usr/include/X11/XF86keysym.h
+HEADERS = packaging/xorgproto/keysymdef.h packaging/xorgproto/XF86keysym.h
 names:
 	python3 packaging/names.py $(HEADERS) share/composecheck/short-unicode-names.h crates/builtin_names/src/lines.rt
 	python3 packaging/name_tables.py crates
@@ -157,6 +157,7 @@ names:
 real: composecheck compose_trials $(LIBRARY)
 	python3 tests/real.py ./composecheck ./compose_trials
 	python3 tests/other_tables.py ./composecheck
+	python3 tests/newest_tables.py ./composecheck
 	python3 tests/real_service.py ./composecheck
 	python3 tests/readers.py ./composecheck
 	python3 tests/streams.py ./composecheck 100000

@@ -1,7 +1,7 @@
 #!/usr/bin/env python3
 """run.py PROGRAM TRIALS: times of the program and of single calls, and libxkbcommon at the same work, in turns.
 
-PROGRAM is `composecheck`, TRIALS is `compose_trials` (crates/compose_trials). It needs Debian's libx11-data, x11proto-dev
+PROGRAM is `composecheck`, TRIALS is `compose_trials` (crates/compose_trials). It needs Debian's libx11-data
 and libxkbcommon-dev, a C compiler, and valgrind for the counts of instructions. Each figure is the least of some runs,
 on the table of en_US.UTF-8; those of keys in sessions are medians. The last lines are a table of all aims, and which are met."""
 import glob

@@ -2,7 +2,7 @@
 """service.py PROGRAM: keys over the service's socket, and over that of a bare echo server, in turns; loads; and the service's memory.
 
 The table is that of en_US.UTF-8. Both servers run on one processor and the client on another, where the script may use two. It needs a C
-compiler, and Debian's libx11-data and x11proto-dev. Times of keys are nanoseconds; of each figure the median of the rounds is printed,
+compiler, and Debian's libx11-data. Times of keys are nanoseconds; of each figure the median of the rounds is printed,
 with the least and the greatest."""
 import os
 import statistics

@@ -23,6 +23,11 @@ pub static LINES: &str = \""""
 TAIL = '";\n'
 
 
+def is_graphic(character):
+    """Returns whether a comment assigns the character to its keysym: control characters and surrogates are not assigned (docs/FORMATS.md)."""
+    return not (character < 0x20 or 0x7F <= character <= 0x9F or 0xD800 <= character <= 0xDFFF)
+
+
 def lines_of(path):
     """Returns the lines of the definitions of a header."""
     found = []
@@ -30,7 +35,8 @@ def lines_of(path):
         for definition in filter(None, map(DEFINITION.match, file)):
             vendor, name, value, kernel_key, character = definition.groups()
             keysym = int(value, 16) if value else KERNEL_KEYS + int(kernel_key, 16)
-            found.append(f"#define XK_{vendor}{name} {keysym:#x}" + (f" /*U+{character.upper()}*/" if character else ""))
+            is_assigned = character and is_graphic(int(character, 16))
+            found.append(f"#define XK_{vendor}{name} {keysym:#x}" + (f" /*U+{character.upper()}*/" if is_assigned else ""))
     return found
 
 

@@ -37,7 +37,9 @@ COMPLETIONS = {
     "_composecheck": "share/zsh/site-functions/_composecheck",
     "composecheck.fish": "share/fish/vendor_completions.d/composecheck.fish",
 }
-UNITS = ("composecheck.service", "composecheck.socket", "composecheck-update@.path", "composecheck-update@.service")
+UNITS = ("composecheck.service", "composecheck.socket", "composecheck-update@.path", "composecheck-update@.service", "composecheck-update@.timer")
+# What dpkg runs for the services of users: after an upgrade, and before a removal.
+SCRIPTS = ("postinst", "prerm")
 # Which files of the C library programs are built with; the others are needed where they run.
 DEVELOPMENT = (".a", ".h", ".pc", "/libcomposecheck.so", "/libcomposecheck-client.so")
 PROGRAMS = ("bin/composecheck", "/ci.sh", "/update.sh", "/ibus-engine-composecheck", "/ibus-setup-composecheck")
@@ -236,6 +238,9 @@ def make_deb(package, files, version, time, folder):
         os.mkdir(f"{room}/DEBIAN", 0o755)
         with open(f"{room}/DEBIAN/control", "w", encoding="utf-8") as file:
             file.write(control_of(package, files, version))
+        for name in SCRIPTS if package is THE_PROGRAM else ():
+            shutil.copy(f"{TOP}/packaging/{name}", f"{room}/DEBIAN/{name}")
+            os.chmod(f"{room}/DEBIAN/{name}", 0o755)
         with open(f"{room}/DEBIAN/md5sums", "w", encoding="utf-8") as file:
             file.writelines(f"{hashlib.md5(it).hexdigest()}  usr/{path}\n" for path, it in sorted(files.items()) if isinstance(it, bytes))
         for at, _, names in os.walk(room, topdown=False):
@@ -250,7 +255,7 @@ def main():
     kind, program, folder = sys.argv[1:]
     os.umask(0o022)
     os.makedirs(folder, exist_ok=True)
-    version = text_of(os.path.abspath(program), "--version").split()[-1]
+    version = text_of(os.path.abspath(program), "--version").split()[1]
     time = int(os.environ.get("SOURCE_DATE_EPOCH") or text_of("git", "log", "-1", "--format=%ct"))
     if kind == "dist":
         print(make_dist(files_of(program, "/usr/local"), version, time, folder))

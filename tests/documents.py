@@ -6,7 +6,8 @@
     crate has its row in docs/ARCHITECTURE.md, its section in docs/PROVED.md, and, if it has specs, one in docs/DEFINITIONS.md,
   - each crate, file, target of make and option that a document names exists, and so does each fault of FORMATS, PROTOCOL and the manual,
     under its number, and each limit among the numbers of the crates' sources,
-  - README has at most 9,216 bytes, and the version of the program is that of README, CHANGELOG and the manual,
+  - README has at most 9,216 bytes, the version of the program is that of README, CHANGELOG and the manual, and the headers of which `--version` says
+    that the built-in names are those are the ones that packaging/xorgproto has, by its page and by the guide,
   - lines of code in CONTRIBUTING stand in the sources, and no document cites a paper or a numbered issue,
   - no line has more than 100 columns but in tables and code (tools/wrap.py breaks them), and words that are no plain English for a stranger
     aren't used.
@@ -214,7 +215,7 @@ def check_commands(results, texts, crates):
         if document in ("CONTRIBUTING.md", "docs/GATE.md", "docs/PERFORMANCE.md", "docs/DECISIONS.md"):
             text = FOREIGN.sub("", text)
         else:
-            text = re.sub(r"\b(?:systemctl|git|cc) [^`\n]*", "", text)
+            text = re.sub(r"\b(?:systemctl|journalctl|git|cc) [^`\n]*", "", text)
         for word in re.findall(r"(?<![\w-])--([a-z][\w-]*)", text):
             results.expect(document, f"there is no option --{word}", word in options)
 
@@ -249,6 +250,12 @@ def check_versions(results, texts, crates):
     results.expect("CHANGELOG.md", f"it has no section {version}", re.search(rf"^## {re.escape(version)}\b", texts["CHANGELOG.md"], re.M) is not None)
     for manual in MANUALS:
         results.expect(manual, f"its head doesn't say {version}", f'"composecheck {version.rsplit(".", 1)[0]}' in texts[manual].split("\n", 1)[0])
+    names = re.search(r'"([\d.]+)\\nnames: (xorgproto [\d.]+) \((.*)\)"', crates.texts["compose_arguments"])
+    results.expect("--version", f"it says {names[1]}, and -V {version}", names[1] == version)
+    for document in ("packaging/xorgproto/README.md", "docs/GUIDE.md"):
+        results.expect(document, f"it doesn't say that the names are of {names[2]}", names[2] in " ".join(read(document).split()))
+    headers = {os.path.basename(it) for it in glob.glob(os.path.join(TOP, "packaging", "xorgproto", "*.h"))}
+    results.expect("packaging/xorgproto", f"it has other headers than {names[3]}", headers == set(names[3].split(", ")))
     size = len(texts["README.md"].encode())
     results.expect("README.md", f"it has {size} bytes, more than {MOST_README}", size <= MOST_README)
 

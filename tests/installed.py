@@ -79,7 +79,7 @@ def check_install(program, folder, results):
 
 
 def version_of(program):
-    return run(program, "--version").stdout.split()[-1]
+    return run(program, "--version").stdout.split()[1]
 
 
 def check_component(place, prefix, version, results):
@@ -189,9 +189,24 @@ def check_update(program, _, results):
         results.expect("the first table is stored", (got.returncode, got.stdout, os.path.exists(service.path("notified"))), (0, "stored\n", False))
         got = update("changed")
         results.expect("a table that would change typing is refused", (got.returncode, got.stdout.splitlines()[:1]), (1, ["keys dead_grave a"]))
-        with open(service.path("notified"), encoding="utf-8") as file:
-            notified = file.read()
-        results.expect("and that is shown", ("Your Compose table stays as it was\n" in notified, got.stdout in notified), (True, True))
+        notified = shown_by(service)
+        results.expect("and that is shown", ("Your Compose table stays as it was\n" in notified, f"would change how you type:\n{got.stdout}" in notified), (True, True))
+        results.expect("it is refused again, and not shown again", (update("changed").returncode, shown_by(service)), (1, ""))
+        service.write("changed.compose", "<nosuch\n")
+        results.expect("another refusal is shown", (update("changed").returncode, "was not taken into use:\n" in shown_by(service)), (2, True))
+        results.expect("an update goes through", (update("old").returncode, shown_by(service)), (0, ""))
+        results.expect("then the refusal is shown again", (update("changed").returncode, shown_by(service) != ""), (2, True))
+
+
+def shown_by(service):
+    """What was shown since this was last asked."""
+    path = service.path("notified")
+    if not os.path.exists(path):
+        return ""
+    with open(path, encoding="utf-8") as file:
+        shown = file.read()
+    os.remove(path)
+    return shown
 
 
 def refusal(call, *arguments):

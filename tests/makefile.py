@@ -90,9 +90,13 @@ def check_help(results):
 
 
 def check_names(results):
-    """The tables of the built-in names, with their hints, of which no proof says that they are right, are those that `make names` writes."""
-    ran = subprocess.run([sys.executable, os.path.join(TOP, "packaging", "name_tables.py"), "--check", os.path.join(TOP, "crates")], capture_output=True, text=True, timeout=60)
-    results.expect("the tables of the built-in names", (ran.stdout, ran.returncode), ("\n", 0))
+    """The header of the built-in names, and their tables with their hints, of which no proof says that they are right, are those that `make names` writes."""
+    with Tree([]) as tree:
+        commands = [it.split() for it in tree.make("-n", "names")[0].splitlines()]
+    results.expect("the scripts of make names", [it[1] for it in commands], ["packaging/names.py", "packaging/name_tables.py"])
+    for _, script, *words in commands:
+        ran = subprocess.run([sys.executable, script, "--check", *words], cwd=TOP, capture_output=True, text=True, timeout=60)
+        results.expect(f"what {script} writes", (ran.stdout.strip(), ran.stderr, ran.returncode), ("", "", 0))
 
 
 def main():

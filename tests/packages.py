@@ -67,7 +67,7 @@ def check_program(what, prefix, version, results):
         for name, text in {"table.compose": TABLE, "table": "root\ttable.compose\n", "repertoire": "keys 0x20 0x7e\n"}.items():
             with open(os.path.join(folder, name), "w", encoding="utf-8") as file:
                 file.write(text)
-        results.expect(f"{what}: version", run(program, "--version", cwd=folder).stdout, f"composecheck {version}\n")
+        results.expect(f"{what}: version", run(program, "-V", cwd=folder).stdout, f"composecheck {version}\n")
         results.expect(f"{what}: typing", run(program, "type", "table", "Multi_key", "apostrophe", "e", "x", cwd=folder).stdout, TYPED)
         with open(os.path.join(folder, "certificate"), "w", encoding="utf-8") as file:
             file.write(run(program, "make", "table", "table", "repertoire", cwd=folder).stdout)
@@ -109,6 +109,8 @@ def check_deb(program, version, listed, folder, results):
     place, control = os.path.join(folder, "deb"), os.path.join(folder, "control")
     results.expect("deb is unpacked", run("dpkg-deb", "-x", path, place).returncode, 0)
     results.expect("deb: its control files are unpacked", run("dpkg-deb", "-e", path, control).returncode, 0)
+    scripts = [it for it in sorted(os.listdir(control)) if os.access(os.path.join(control, it), os.X_OK)]
+    results.expect("deb: what dpkg runs", scripts, ["postinst", "prerm"])
     prefix = os.path.join(place, "usr")
     results.expect("deb: the files of the archive", files_below(prefix), listed)
     check_sums("deb", read(os.path.join(control, "md5sums")).decode(), hashlib.md5, place, files_below(place), results)
@@ -119,7 +121,7 @@ def check_deb(program, version, listed, folder, results):
 
 def main():
     program, results = os.path.abspath(sys.argv[1]), Results()
-    version = run(program, "--version").stdout.split()[-1]
+    version = run(program, "--version").stdout.split()[1]
     with tempfile.TemporaryDirectory(prefix="packages-") as folder:
         listed = check_dist(program, version, folder, results)
         if shutil.which("dpkg-deb"):

@@ -5,7 +5,8 @@ and what `lint` says of them (not part of the gate).
 On each UTF-8 table of the system libX11 types KEYS random keys, 50,000 if none are given, and has to do what `type` does; GTK 3, GTK 4 and IBus type each
 sequence from rest. What `lint` says that GTK loses it has to lose; what it loses beyond that is counted. On TABLES random changed tables, 100,000 if none
 are given, libxkbcommon and libX11 have to type what the table gives without the lines that `lint` calls lost, and with the texts that it calls other ones;
-that is worked out here, and on some of the tables compared with `type`. The seed is printed.
+that is worked out here, and on some of the tables compared with `type`. On a tenth as many tables with faulty lines libxkbcommon has to type what
+`type --skip-faulty` does. The seed is printed.
 
 Each reader is a program in C (`readers/`). One whose packages aren't there is skipped. The last line is `N passed, M failed`, and what was skipped."""
 import collections
@@ -22,12 +23,15 @@ import changed
 import key_streams
 import real
 import reference
+import skipping
 from harness import Results
 
 SOURCES = os.path.join(os.path.dirname(os.path.abspath(__file__)), "readers")
 SEED = 7
 # This number of random tables is typed at once; of this number of tables one is compared with `type`; and this number of random keys is pressed on each.
 BATCH, CHECKED, KEYS_A_TABLE = 500, 100, 40
+# Of tables with faulty lines one of this number is compared with `type`.
+FAULTY_CHECKED = 5
 # As many keys are given to one run of `type`.
 PART = 25_000
 # The program of each reader, the names by which pkg-config knows its libraries, and the packages that it needs.
@@ -121,9 +125,18 @@ def typed(program, path, keys):
         yield status.decode(), text if status == b"composed" else b'""'
 
 
-def lint(program, readers, paths):
+def typed_skipping(program, path, keys):
+    """The status at each key on a table that is read with `--skip-faulty`, and the text that a sequence commits there, in quotes."""
+    command = [program, "type", "-f", "--skip-faulty", "--names", "builtin", path, *(f"0x{key:x}" for key in keys)]
+    ran = subprocess.run(command, capture_output=True, check=True)
+    for line in ran.stdout.split(b"\n")[:-1]:
+        status, text = line.split(b" ", 1)
+        yield status.decode(), text if status == b"composed" else b'""'
+
+
+def lint(program, readers, paths, *options):
     """What `lint` says of lines for these readers: the file, the line and the reader, each with the sentences; and the faults that it prints."""
-    words = [it for name in readers for it in ("--reader", name)]
+    words = [*options, *(it for name in readers for it in ("--reader", name))]
     command = [program, "lint", "--system", real.LOCALES, "--locale", "en_US.UTF-8", *words, *paths]
     ran = subprocess.run(command, capture_output=True, text=True, errors="replace", check=False)
     said = collections.defaultdict(set)
@@ -296,6 +309,19 @@ class Batch:
         return [(status, reference.quote(text)) for status, text in map(typing.press, self.keys[index])]
 
 
+class FaultyBatch(Batch):
+    """The same of random tables with lines that have a fault here, without those that libxkbcommon reads otherwise than `--skip-faulty`."""
+
+    def __init__(self, program, folder, chance, names, is_old):  # pylint: disable=super-init-not-called
+        self.paths = [os.path.join(folder, str(index)) for index in range(BATCH)]
+        self.tables = [skipping.random_table(chance, names, is_old) for _ in self.paths]
+        for path, table in zip(self.paths, self.tables, strict=True):
+            with open(path, "wb") as file:
+                file.write(table.content)
+        self.keys = [changed.random_keys(chance, table, KEYS_A_TABLE) for table in self.tables]
+        self.said, _ = lint(program, ["libxkbcommon"], self.paths, "--skip-faulty")
+
+
 def with_letters(raw):
     """What a string holds, with the letter in the place of each escape of a control."""
     return re.sub(rb"\\(.)", lambda found: found[1] if found[1] in b"nrt" else found[0], raw, flags=re.S)
@@ -326,10 +352,28 @@ def check_random_tables(program, readers, results, names, count, seed):
             check_batch(program, readers, results, batch, number)
 
 
+def check_faulty_tables(program, readers, results, names, count, seed):
+    """On random tables with faulty lines `--skip-faulty` types what is read here, and libxkbcommon too, as `lint` says of the lines without a fault."""
+    is_old = [int(it) for it in pkg_config("--modversion", "xkbcommon").split(".")[:2]] < [1, 7]
+    print(f"{count} random tables with faulty lines, with the seed {seed}", flush=True)
+    for number in range(-(-count // BATCH)):
+        with tempfile.TemporaryDirectory() as folder:
+            batch = FaultyBatch(program, folder, random.Random(f"faulty {seed} {number}"), names, is_old)
+            answers = iter(readers.type("libxkbcommon", batch.steps()))
+            for index, keys in enumerate(batch.keys):
+                wanted = batch.typed(index, batch.read_by(index, "libxkbcommon"))
+                got = [next(answers) for _ in keys]
+                differ = [it for it in zip(map(hex, keys), wanted, got) if not is_as_in_libxkbcommon(*it[1:])]
+                results.expect(f"libxkbcommon on {batch.tables[index].content!r}: keys, what is read, what it does", differ, [])
+            for index in range(0, BATCH, FAULTY_CHECKED):
+                wanted = batch.typed(index, [(it.keysyms, it.text) for it in batch.tables[index].visits])
+                results.expect(f"type --skip-faulty on {batch.tables[index].content!r}", [*typed_skipping(program, batch.paths[index], batch.keys[index])], wanted)
+
+
 def main():
     program = os.path.abspath(sys.argv[1])
     count, keys, seed = [int(it) for it in (*sys.argv[2:5], *[100_000, 50_000, SEED][len(sys.argv) - 2 :])]
-    values = {"NoSymbol": 0, **reference.header_values(real.SHORT_NAMES), **reference.header_values()}
+    values = {"NoSymbol": 0, "XF86AudioPlay": 0x1008FF14, **reference.header_values(real.SHORT_NAMES), **reference.header_values()}
     names = changed.Names(values, real.header_characters())
     results = Results()
     with tempfile.TemporaryDirectory() as folder, display() as display_name:
@@ -340,6 +384,8 @@ def main():
             if toolkit in readers.built:
                 check_toolkit(program, readers, results, names, toolkit)
         check_random_tables(program, readers, results, names, count, seed)
+        if "libxkbcommon" in readers.built:
+            check_faulty_tables(program, readers, results, names, count // 10, seed)
     return results.end(f"skipped: {', '.join(readers.skipped)}" if readers.skipped else "")
 
 

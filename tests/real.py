@@ -13,6 +13,7 @@ import subprocess
 import sys
 import tempfile
 import time
+import unicodedata
 
 import findings
 import key_streams
@@ -25,7 +26,7 @@ REPERTOIRES = os.path.join(TOP, "share", "composecheck", "repertoires")
 LOCALES = "/usr/share/X11/locale"
 ENGLISH = os.path.join(LOCALES, "en_US.UTF-8", "Compose")
 XKB_HEADER = "/usr/include/xkbcommon/xkbcommon-compose.h"
-PACKAGES = {HEADER: "x11proto-dev", ENGLISH: "libx11-data", XKB_HEADER: "libxkbcommon-dev"}
+PACKAGES = {ENGLISH: "libx11-data", XKB_HEADER: "libxkbcommon-dev"}
 EMPTY_REPERTOIRE = "repertoire"
 # the table of a user: sequences of its own, one that the table of the locale has too, and one that goes on from one of its sequences
 USER = ".XCompose"
@@ -94,12 +95,12 @@ def check_tables(program, folder, results):
 
 
 def header_characters():
-    """The character that the header gives to each value, by a comment that begins with its number."""
+    """The character that the header gives to each value, by a comment that begins with its number: any but a control character."""
     given = {}
     with open(HEADER, encoding="utf-8") as file:
         for line in file:
             found = re.match(r"#define XK_\w+\s+0x([0-9a-fA-F]+)\s*/\*\s*\(?U\+([0-9a-fA-F]{4,6})\b", line)
-            if found:
+            if found and unicodedata.category(chr(int(found[2], 16))) != "Cc":
                 given.setdefault(int(found[1], 16), chr(int(found[2], 16)))
     return given
 
@@ -129,8 +130,8 @@ def check_header(program, folder, results):
     """The header is accepted as it stands: all its names and one core name are keysyms, and each types its character."""
     values = {"NoSymbol": 0, **reference.header_values()}
     given = header_characters()
-    results.expect("names of keysymdef.h and the core", len(values) == 2105, len(values))
-    results.expect("characters of keysymdef.h", len(given) == 1667, len(given))
+    results.expect("names of keysymdef.h and the core", len(values) == 2112, len(values))
+    results.expect("characters of keysymdef.h", len(given) == 1668, len(given))
     ran = run(program, folder, "type", "--names", HEADER, "nothing", *values)
     lines = ran.stdout.splitlines()
     results.expect("all names are keysyms", len(lines) == len(values), ran.stderr)

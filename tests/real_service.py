@@ -3,7 +3,7 @@
 while many of them stand in the middle of a sequence (not part of the gate).
 
 Every text is compared with what libxkbcommon types with the first table, which it is promised to be. The seed is printed, so that a run
-can be made again. It needs libx11-data, x11proto-dev and libxkbcommon0. The last line is `N passed, M failed`."""
+can be made again. It needs libx11-data and libxkbcommon0. The last line is `N passed, M failed`."""
 import collections
 import ctypes
 import os
@@ -238,10 +238,9 @@ def check_sequences(tables, library, chance, results):
 
 
 def main():
-    for path, package in {reference.HEADER: "x11proto-dev", real.ENGLISH: "libx11-data"}.items():
-        if not os.path.exists(path):
-            print(f"{path} is missing: install it with `apt-get install {package}`")
-            return 2
+    if not os.path.exists(real.ENGLISH):
+        print(f"{real.ENGLISH} is missing: install it with `apt-get install libx11-data`")
+        return 2
     seed = int(sys.argv[2]) if len(sys.argv) > 2 else random.randrange(1 << 32)
     print(f"seed {seed}")
     results, tables, library = real.Results(), Tables(os.path.abspath(sys.argv[1])), Library(read(real.ENGLISH))

@@ -7,7 +7,8 @@ string. The first place from the left at which the expected token is missing is 
 import os
 import re
 
-HEADER = "/usr/include/X11/keysymdef.h"
+# The header of which the built-in names are made, so that no name depends on the machine.
+HEADER = os.path.join(os.path.dirname(os.path.dirname(os.path.abspath(__file__))), "packaging", "xorgproto", "keysymdef.h")
 DEFINITION = re.compile(r"#define XK_(\w+)\s+0x([0-9a-fA-F]+)")
 EVENTS = re.compile(r"\s*((?:<\w+>\s*)+):")
 INCLUDE = re.compile(r'\s*include\s+"([^"]*)"')

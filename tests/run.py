@@ -18,7 +18,7 @@ from harness import PROVED_CLIENT, TOP, build_libraries, follow
 HEAD = re.compile(r"(\w+)\.py((?: (?:PROGRAM|TRIALS|\[[^\]]*\]))*): (.*?)(?:[.:;](?:\s|$)|$)", re.S)
 # What an unproved program won't do for: it has an allocator of its own, so that a library which refuses memory can't be preloaded, and is slow on
 # inputs at their limits; the C libraries are built of proved ones; the runner of edits needs the prover. The others are no part of the gate.
-NOT_QUICK = {"calls", "client", "edits_test", "engine", "installed", "library", "limits", "other_tables", "peers", "readers", "real", "real_service", "refusals"}
+NOT_QUICK = {"calls", "client", "edits_test", "engine", "installed", "library", "limits", "newest_tables", "other_tables", "peers", "readers", "real", "real_service", "refusals"}
 # Those that need the library of clients, which is built of a proved one: with --quick they run if that is there.
 WITH_CLIENT = {"client", "engine", "installed"}
 # How many random ones a script tries with --quick, where that takes the longest.

@@ -286,6 +286,76 @@ def check_socket_file(program, results):
         results.expect("a file is not replaced", (fourth.stderr, fourth.returncode, os.path.exists(service.path)), ("refused: socket: socket\n", 2, True))
 
 
+def check_replaced(program, results):
+    """With --replace a stream socket on which nobody listens is replaced, and nothing else. Of two services that begin at once one is reachable."""
+    with Serving(program) as service:
+        service.process.kill()
+        service.process.wait()
+        words = [program, "serve", "--replace", "table.manifest", "repertoire", "certificate", "socket", "9"]
+
+        def tried():
+            """Whether a service begins there, and whether the socket stays as it is."""
+            before = identity(service.path)
+            ran = subprocess.Popen(words, cwd=service.folder, stdout=subprocess.PIPE, stderr=subprocess.PIPE, text=True)
+            printed = ran.stdout.readline()
+            ran.kill()
+            _, complained = ran.communicate()
+            return printed, complained, identity(service.path) == before
+
+        kept = "", "refused: socket: socket\n", True
+        for what, kind in (("stream", socket.SOCK_STREAM), ("seqpacket", socket.SOCK_SEQPACKET), ("datagram", socket.SOCK_DGRAM)):
+            for is_full in (False, True):
+                os.unlink(service.path)
+                with socket.socket(socket.AF_UNIX, kind) as listener, contextlib.ExitStack() as clients:
+                    listener.bind(service.path)
+                    if kind != socket.SOCK_DGRAM:
+                        listener.listen(0)
+                    if is_full:
+                        fill(service.path, kind, clients)
+                    results.expect(f"a {what} socket of somebody is not replaced{', though its queue is full' if is_full else ''}", tried(), kept)
+        os.unlink(service.path)
+        os.mkfifo(service.path)
+        results.expect("a pipe is not replaced", tried(), kept)
+        os.unlink(service.path)
+        os.symlink("table.compose", service.path)
+        results.expect("a link is not replaced", tried(), kept)
+        os.unlink(service.path)
+        for _ in range(2):
+            with contextlib.suppress(FileNotFoundError):
+                os.unlink(service.path)
+            with socket.socket(socket.AF_UNIX, socket.SOCK_STREAM) as stale:
+                stale.bind(service.path)
+            results.expect("a socket on which nobody listens is replaced", tried(), ("listening\n", "", False))
+        for turn in range(10):
+            both = [subprocess.Popen(words, cwd=service.folder, stdout=subprocess.PIPE, stderr=subprocess.DEVNULL, text=True) for _ in range(2)]
+            begun = [it.stdout.readline() for it in both]
+            with service.client() as client:
+                client.open(7)
+                results.expect(f"one of two services that begin at once, {turn}", ("listening\n" in begun, client.key(7, GRAVE)), (True, ("composing", True, "")))
+            for it in both:
+                it.kill()
+                it.communicate()
+
+
+def identity(path):
+    """What a file that takes the place of another one has otherwise. (It may have the number of the other one.)"""
+    found = os.lstat(path)
+    return found.st_ino, found.st_ctime_ns
+
+
+def fill(path, kind, clients):
+    """Fills the queue of a socket, as far as clients can, until they are closed."""
+    for _ in range(64):
+        client = clients.enter_context(socket.socket(socket.AF_UNIX, kind))
+        client.setblocking(False)
+        try:
+            client.connect(path)
+            while kind == socket.SOCK_DGRAM:
+                client.send(bytes(100))
+        except BlockingIOError:
+            return
+
+
 def check_modes(program, results):
     for mode in ("600", "660", "666"):
         with Serving(program, options=("--mode", mode)) as service:
@@ -521,7 +591,7 @@ def check_compose_files(program, results):
 
 def main():
     program, results = os.path.abspath(sys.argv[1]), Results()
-    for check in (check_worked, check_cuts, check_greatest_load, check_overlaps, check_allowed_fresh, check_start, check_clients, check_socket_file, check_modes, check_signal, check_handed_over, check_late_replies,
+    for check in (check_worked, check_cuts, check_greatest_load, check_overlaps, check_allowed_fresh, check_start, check_clients, check_socket_file, check_replaced, check_modes, check_signal, check_handed_over, check_late_replies,
                   check_client_commands, check_sessions, check_names_and_rules, check_compose_files):
         check(program, results)
     print(f"{results.passed} passed, {results.failed} failed")

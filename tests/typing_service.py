@@ -71,7 +71,8 @@ class TypingService:
 
     def store(self, name):
         """Has `update` store the table of a Compose file, which the service takes if it runs, and returns what is printed."""
-        return self.run("update", "--state", os.path.join(self.states, "composecheck"), "--socket", self.socket, f"{name}.compose")
+        running = ["--socket", self.socket] if self.process else []
+        return self.run("update", "--state", os.path.join(self.states, "composecheck"), *running, f"{name}.compose")
 
     def store_anew(self, name):
         """Has `update` store a table in the place of any other, and returns the path of what it stored. The service ends."""
@@ -82,8 +83,8 @@ class TypingService:
 
     def unit_command(self):
         """The command of the unit of systemd, for the table that is stored."""
-        words = settings_of_the_unit()["ExecStart"].replace("%t", self.folder).replace("%h", self.folder)
-        return [self.program, *shlex.split(words)[1:]]
+        words = settings_of_the_unit()["ExecStart"].replace("%t", self.folder)
+        return ["env", f"XDG_STATE_HOME={self.states}", self.program, *shlex.split(words)[1:]]
 
     def start(self, table):
         """Starts the service on a table, in the place of the one that runs."""

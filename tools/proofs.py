@@ -26,7 +26,7 @@ import store
 
 
 # A gate on a slow machine has to end all the same. Edits of which no check has begun by then, in seconds, are left for the next run.
-SECONDS_FOR_EDITS = 105 * 60
+SECONDS_FOR_EDITS = 95 * 60
 
 
 def take_checked(crate, kept):

@@ -6,6 +6,7 @@
 #include <fstream>
 #include <iterator>
 #include <set>
+#include <string_view>
 #include <sys/stat.h>
 
 namespace composecheck {
@@ -52,6 +53,40 @@ std::optional<composecheck_state> typed(const composecheck_table *table, const s
     }
     bool isPending = std::equal(keysyms.begin(), keysyms.end(), pending, pending + library()->pending(&state, pending));
     return isPending ? std::optional(state) : std::nullopt;
+}
+
+// What a file of a table keeps: the payload of a load, and whether the longest of overlapping sequences counts.
+struct Stored {
+    std::string_view payload;
+    bool isLongest;
+};
+
+// A part of the bytes whose length stands before it, in four bytes; the bytes are those behind it then. Nothing: they end before.
+std::optional<std::string_view> partOf(std::string_view &bytes) {
+    size_t length = 0;
+    for (size_t at = 0; at < 4 && at < bytes.size(); at++) {
+        length = length << 8 | static_cast<uint8_t>(bytes[at]);
+    }
+    if (bytes.size() < 4 || bytes.size() - 4 < length) {
+        return std::nullopt;
+    }
+    auto part = bytes.substr(4, length);
+    bytes.remove_prefix(4 + length);
+    return part;
+}
+
+// Reads such a file (docs/FORMATS.md), or one of a version before 0.4, which is the payload alone.
+Stored storedIn(std::string_view file) {
+    using namespace std::literals;
+    for (bool isLongest : {true, false}) {
+        auto head = isLongest ? "\0\1\0\x1c"sv "composecheck-table 1 longest"sv : "\0\1\0\x1b"sv "composecheck-table 1 refuse"sv;
+        if (file.substr(0, head.size()) == head) {
+            file.remove_prefix(head.size());
+            auto repertoire = partOf(file), payload = partOf(file);
+            return {repertoire && payload ? *payload : "", isLongest};
+        }
+    }
+    return {file, true};
 }
 
 // Letters that need no Shift, what else has a sign, and what has a name alone.
@@ -103,10 +138,11 @@ std::shared_ptr<composecheck_table> Following::read() const {
     }
     std::ifstream file(path_, std::ios::binary);
     std::string bytes{std::istreambuf_iterator<char>(file), {}};
+    auto stored = storedIn(bytes);
     composecheck_input input{};
-    input.bundle = bytes.data();
-    input.bundle_length = bytes.size();
-    input.longest = true;
+    input.bundle = stored.payload.data();
+    input.bundle_length = stored.payload.size();
+    input.longest = stored.isLongest;
     composecheck_fault fault{};
     std::shared_ptr<composecheck_table> table(library()->newTable(&input, &fault), library()->freeTable);
     if (!table) {

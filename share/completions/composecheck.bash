@@ -3,13 +3,13 @@ _composecheck() {
     local word=${COMP_WORDS[COMP_CWORD]} before=${COMP_WORDS[COMP_CWORD-1]} options=
     COMPREPLY=()
     if [ "$COMP_CWORD" -eq 1 ]; then
-        COMPREPLY=($(compgen -W "type check explain make diff how list lint manifest update serve load session --help --version" -- "$word"))
+        COMPREPLY=($(compgen -W "type check explain make diff how list lint manifest update status serve load session --help --version" -- "$word"))
         return
     fi
     case $before in
         --names) COMPREPLY=($(compgen -f -- "$word") $(compgen -W builtin -- "$word")); return ;;
         -o | --output | --accept | --from | --repertoire | --socket) COMPREPLY=($(compgen -f -- "$word")); return ;;
-        --fresh | --at-once | --unsent | --idle | --locale | --prefix | --text) return ;;
+        --fresh | --at-once | --unsent | --idle | --timeout | --locale | --prefix | --text) return ;;
         --system|--root|--state) COMPREPLY=($(compgen -d -- "$word")); return ;;
         --overlap) COMPREPLY=($(compgen -W "longest refuse" -- "$word")); return ;;
         --sort) COMPREPLY=($(compgen -W "keys text file" -- "$word")); return ;;
@@ -23,15 +23,16 @@ _composecheck() {
         --mode) COMPREPLY=($(compgen -W "600 660 666" -- "$word")); return ;;
     esac
     case ${COMP_WORDS[1]} in
-        type) options="--files --names --skip-faulty --overlap --system --locale --root --verbose --help" ;;
+        type) options="--files --names --skip-faulty --strict --overlap --system --locale --root --verbose --help" ;;
         check) options="--files --names --fresh --overlap --system --locale --root --verbose --help" ;;
         explain) options="--files --names --fresh --all --overlap --system --locale --root --verbose --help" ;;
         make) options="--files --names --fresh --all --output --overlap --system --locale --root --verbose --help" ;;
         diff) options="--verbose --names --fresh --overlap --accept --write-accept --no-fold --lost --format --color --skip-faulty --system --locale --root --help" ;;
-        how) options="--names --from --repertoire --first --format --skip-faulty --overlap --system --locale --root --help" ;;
-        list) options="--names --prefix --text --next --sort --format --skip-faulty --overlap --system --locale --root --help" ;;
+        how) options="--names --from --repertoire --first --format --skip-faulty --strict --overlap --system --locale --root --help" ;;
+        list) options="--names --prefix --text --next --sort --format --skip-faulty --strict --overlap --system --locale --root --help" ;;
         lint) options="--names --reader --all --accept --write-accept --format --skip-faulty --system --locale --root --verbose --help" ;;
-        update) options="--fresh --repertoire --accept --state --socket --system --locale --verbose --help" ;;
+        update) options="--fresh --repertoire --accept --back --dry-run --state --socket --timeout --system --locale --verbose --help" ;;
+        status) options="--state --socket --help" ;;
         manifest) options="--system --locale --root --verbose --help" ;;
         serve) options="--files --names --fresh --state --at-once --unsent --idle --own-sessions --mode --replace --unlink --overlap --system --locale --root --verbose --help" ;;
         load) options="--files --overlap --system --locale --root --verbose --help" ;;

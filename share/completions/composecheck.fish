@@ -1,5 +1,5 @@
 # Completion of composecheck for fish.
-set -l commands diff how list lint type check explain make manifest update serve load session
+set -l commands diff how list lint type check explain make manifest update status serve load session
 complete -c composecheck -n "not __fish_seen_subcommand_from $commands" -f
 complete -c composecheck -n "not __fish_seen_subcommand_from $commands" -a type -d "Type keys with a table"
 complete -c composecheck -n "not __fish_seen_subcommand_from $commands" -a check -d "Check a certificate that a new table follows an old one"
@@ -11,6 +11,7 @@ complete -c composecheck -n "not __fish_seen_subcommand_from $commands" -a list 
 complete -c composecheck -n "not __fish_seen_subcommand_from $commands" -a lint -d "Find what is wrong in Compose files"
 complete -c composecheck -n "not __fish_seen_subcommand_from $commands" -a manifest -d "Print the manifest of a Compose file"
 complete -c composecheck -n "not __fish_seen_subcommand_from $commands" -a update -d "Take a new Compose file into use"
+complete -c composecheck -n "not __fish_seen_subcommand_from $commands" -a status -d "Print which table is in use"
 complete -c composecheck -n "not __fish_seen_subcommand_from $commands" -a serve -d "Serve typing sessions on a Unix socket"
 complete -c composecheck -n "not __fish_seen_subcommand_from $commands" -a load -d "Load a new table into a running service"
 complete -c composecheck -n "not __fish_seen_subcommand_from $commands" -a session -d "Type keys in a session of a running service"
@@ -23,9 +24,12 @@ complete -c composecheck -n "__fish_seen_subcommand_from make" -s o -l output -r
 complete -c composecheck -n "__fish_seen_subcommand_from explain" -l all -d "All differences"
 complete -c composecheck -n "__fish_seen_subcommand_from lint" -l all -d "Lines too that say again what an included file says"
 complete -c composecheck -n "__fish_seen_subcommand_from make" -l all -d "All characters that cannot be typed"
-complete -c composecheck -n "__fish_seen_subcommand_from update serve" -l state -x -a "(__fish_complete_directories)" -d "Folder of the table in use"
+complete -c composecheck -n "__fish_seen_subcommand_from update status serve" -l state -x -a "(__fish_complete_directories)" -d "Folder of the table in use"
 complete -c composecheck -n "__fish_seen_subcommand_from how update" -l repertoire -r -F -d "The characters that people need"
-complete -c composecheck -n "__fish_seen_subcommand_from update" -l socket -r -F -d "The socket of the running service"
+complete -c composecheck -n "__fish_seen_subcommand_from update status" -l socket -r -F -d "The socket of the running service"
+complete -c composecheck -n "__fish_seen_subcommand_from update" -l back -d "Take back the table before the last change"
+complete -c composecheck -n "__fish_seen_subcommand_from update" -l dry-run -d "Print what would become of the file"
+complete -c composecheck -n "__fish_seen_subcommand_from update" -l timeout -x -d "Seconds to wait for a running service"
 complete -c composecheck -n "__fish_seen_subcommand_from serve" -l at-once -x -d "Serve this number of connections at once"
 complete -c composecheck -n "__fish_seen_subcommand_from serve" -l unsent -x -d "Bytes of replies that may be unsent on a connection"
 complete -c composecheck -n "__fish_seen_subcommand_from serve" -l idle -x -d "Seconds that a connection may be idle"
@@ -35,6 +39,7 @@ complete -c composecheck -n "__fish_seen_subcommand_from diff how list lint type
 complete -c composecheck -n "__fish_seen_subcommand_from diff how list lint type check explain make manifest serve load" -l locale -x -d "Name of the locale"
 complete -c composecheck -n "__fish_seen_subcommand_from diff how list type check explain make serve load" -l overlap -x -a "refuse longest" -d "What is done with overlapping sequences"
 complete -c composecheck -n "__fish_seen_subcommand_from diff how list lint type" -l skip-faulty -d "Leave faulty lines out, and report each"
+complete -c composecheck -n "__fish_seen_subcommand_from how list type" -l strict -d "Take faulty lines as a fault of the table"
 complete -c composecheck -n "__fish_seen_subcommand_from lint" -l reader -x -a "libX11 libxkbcommon gtk3 gtk4" -d "Another reader of Compose files"
 complete -c composecheck -n "__fish_seen_subcommand_from diff update" -l accept -r -F -d "The changes that are meant"
 complete -c composecheck -n "__fish_seen_subcommand_from diff" -l write-accept -d "Print the list that accepts the changes"

@@ -264,8 +264,11 @@ pub static LINES: &str = "#define XK_VoidSymbol 0xffffff
 #define XK_dead_u 0xfe88
 #define XK_dead_U 0xfe89
 #define XK_dead_small_schwa 0xfe8a
+#define XK_dead_schwa 0xfe8a
 #define XK_dead_capital_schwa 0xfe8b
+#define XK_dead_SCHWA 0xfe8b
 #define XK_dead_greek 0xfe8c
+#define XK_dead_hamza 0xfe8d
 #define XK_First_Virtual_Screen 0xfed0
 #define XK_Prev_Virtual_Screen 0xfed1
 #define XK_Next_Virtual_Screen 0xfed2
@@ -456,7 +459,8 @@ pub static LINES: &str = "#define XK_VoidSymbol 0xffffff
 #define XK_diaeresis 0xa8 /*U+00A8*/
 #define XK_copyright 0xa9 /*U+00A9*/
 #define XK_ordfeminine 0xaa /*U+00AA*/
-#define XK_guillemotleft 0xab /*U+00AB*/
+#define XK_guillemotleft 0xab
+#define XK_guillemetleft 0xab /*U+00AB*/
 #define XK_notsign 0xac /*U+00AC*/
 #define XK_hyphen 0xad /*U+00AD*/
 #define XK_registered 0xae /*U+00AE*/
@@ -471,8 +475,10 @@ pub static LINES: &str = "#define XK_VoidSymbol 0xffffff
 #define XK_periodcentered 0xb7 /*U+00B7*/
 #define XK_cedilla 0xb8 /*U+00B8*/
 #define XK_onesuperior 0xb9 /*U+00B9*/
-#define XK_masculine 0xba /*U+00BA*/
-#define XK_guillemotright 0xbb /*U+00BB*/
+#define XK_masculine 0xba
+#define XK_ordmasculine 0xba /*U+00BA*/
+#define XK_guillemotright 0xbb
+#define XK_guillemetright 0xbb /*U+00BB*/
 #define XK_onequarter 0xbc /*U+00BC*/
 #define XK_onehalf 0xbd /*U+00BD*/
 #define XK_threequarters 0xbe /*U+00BE*/
@@ -503,7 +509,7 @@ pub static LINES: &str = "#define XK_VoidSymbol 0xffffff
 #define XK_Odiaeresis 0xd6 /*U+00D6*/
 #define XK_multiply 0xd7 /*U+00D7*/
 #define XK_Oslash 0xd8 /*U+00D8*/
-#define XK_Ooblique 0xd8 /*U+00D8*/
+#define XK_Ooblique 0xd8
 #define XK_Ugrave 0xd9 /*U+00D9*/
 #define XK_Uacute 0xda /*U+00DA*/
 #define XK_Ucircumflex 0xdb /*U+00DB*/
@@ -537,7 +543,7 @@ pub static LINES: &str = "#define XK_VoidSymbol 0xffffff
 #define XK_odiaeresis 0xf6 /*U+00F6*/
 #define XK_division 0xf7 /*U+00F7*/
 #define XK_oslash 0xf8 /*U+00F8*/
-#define XK_ooblique 0xf8 /*U+00F8*/
+#define XK_ooblique 0xf8
 #define XK_ugrave 0xf9 /*U+00F9*/
 #define XK_uacute 0xfa /*U+00FA*/
 #define XK_ucircumflex 0xfb /*U+00FB*/
@@ -846,7 +852,7 @@ pub static LINES: &str = "#define XK_VoidSymbol 0xffffff
 #define XK_Arabic_noon_ghunna 0x10006ba /*U+06BA*/
 #define XK_Arabic_heh_doachashmee 0x10006be /*U+06BE*/
 #define XK_Farsi_yeh 0x10006cc /*U+06CC*/
-#define XK_Arabic_farsi_yeh 0x10006cc /*U+06CC*/
+#define XK_Arabic_farsi_yeh 0x10006cc
 #define XK_Arabic_yeh_baree 0x10006d2 /*U+06D2*/
 #define XK_Arabic_heh_goal 0x10006c1 /*U+06C1*/
 #define XK_Arabic_switch 0xff7e
@@ -1023,7 +1029,7 @@ pub static LINES: &str = "#define XK_VoidSymbol 0xffffff
 #define XK_Greek_IOTA 0x7c9 /*U+0399*/
 #define XK_Greek_KAPPA 0x7ca /*U+039A*/
 #define XK_Greek_LAMDA 0x7cb /*U+039B*/
-#define XK_Greek_LAMBDA 0x7cb /*U+039B*/
+#define XK_Greek_LAMBDA 0x7cb
 #define XK_Greek_MU 0x7cc /*U+039C*/
 #define XK_Greek_NU 0x7cd /*U+039D*/
 #define XK_Greek_XI 0x7ce /*U+039E*/
@@ -1048,7 +1054,7 @@ pub static LINES: &str = "#define XK_VoidSymbol 0xffffff
 #define XK_Greek_iota 0x7e9 /*U+03B9*/
 #define XK_Greek_kappa 0x7ea /*U+03BA*/
 #define XK_Greek_lamda 0x7eb /*U+03BB*/
-#define XK_Greek_lambda 0x7eb /*U+03BB*/
+#define XK_Greek_lambda 0x7eb
 #define XK_Greek_mu 0x7ec /*U+03BC*/
 #define XK_Greek_nu 0x7ed /*U+03BD*/
 #define XK_Greek_xi 0x7ee /*U+03BE*/
@@ -1338,7 +1344,7 @@ pub static LINES: &str = "#define XK_VoidSymbol 0xffffff
 #define XK_Thai_sarau 0xdd8 /*U+0E38*/
 #define XK_Thai_sarauu 0xdd9 /*U+0E39*/
 #define XK_Thai_phinthu 0xdda /*U+0E3A*/
-#define XK_Thai_maihanakat_maitho 0xdde
+#define XK_Thai_maihanakat_maitho 0xdde /*U+0E3E*/
 #define XK_Thai_baht 0xddf /*U+0E3F*/
 #define XK_Thai_sarae 0xde0 /*U+0E40*/
 #define XK_Thai_saraae 0xde1 /*U+0E41*/
@@ -1473,17 +1479,17 @@ pub static LINES: &str = "#define XK_VoidSymbol 0xffffff
 #define XK_Korean_Won 0xeff /*U+20A9*/
 #define XK_Armenian_ligature_ew 0x1000587 /*U+0587*/
 #define XK_Armenian_full_stop 0x1000589 /*U+0589*/
-#define XK_Armenian_verjaket 0x1000589 /*U+0589*/
+#define XK_Armenian_verjaket 0x1000589
 #define XK_Armenian_separation_mark 0x100055d /*U+055D*/
-#define XK_Armenian_but 0x100055d /*U+055D*/
+#define XK_Armenian_but 0x100055d
 #define XK_Armenian_hyphen 0x100058a /*U+058A*/
-#define XK_Armenian_yentamna 0x100058a /*U+058A*/
+#define XK_Armenian_yentamna 0x100058a
 #define XK_Armenian_exclam 0x100055c /*U+055C*/
-#define XK_Armenian_amanak 0x100055c /*U+055C*/
+#define XK_Armenian_amanak 0x100055c
 #define XK_Armenian_accent 0x100055b /*U+055B*/
-#define XK_Armenian_shesht 0x100055b /*U+055B*/
+#define XK_Armenian_shesht 0x100055b
 #define XK_Armenian_question 0x100055e /*U+055E*/
-#define XK_Armenian_paruyk 0x100055e /*U+055E*/
+#define XK_Armenian_paruyk 0x100055e
 #define XK_Armenian_AYB 0x1000531 /*U+0531*/
 #define XK_Armenian_ayb 0x1000561 /*U+0561*/
 #define XK_Armenian_BEN 0x1000532 /*U+0532*/
@@ -2359,6 +2365,9 @@ pub static LINES: &str = "#define XK_VoidSymbol 0xffffff
 #define XK_XF86Assistant 0x10081247
 #define XK_XF86EmojiPicker 0x10081249
 #define XK_XF86Dictate 0x1008124a
+#define XK_XF86CameraAccessEnable 0x1008124b
+#define XK_XF86CameraAccessDisable 0x1008124c
+#define XK_XF86CameraAccessToggle 0x1008124d
 #define XK_XF86BrightnessMin 0x10081250
 #define XK_XF86BrightnessMax 0x10081251
 #define XK_XF86KbdInputAssistPrev 0x10081260
@@ -2388,6 +2397,20 @@ pub static LINES: &str = "#define XK_VoidSymbol 0xffffff
 #define XK_XF86OnScreenKeyboard 0x10081278
 #define XK_XF86PrivacyScreenToggle 0x10081279
 #define XK_XF86SelectiveScreenshot 0x1008127a
+#define XK_XF86NextElement 0x1008127b
+#define XK_XF86PreviousElement 0x1008127c
+#define XK_XF86AutopilotEngageToggle 0x1008127d
+#define XK_XF86MarkWaypoint 0x1008127e
+#define XK_XF86Sos 0x1008127f
+#define XK_XF86NavChart 0x10081280
+#define XK_XF86FishingChart 0x10081281
+#define XK_XF86SingleRangeRadar 0x10081282
+#define XK_XF86DualRangeRadar 0x10081283
+#define XK_XF86RadarOverlay 0x10081284
+#define XK_XF86TraditionalSonar 0x10081285
+#define XK_XF86ClearvuSonar 0x10081286
+#define XK_XF86SidevuSonar 0x10081287
+#define XK_XF86NavInfo 0x10081288
 #define XK_XF86Macro1 0x10081290
 #define XK_XF86Macro2 0x10081291
 #define XK_XF86Macro3 0x10081292

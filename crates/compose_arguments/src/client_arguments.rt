@@ -40,7 +40,7 @@ pub struct SessionArguments<'a> {
 pub fn load_arguments<'a>(given: &ArgMatches<'a>) -> Option<LoadArguments<'a>> {
     Some(LoadArguments {
         socket: given.get_str("SOCKET")?,
-        new: table_named(given, "NEW")?,
+        new: table_named(given, "NEW", false)?,
         certificate: given.get_str("CERTIFICATE")?,
     })
 }

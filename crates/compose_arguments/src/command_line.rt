@@ -5,6 +5,10 @@ use clap::builder::ValueParser;
 use clap::{Arg, ArgAction, Command, value_parser};
 use std::alloc::{AllocError, Global};
 
+/// What `--version` prints after the program's name: the version, and of which headers the built-in
+/// names are (`packaging/xorgproto`).
+const LONG_VERSION: &str = "0.3.0\nnames: xorgproto 2024.1 (keysymdef.h, XF86keysym.h)";
+
 /// Returns the program with all its commands.
 /// Errors: `AllocError` if memory runs out.
 pub fn command_line<'a>(alloc: Global) -> Result<Command<'a>, AllocError> {
@@ -19,6 +23,7 @@ pub fn command_line<'a>(alloc: Global) -> Result<Command<'a>, AllocError> {
 fn program<'a>(alloc: Global) -> Command<'a> {
     Command::new(alloc, "composecheck")
         .version("0.3.0")
+        .long_version(LONG_VERSION)
         .about(
             "Check migrations between X11 Compose tables, type with them, and serve typing sessions",
         )

@@ -24,6 +24,8 @@ pub enum CommandName {
     Manifest,
     /// `update`: takes a Compose file into use.
     Update,
+    /// `status`: prints which table is in use.
+    Status,
     /// `serve`: serves typing sessions.
     Serve,
     /// `load`: loads a table into a running service.
@@ -33,7 +35,7 @@ pub enum CommandName {
 }
 
 /// All commands, in the order of the program's help.
-pub const COMMANDS: [CommandName; 13] = [
+pub const COMMANDS: [CommandName; 14] = [
     CommandName::Diff,
     CommandName::How,
     CommandName::List,
@@ -44,6 +46,7 @@ pub const COMMANDS: [CommandName; 13] = [
     CommandName::Make,
     CommandName::Manifest,
     CommandName::Update,
+    CommandName::Status,
     CommandName::Serve,
     CommandName::Load,
     CommandName::Session,
@@ -62,6 +65,7 @@ pub fn row_of(command: CommandName) -> &'static CommandRow {
         CommandName::Make => &MAKE,
         CommandName::Manifest => &MANIFEST,
         CommandName::Update => &UPDATE,
+        CommandName::Status => &STATUS,
         CommandName::Serve => &SERVE,
         CommandName::Load => &LOAD,
         CommandName::Session => &SESSION,
@@ -132,6 +136,22 @@ const SKIP_FAULTY: OptionRow = OptionRow {
     help: "Leave faulty lines out, as libxkbcommon does, and report each; the last line says how many",
 };
 
+/// `--skip-faulty` of a command that skips faulty lines without it too.
+const SKIP_FAULTY_BY_DEFAULT: OptionRow = OptionRow {
+    name: "skip-faulty",
+    letter: None,
+    takes: Takes::Nothing,
+    help: "Leave faulty lines out, as libxkbcommon does, and report each: the default",
+};
+
+/// `--strict`: refuses a table with faulty lines.
+const STRICT: OptionRow = OptionRow {
+    name: "strict",
+    letter: None,
+    takes: Takes::NothingWith(&["skip-faulty"]),
+    help: "Refuse a table that has a faulty line, in place of leaving the line out",
+};
+
 /// `--files`: Compose files instead of manifests.
 const FILES: OptionRow = OptionRow {
     name: "files",
@@ -182,13 +202,36 @@ const SOCKET: ArgumentRow = ArgumentRow {
     help: "The path of the service's socket",
 };
 
+/// `--state`: the folder of the table in use.
+const STATE: OptionRow = OptionRow {
+    name: "state",
+    letter: None,
+    takes: Takes::Value("DIR"),
+    help: "The folder of the table in use in place of $XDG_STATE_HOME/composecheck or ~/.local/state/composecheck",
+};
+
+/// `--socket`: the socket of a running service.
+const SERVICE_SOCKET: OptionRow = OptionRow {
+    name: "socket",
+    letter: None,
+    takes: Takes::Value("PATH"),
+    help: "The socket of the running service in place of $XDG_RUNTIME_DIR/composecheck.socket",
+};
+
 /// The command that types keys.
 static TYPE: CommandRow = CommandRow {
     name: "type",
     about: "Type keys with a table, and print what happens at each",
     after_help: "With --files, names are those of keysymdef.h, unless --names gives others, and a key may be written as its character; without a KEY each line of standard input is a list of keys, and an empty line follows what is printed of each.\nExit status: 0 typed, 2 input refused, 3 out of memory\nExample: composecheck type -f ~/.XCompose Multi_key \"'\" e",
     options: &[VERBOSE, NAMES, FILES],
-    options_of_files: &[SKIP_FAULTY, OVERLAP, SYSTEM, LOCALE, ROOT],
+    options_of_files: &[
+        SKIP_FAULTY_BY_DEFAULT,
+        STRICT,
+        OVERLAP,
+        SYSTEM,
+        LOCALE,
+        ROOT,
+    ],
     arguments: &[
         TABLE,
         ArgumentRow {
@@ -343,7 +386,8 @@ static HOW: CommandRow = CommandRow {
             help: "Print the first sequence of each text alone",
         },
         LIST_FORMAT,
-        SKIP_FAULTY,
+        SKIP_FAULTY_BY_DEFAULT,
+        STRICT,
         OVERLAP,
         SYSTEM,
         LOCALE,
@@ -393,7 +437,8 @@ static LIST: CommandRow = CommandRow {
             help: "The order: by the keysyms of the keys, by text, or by file and line",
         },
         LIST_FORMAT,
-        SKIP_FAULTY,
+        SKIP_FAULTY_BY_DEFAULT,
+        STRICT,
         OVERLAP,
         SYSTEM,
         LOCALE,
@@ -545,19 +590,31 @@ static UPDATE: CommandRow = CommandRow {
             name: "accept",
             letter: None,
             takes: Takes::Value("FILE"),
-            help: "Store the new table although typing changes if FILE lists each change, as diff --accept reads it; a running service keeps its table",
+            help: "Take the new table although typing changes if FILE lists each change, as diff --accept reads it; sessions of a running service begin anew",
         },
         OptionRow {
-            name: "state",
+            name: "back",
             letter: None,
-            takes: Takes::Value("DIR"),
-            help: "The folder of the table in use in place of $XDG_STATE_HOME/composecheck or ~/.local/state/composecheck",
+            takes: Takes::NothingWith(&["accept", "fresh", "repertoire"]),
+            help: "Take back the table before the last change, in the place of FILE; sessions begin anew",
         },
         OptionRow {
-            name: "socket",
+            name: "dry-run",
             letter: None,
-            takes: Takes::Value("PATH"),
-            help: "The socket of the running service in place of $XDG_RUNTIME_DIR/composecheck.socket",
+            takes: Takes::Nothing,
+            help: "Print what would become of FILE, and store and load nothing",
+        },
+        STATE,
+        SERVICE_SOCKET,
+        OptionRow {
+            name: "timeout",
+            letter: None,
+            takes: Takes::Number {
+                name: "SECONDS",
+                range: NumberRange::U32(1, 3600),
+                default: Some("5"),
+            },
+            help: "How long to wait for a running service and for another update",
         },
         SYSTEM,
         LOCALE,
@@ -565,9 +622,19 @@ static UPDATE: CommandRow = CommandRow {
     options_of_files: &[],
     arguments: &[ArgumentRow {
         name: "FILE",
-        given: GivenArguments::Text,
+        given: GivenArguments::TextUnless("back"),
         help: "The new Compose file",
     }],
+};
+
+/// The command that prints which table is in use.
+static STATUS: CommandRow = CommandRow {
+    name: "status",
+    about: "Print which table is in use, the one before it, and whether a service serves it",
+    after_help: "Exit status: 0 a table is in use, 1 none is, 2 input refused, 3 out of memory\nExample: composecheck status",
+    options: &[STATE, SERVICE_SOCKET],
+    options_of_files: &[],
+    arguments: &[],
 };
 
 /// The command that serves typing sessions.
@@ -608,7 +675,7 @@ static SERVE: CommandRow = CommandRow {
                 range: NumberRange::U32(1, u32::MAX),
                 default: Some("65536"),
             },
-            help: "With --at-once: answer no more of a connection's requests while this number of bytes of replies is unsent",
+            help: "Answer no more of a connection's requests while this number of bytes of replies is unsent",
         },
         OptionRow {
             name: "idle",
@@ -652,7 +719,7 @@ static SERVE: CommandRow = CommandRow {
             name: "state",
             letter: None,
             takes: Takes::Value("DIR"),
-            help: "Serve the table that update keeps in DIR, without end: the path of the socket is all that follows",
+            help: "Serve the table that is kept in DIR, without end, and keep there what is loaded: the path of the socket is all that follows; '' is the folder that update uses without --state",
         },
     ],
     options_of_files: &[OVERLAP, SYSTEM, LOCALE, ROOT],

@@ -49,16 +49,22 @@ pub struct FilePair<'a> {
     pub new_root: Option<&'a str>,
 }
 
-/// Returns the table to type with or to serve, if it is given.
+/// Returns the table to type with, if it is given. The faulty lines of a Compose file are skipped
+/// unless `--strict` is given.
 pub fn type_table<'a>(given: &ArgMatches<'a>) -> Option<TypeTable<'a>> {
-    table_named(given, "TABLE")
+    table_named(given, "TABLE", !given.get_flag("strict"))
 }
 
 /// Returns the table that is given for this argument, if it is there.
-pub fn table_named<'a>(given: &ArgMatches<'a>, argument: &str) -> Option<TypeTable<'a>> {
+pub fn table_named<'a>(
+    given: &ArgMatches<'a>,
+    argument: &str,
+    skip_faulty: bool,
+) -> Option<TypeTable<'a>> {
     let path = given.get_str(argument)?;
     if given.get_flag("files") {
-        return Some(TypeTable::File(table_arguments(given, Some(path))));
+        let arguments = table_arguments(given, Some(path), skip_faulty);
+        return Some(TypeTable::File(arguments));
     }
     Some(TypeTable::Manifest(path))
 }

@@ -18,7 +18,7 @@ pub struct HowArguments<'a> {
 /// Returns the arguments of `how`.
 pub fn how_arguments<'a>(given: &ArgMatches<'a>) -> HowArguments<'a> {
     HowArguments {
-        table: table_arguments(given, given.get_str("from")),
+        table: table_arguments(given, given.get_str("from"), !given.get_flag("strict")),
         repertoire: given.get_str("repertoire"),
         first: given.get_flag("first"),
         json: given.get_str("format") == Some("json"),

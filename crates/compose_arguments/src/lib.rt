@@ -27,6 +27,7 @@ mod question;
 mod request;
 mod rows;
 mod serve_arguments;
+mod status_arguments;
 mod table_arguments;
 mod update_arguments;
 
@@ -39,6 +40,7 @@ pub use list_arguments::{ListArguments, ListSort};
 pub use manifest_arguments::ManifestArguments;
 pub use question::Question;
 pub use request::{CommandLine, CommandRequest, read_command_line};
-pub use serve_arguments::{ServeArguments, Served};
+pub use serve_arguments::{ServeArguments, Served, ServedFiles};
+pub use status_arguments::StatusArguments;
 pub use table_arguments::TableArguments;
-pub use update_arguments::UpdateArguments;
+pub use update_arguments::{TakingArguments, UpdateArguments};

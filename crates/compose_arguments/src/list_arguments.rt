@@ -40,7 +40,7 @@ pub fn list_arguments<'a>(
     given: &ArgMatches<'a>,
 ) -> Result<ListArguments<'a>, AllocError> {
     Ok(ListArguments {
-        table: table_arguments(given, given.get_str("FILE")),
+        table: table_arguments(given, given.get_str("FILE"), !given.get_flag("strict")),
         prefix: names_of_option(alloc, given, "prefix")?,
         text: given.get_str("text"),
         next: given.get_flag("next"),

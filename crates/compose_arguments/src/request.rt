@@ -4,7 +4,10 @@ use crate::command_line::command_line;
 use crate::name_lists::{fresh_names, given_fresh_names};
 use crate::question::{Question, question_of};
 use crate::serve_arguments::{ServeArguments, serve_arguments};
-use crate::update_arguments::{UpdateArguments, update_arguments};
+use crate::status_arguments::{StatusArguments, status_arguments};
+use crate::update_arguments::{
+    TakingArguments, UpdateArguments, taking_arguments, update_arguments,
+};
 use clap::error::ErrorKind;
 use clap::{ArgMatches, Command, Error};
 use std::alloc::{AllocError, Global};
@@ -21,6 +24,10 @@ pub enum CommandRequest<'a> {
         /// The names in `--fresh`, separated by commas.
         fresh: Vec<&'a str>,
     },
+    /// `update --back`: takes the table before the last change into use.
+    TakeBack(TakingArguments<'a>),
+    /// `status`: prints which table is in use.
+    Status(StatusArguments<'a>),
     /// `serve`: serves typing sessions on a socket.
     Serve {
         /// The other arguments.
@@ -109,6 +116,7 @@ fn request_of<'a>(
     };
     match command {
         "update" => update_request(alloc, given),
+        "status" => Ok(Some(CommandRequest::Status(status_arguments(given)))),
         "serve" => serve_request(alloc, given),
         "load" => Ok(load_arguments(given).map(CommandRequest::Load)),
         "session" => session_request(alloc, given),
@@ -143,6 +151,9 @@ fn update_request<'a>(
     alloc: Global,
     given: &ArgMatches<'a>,
 ) -> Result<Option<CommandRequest<'a>>, AllocError> {
+    if given.get_flag("back") {
+        return Ok(taking_arguments(given).map(CommandRequest::TakeBack));
+    }
     let Some(arguments) = update_arguments(given) else {
         return Ok(None);
     };

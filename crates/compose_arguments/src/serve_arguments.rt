@@ -1,24 +1,28 @@
 //! The arguments of `serve`.
-use crate::given_tables::{TypeTable, type_table};
+use crate::given_tables::{TypeTable, table_named};
 use clap::ArgMatches;
 
 /// The table that a service starts with.
 #[derive(Clone, Copy)]
 pub enum Served<'a> {
     /// A table with a repertoire and a certificate.
-    Files {
-        /// The table.
-        table: TypeTable<'a>,
-        /// The path of the repertoire.
-        repertoire: &'a str,
-        /// The path of the certificate of the table against itself.
-        certificate: &'a str,
-    },
-    /// The table that `update` keeps in a folder.
+    Files(ServedFiles<'a>),
+    /// The table that is kept in a folder.
     State {
-        /// The path of the folder.
+        /// The path of the folder; if it is empty, the environment decides.
         folder: &'a str,
     },
+}
+
+/// A table with a repertoire and a certificate.
+#[derive(Clone, Copy)]
+pub struct ServedFiles<'a> {
+    /// The table.
+    pub table: TypeTable<'a>,
+    /// The path of the repertoire.
+    pub repertoire: &'a str,
+    /// The path of the certificate of the table against itself.
+    pub certificate: &'a str,
 }
 
 /// The arguments of `serve`.
@@ -72,12 +76,12 @@ fn served_on<'a>(given: &ArgMatches<'a>) -> Option<(Served<'a>, &'a str)> {
     if let Some(folder) = given.get_str("state") {
         return Some((Served::State { folder }, given.get_str("TABLE")?));
     }
-    let files = Served::Files {
-        table: type_table(given)?,
+    let files = ServedFiles {
+        table: table_named(given, "TABLE", false)?,
         repertoire: given.get_str("REPERTOIRE")?,
         certificate: given.get_str("CERTIFICATE")?,
     };
-    Some((files, given.get_str("SOCKET")?))
+    Some((Served::Files(files), given.get_str("SOCKET")?))
 }
 
 /// Returns the number of connections after which the service ends; with `--state`, 2³² - 1.

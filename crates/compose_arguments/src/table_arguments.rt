@@ -19,11 +19,15 @@ pub struct TableArguments<'a> {
 }
 
 /// Returns the arguments about the Compose file at this path.
-pub fn table_arguments<'a>(given: &ArgMatches<'a>, file: Option<&'a str>) -> TableArguments<'a> {
+pub fn table_arguments<'a>(
+    given: &ArgMatches<'a>,
+    file: Option<&'a str>,
+    skip_faulty: bool,
+) -> TableArguments<'a> {
     TableArguments {
         file,
         refuse_overlaps: given.get_str("overlap") == Some("refuse"),
-        skip_faulty: given.get_flag("skip-faulty"),
+        skip_faulty,
         system: given.get_str("system"),
         locale: given.get_str("locale"),
         root: given.get_str("root"),

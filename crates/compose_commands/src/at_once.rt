@@ -1,10 +1,10 @@
-//! `serve --at-once`: several connections to one service at once.
+//! The loop over the connections to a service.
 ghost use Rattle.std.specs.Prelude.{None};
 
 use crate::connection_ends::EndLines;
 use compose_answer::Ended;
 use compose_arguments::ServeArguments;
-use compose_hub::{ConnectionEnd, EndReport, Limits, PolledSockets, serve_at_once};
+use compose_hub::{ConnectionEnd, EndReport, Limits, PolledSockets, Sockets, serve_at_once};
 use compose_input::Fault;
 use compose_serve::Responder;
 use mio::net::UnixListener as PolledListener;
@@ -28,46 +28,57 @@ impl<R: Print + Eprint + AllocGlobal> EndReport for EndLines<'_, R> {
     }
 }
 
-/// Serves the number of connections that the arguments give, up to `at_once` at a time, and prints
-/// how each ended. Returns how the run ends.
+/// Serves the number of connections that the arguments give, one after another or several at once,
+/// and prints how each ended. Returns how the run ends.
 /// Errors: a fault of the socket if it can't be served on; `NoMemory` if memory runs out.
-pub fn serve_many<S: Responder>(
+pub fn serve_listener<S: Responder>(
     rt: &(impl Clock + Net + Print + Eprint + AllocGlobal),
     listener: UnixListener,
     service: &mut S,
     arguments: &ServeArguments<'_>,
-    at_once: u16,
 ) -> Result<Ended, Fault> {
     let mut lines = EndLines::new(rt);
-    let limits = Limits {
-        at_once: usize::from(at_once),
-        connections: arguments.connections,
-        unsent: arguments.unsent as usize,
-        idle: arguments.idle,
-        own_sessions: arguments.own_sessions,
+    let served = match polled(rt, listener) {
+        Ok(mut sockets) => serve_sockets(rt, &mut sockets, service, arguments, &mut lines),
+        Err(error) => Err(error),
     };
-    match poll_all(rt, listener, service, limits, &mut lines) {
+    match served {
         Ok(()) => Ok(lines.finish()),
         Err(error) => Err(serving_fault(rt.alloc(), arguments.socket, error.kind())),
     }
 }
 
-/// Serves the connections to a listener, which becomes nonblocking.
-fn poll_all<S: Responder, E: EndReport>(
-    rt: &(impl Clock + Net + AllocGlobal),
+/// Returns the sockets of a listener, which becomes nonblocking.
+/// Errors: an I/O error if it can't be polled, or if memory runs out.
+pub fn polled<'c, C: Clock + Net + AllocGlobal>(
+    rt: &'c C,
     listener: UnixListener,
+) -> io::Result<PolledSockets<'c, C>> {
+    listener.set_nonblocking(true)?;
+    PolledSockets::new(rt, rt.alloc(), PolledListener::from_std(listener))
+}
+
+/// Serves the connections to these sockets, and reports how each ended.
+/// Errors: an I/O error of waiting, or of memory.
+pub fn serve_sockets<N: Sockets, S: Responder, E: EndReport>(
+    rt: &impl AllocGlobal,
+    sockets: &mut N,
     service: &mut S,
-    limits: Limits,
+    arguments: &ServeArguments<'_>,
     report: &mut E,
 ) -> io::Result<()> {
-    listener.set_nonblocking(true)?;
-    let listener = PolledListener::from_std(listener);
-    let mut sockets = PolledSockets::new(rt, rt.alloc(), listener)?;
-    serve_at_once(&mut sockets, rt.alloc(), service, limits, report)
+    let limits = Limits {
+        at_once: usize::from(arguments.at_once.unwrap_or(1)),
+        connections: arguments.connections,
+        unsent: arguments.unsent as usize,
+        idle: arguments.idle,
+        own_sessions: arguments.own_sessions,
+    };
+    serve_at_once(sockets, rt.alloc(), service, limits, report)
 }
 
 /// Returns why connections can't be served: memory ran out, or a fault of the socket.
-fn serving_fault(alloc: Global, path: &str, kind: io::ErrorKind) -> Fault {
+pub fn serving_fault(alloc: Global, path: &str, kind: io::ErrorKind) -> Fault {
     match kind {
         io::ErrorKind::OutOfMemory => Fault::NoMemory,
         kind => Fault::socket(String::from_str(alloc, path), kind),

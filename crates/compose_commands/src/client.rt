@@ -3,93 +3,124 @@
 //! error if its input can't be read or is refused, or if memory runs out.
 ghost use Rattle.std.specs.Prelude.{None, ⊤};
 
+use crate::deadline::{Deadline, pause};
 use compose_arguments::{LoadArguments, SessionArguments};
 use compose_client::{ReplyFeeder, RequestFault, put_request};
 use compose_folder::{Folder, ReadOnce};
-use compose_input::{Fault, TableFiles};
+use compose_input::Fault;
 use compose_report::Outcome;
 use compose_runs::{Environment, Options};
-use compose_service_runs::{
-    ClientRequests, Peer, load_requests, run_exchange, run_load, run_session,
-};
+use compose_service_runs::{ClientRequests, Peer, run_exchange, run_load, run_session};
 use compose_tree::BuildTable;
 use compose_wire::{Reply, Request};
+use mio::net::UnixStream as PolledStream;
 use std::alloc::Global;
-use std::io::{Read, Write};
+use std::io::{ErrorKind, Read, Write};
 use std::net::Net;
+use std::os::fd::OwnedFd;
 use std::os::unix::net::UnixStream;
+use std::rt::Clock;
+use std::time::Duration;
+use std::{io, thread};
 
 /// The greatest number of bytes read at once.
 const PIECE: usize = 4096;
+
+/// For how many seconds `load` and `session` wait for a reply.
+const PATIENCE: u32 = 30;
 
 /// Loads a new table into a running service. Returns what is printed.
 /// Errors: the fault of the first file that can't be read or is refused; `Word` if a variable of
 /// the environment that is needed is not UTF-8; a fault of the socket or the connection; `NoMemory`
 /// if memory runs out.
 pub fn load_files<F: Folder>(
-    rt: &(impl Net + AllocGlobal),
+    rt: &(impl Clock + Net + AllocGlobal),
     files: &mut ReadOnce<F>,
     environment: &Environment,
     arguments: &LoadArguments<'_>,
 ) -> Result<Outcome, Fault> {
     let sent = run_load(rt.alloc(), files, environment, arguments)?;
-    exchange(rt, arguments.socket, sent)
-}
-
-/// Loads this table, with this certificate, into the service on the socket. Returns what is
-/// printed.
-/// Errors: a refusal if they don't fit into a load; a fault of the socket or the connection;
-/// `NoMemory` if memory runs out.
-pub fn load_outcome(
-    rt: &(impl Net + AllocGlobal),
-    socket: &str,
-    table: &TableFiles,
-    certificate: &[u8],
-) -> Result<Outcome, Fault> {
-    let sent = load_requests(rt.alloc(), table, certificate)?;
-    exchange(rt, socket, sent)
+    exchange(rt, arguments.socket, PATIENCE, sent)
 }
 
 /// Types in a session of a running service. Returns what is printed.
 /// Errors: the fault of the first names file that can't be read; a fault of the socket or the
 /// connection; `NoMemory` if memory runs out.
 pub fn session_files<T: BuildTable, F: Folder>(
-    rt: &(impl Net + AllocGlobal),
+    rt: &(impl Clock + Net + AllocGlobal),
     files: &mut ReadOnce<F>,
     options: Options<'_>,
     arguments: &SessionArguments<'_>,
 ) -> Result<Outcome, Fault> {
     match run_session::<T, F>(rt.alloc(), files, options, arguments)? {
-        Ok(sent) => exchange(rt, arguments.socket, sent),
+        Ok(sent) => exchange(rt, arguments.socket, PATIENCE, sent),
         Err(outcome) => Ok(outcome),
     }
 }
 
-/// Sends the requests to the service on the socket at this path. Returns what is printed for the
-/// replies.
+/// Sends the requests to the service on the socket at this path, and waits for each reply for at
+/// most this number of seconds. Returns what is printed for the replies.
 fn exchange(
-    rt: &(impl Net + AllocGlobal),
+    rt: &(impl Clock + Net + AllocGlobal),
     path: &str,
+    seconds: u32,
     sent: ClientRequests,
 ) -> Result<Outcome, Fault> {
-    let stream = match UnixStream::connect(rt, path) {
-        Ok(stream) => stream,
-        Err(error) => {
-            return Err(Fault::socket(String::from_str(rt.alloc(), path), error.kind()));
+    match Connection::open(rt, path, seconds) {
+        Ok(mut connection) => run_exchange(rt.alloc(), &mut connection, sent),
+        Err(error) => Err(Fault::socket(String::from_str(rt.alloc(), path), error.kind())),
+    }
+}
+
+/// Connects to the service on the socket at this path. One whose queue is full is tried again until
+/// the time has passed.
+/// Errors: the reason if nobody listens there, or `TimedOut`.
+pub fn connect(rt: &(impl Clock + Net), path: &str, deadline: &Deadline) -> io::Result<UnixStream> {
+    for _ in 0..u64::MAX {
+        match PolledStream::connect(rt, path) {
+            Ok(stream) => {
+                let stream = UnixStream::from(OwnedFd::from(stream));
+                stream.set_nonblocking(false)?;
+                return Ok(stream);
+            }
+            Err(error) if error.kind() == ErrorKind::WouldBlock && !deadline.is_over(rt) => {
+                pause(rt);
+            }
+            Err(error) if error.kind() == ErrorKind::WouldBlock => break,
+            Err(error) => return Err(error),
         }
-    };
-    let mut connection = Connection {
-        stream,
-        feeder: ReplyFeeder::new(rt.alloc()),
-    };
-    run_exchange(rt.alloc(), &mut connection, sent)
+    }
+    Err(io::Error::from(ErrorKind::TimedOut))
 }
 
 /// A connection to a service. No contract describes what it receives.
 #[derive(Drop)]
-struct Connection {
+pub struct Connection {
     stream: UnixStream,
     feeder: ReplyFeeder,
+    /// For how many seconds it waits for a reply.
+    seconds: u32,
+}
+
+impl Connection {
+    /// Connects to the socket at this path, within this number of seconds, and waits for each reply
+    /// for at most as long.
+    /// Errors: the reason if nobody can be reached there.
+    pub fn open(
+        rt: &(impl Clock + Net + AllocGlobal),
+        path: &str,
+        seconds: u32,
+    ) -> io::Result<Connection> {
+        let stream = connect(rt, path, &Deadline::after(rt, seconds))?;
+        let limit = Some(Duration::from_secs(u64::from(seconds)));
+        stream.set_read_timeout(limit)?;
+        stream.set_write_timeout(limit)?;
+        Ok(Connection {
+            stream,
+            feeder: ReplyFeeder::new(rt.alloc()),
+            seconds,
+        })
+    }
 }
 
 impl Peer for Connection {
@@ -99,7 +130,7 @@ impl Peer for Connection {
 
     fn ask(&mut self, alloc: Global, request: &Request) -> Result<Option<Reply>, Fault> {
         send(alloc, &self.stream, request)?;
-        receive(alloc, &self.stream, &mut self.feeder)
+        receive(alloc, &self.stream, &mut self.feeder, self.seconds)
     }
 }
 
@@ -121,6 +152,7 @@ fn receive(
     alloc: Global,
     mut stream: &UnixStream,
     feeder: &mut ReplyFeeder,
+    seconds: u32,
 ) -> Result<Option<Reply>, Fault> {
     'pieces: for _ in 0..u64::MAX {
         match feeder.next_reply() {
@@ -129,15 +161,28 @@ fn receive(
             Err(fault) => return Err(Fault::refused("connection", format!(in alloc; "{fault}"))),
         }
         let mut piece = [0u8; PIECE];
-        let Ok(count) = stream.read(&mut piece) else {
-            return Ok(None);
+        let count = match stream.read(&mut piece) {
+            Ok(0) => return Ok(None),
+            Ok(count) => count,
+            Err(error) if is_late(error.kind()) => return Err(late(alloc, seconds)),
+            Err(_) => return Ok(None),
         };
-        if count == 0 {
-            return Ok(None);
-        }
         if feeder.feed(&piece[..count]).is_err() {
             return Err(Fault::NoMemory);
         }
     }
     Ok(None)
+}
+
+/// Returns whether nothing came in time.
+fn is_late(kind: ErrorKind) -> bool {
+    matches!(kind, ErrorKind::WouldBlock | ErrorKind::TimedOut)
+}
+
+/// Returns the fault that no reply came in time.
+fn late(alloc: Global, seconds: u32) -> Fault {
+    Fault::refused(
+        "connection",
+        format!(in alloc; "no reply in {seconds} seconds"),
+    )
 }

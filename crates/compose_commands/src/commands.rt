@@ -3,8 +3,9 @@
 //! printed here but the lines of a service.
 use crate::client::{load_files, session_files};
 use crate::environment::read_environment;
-use crate::serving::serve_files;
-use crate::updating::update_files;
+use crate::serving::serve;
+use crate::status::status;
+use crate::updating::{take_back, update_files};
 use compose_answer::Ended;
 use compose_arguments::{CommandLine, CommandRequest};
 use compose_folder::{Folder, ReadOnce};
@@ -49,11 +50,13 @@ pub fn answer<T: BuildTable, F: Folder>(
         CommandRequest::Update { arguments, fresh } => {
             update_files::<T, F>(rt, files, form, arguments, fresh)?
         }
+        CommandRequest::TakeBack(arguments) => take_back::<T>(rt, arguments)?,
+        CommandRequest::Status(arguments) => status::<T>(rt, arguments)?,
         CommandRequest::Load(arguments) => load_files(rt, files, &environment, arguments)?,
         CommandRequest::Session(arguments) => session_files::<T, F>(rt, files, options, arguments)?,
         CommandRequest::Serve { arguments, fresh } => {
             let allowed = fresh.as_deref();
-            return serve_files::<T, F>(
+            return serve::<T, F>(
                 rt,
                 files,
                 &environment,

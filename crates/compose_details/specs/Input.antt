@@ -3,6 +3,8 @@
 -- printed as. These texts are derived, and no contract speaks of them.
 use Rattle.std.specs.Prelude.{ℕ, Bool, if◌then◌else◌, List, [], ◌∷◌, ◌++◌, flat_map, Option, None, string_bytes, codes}
 use Rattle.std.specs.Option.{option_map_or}
+use Rattle.std.specs.declared.io.ErrorKind.{ErrorKind}
+use Rattle.std.specs.declared.io.ErrorKind.TheVariants.{NotFound, PermissionDenied, ReadOnlyFilesystem, StorageFull}
 use Rattle.compose_shown.specs.Shown.{shown_text}
 use Rattle.compose_find.specs.declared.found_source.FindFault.{FindFault}
 use Rattle.compose_find.specs.declared.found_source.FindFault.TheVariants.{MissingFile}
@@ -11,7 +13,7 @@ use Rattle.compose_messages.specs.Hints.{include_hint}
 use Rattle.compose_messages.specs.declared.hints.Hint.{Hint}
 use Rattle.compose_input.specs.declared.fault.Unopened.{Unopened}
 use Rattle.compose_input.specs.declared.fault.Fault.{Fault}
-use Rattle.compose_input.specs.declared.fault.Fault.TheVariants.{Unread, Manifest, Source, Find, Socket, Refused, Word, NoMemory}
+use Rattle.compose_input.specs.declared.fault.Fault.TheVariants.{Unread, Unwritten, Manifest, Source, Find, Socket, Refused, Word, NoMemory}
 use Rattle.compose_details.specs.Lines.{line}
 use Rattle.compose_details.specs.Files.{manifest_lines, found_include_message}
 use Rattle.compose_details.specs.Refusals.{hint_line}
@@ -19,6 +21,7 @@ use Rattle.compose_details.specs.Refusals.{hint_line}
 -- the line that refuses the input (code 10 ends it)
 abbrev pub refusal_line : List ℕ → Fault → List ℕ
 refusal_line own (Unread unopened) = codes "refused: file: " ++ (shown_text (string_bytes unopened.path) ++ 10 ∷ [])
+refusal_line own (Unwritten unopened) = codes "refused: file: " ++ (shown_text (string_bytes unopened.path) ++ 10 ∷ [])
 refusal_line own (Manifest path bytes fault) = codes "refused: manifest: " ++ (own ++ 10 ∷ [])
 refusal_line own (Source part path fault) = codes "refused: " ++ (part.now ++ (codes ": " ++ (own ++ 10 ∷ [])))
 refusal_line own (Find fault tried) = codes "refused: find: " ++ (shown_text own ++ 10 ∷ [])
@@ -30,6 +33,17 @@ refusal_line own NoMemory = codes "out of memory\n"
 -- why nothing is read at a path
 abbrev pub unopened_line : Unopened → List ℕ
 unopened_line unopened = line (string_bytes unopened.path) None (open_message unopened.kind)
+
+abbrev pub write_message : ErrorKind → List ℕ
+write_message NotFound = codes "can't be written: no such folder"
+write_message PermissionDenied = codes "can't be written: permission denied"
+write_message ReadOnlyFilesystem = codes "can't be written: the file system is read-only"
+write_message StorageFull = codes "can't be written: no space left"
+write_message _ = codes "can't be written"
+
+-- why a file can't be written
+abbrev pub unwritten_line : Unopened → List ℕ
+unwritten_line unopened = line (string_bytes unopened.path) None (write_message unopened.kind)
 
 -- why a socket can't be used
 abbrev pub socket_line : Unopened → List ℕ
@@ -51,6 +65,7 @@ search_lines fault tried = include_line fault ++ flat_map unopened_line tried ++
 -- the place of the fault, and the reason
 abbrev pub fault_details : Fault → List ℕ
 fault_details (Unread unopened) = unopened_line unopened
+fault_details (Unwritten unopened) = unwritten_line unopened
 fault_details (Manifest path bytes fault) = manifest_lines (string_bytes path) bytes.items fault
 fault_details (Source part path fault) = line (string_bytes path) None (source_message fault)
 fault_details (Find fault tried) = search_lines fault tried.items

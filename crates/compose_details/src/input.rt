@@ -11,6 +11,7 @@ use compose_messages::{Hint, Message, include_hint, open_words, socket_words, so
 use compose_shown::Shown;
 use std::alloc::{AllocError, Global};
 use std::fmt::Write;
+use std::io::ErrorKind;
 
 /// Returns the lines that report why an input of a command can't be read: the refusal, and with
 /// `verbose` also the place of the fault and the reason. O(bytes of a refused manifest).
@@ -77,7 +78,7 @@ fn refusal_line(alloc: Global, fault: &Fault, own: &str) -> Result<String, Alloc
     ensures { IfOk result (λ text. string_bytes text ≡ words.refusal_line own.now fault.now) }
 {
     match fault {
-        Fault::Unread(Unopened { path, .. }) => {
+        Fault::Unread(Unopened { path, .. }) | Fault::Unwritten(Unopened { path, .. }) => {
             format!(in alloc; "refused: file: {path}\n", path = Shown(path))
         }
         Fault::Manifest { .. } => format!(in alloc; "refused: manifest: {own}\n"),
@@ -101,6 +102,7 @@ fn push_details(alloc: Global, text: &mut String, fault: &Fault) -> Result<(), A
 {
     match fault {
         Fault::Unread(unopened) => push_unopened(text, unopened),
+        Fault::Unwritten(unopened) => push_unwritten(text, unopened),
         Fault::Manifest { path, bytes, fault } => {
             text.push_str(&manifest_details(alloc, path, bytes, fault)?)
         }
@@ -170,6 +172,32 @@ fn push_unopened(text: &mut String, unopened: &Unopened) -> Result<(), AllocErro
         None,
         &Message::Plain(open_words(unopened.kind)),
     )
+}
+
+/// Adds why a file can't be written.
+fn push_unwritten(text: &mut String, unopened: &Unopened) -> Result<(), AllocError>
+    ensures { OnOk result
+        (string_bytes text.new ≡ string_bytes text.old ++ words.unwritten_line unopened.now) }
+{
+    push_line(
+        text,
+        &unopened.path,
+        None,
+        &Message::Plain(write_words(unopened.kind)),
+    )
+}
+
+/// Returns the message for a file that can't be written.
+fn write_words(kind: ErrorKind) -> &'static str
+    ensures { result.now ≡ words.write_message kind }
+{
+    match kind {
+        ErrorKind::NotFound => "can't be written: no such folder",
+        ErrorKind::PermissionDenied => "can't be written: permission denied",
+        ErrorKind::ReadOnlyFilesystem => "can't be written: the file system is read-only",
+        ErrorKind::StorageFull => "can't be written: no space left",
+        _ => "can't be written",
+    }
 }
 
 /// Adds why a socket can't be used.

@@ -38,6 +38,8 @@ mod frames;
 #[cfg(test)]
 mod helpers;
 #[cfg(test)]
+mod keeping;
+#[cfg(test)]
 mod key_lists;
 #[cfg(test)]
 mod keysyms;
@@ -67,6 +69,8 @@ mod result_keysyms;
 mod rows;
 #[cfg(test)]
 mod sources;
+#[cfg(test)]
+mod table_files;
 #[cfg(test)]
 mod tables;
 #[cfg(test)]

@@ -8,7 +8,7 @@ use compose_read::SourceFault;
 use std::alloc::{AllocError, AllocFailed};
 use std::io::ErrorKind;
 
-/// A path at which nothing can be read, or no socket can be used, and the reason.
+/// A path at which nothing can be read or written, or no socket can be used, and the reason.
 #[derive(Debug, Drop)]
 pub struct Unopened {
     /// The path.
@@ -22,6 +22,8 @@ pub struct Unopened {
 pub enum Fault {
     /// A file can't be read.
     Unread(Unopened),
+    /// A file can't be written.
+    Unwritten(Unopened),
     /// A manifest is refused.
     Manifest {
         /// The path of the manifest.

@@ -10,7 +10,7 @@ use Rattle.compose_arguments.specs.declared.given_tables.TypeTable.TheVariants.{
 use Rattle.compose_arguments.specs.declared.question.Question.{Question}
 use Rattle.compose_arguments.specs.declared.question.Question.TheVariants.{Keys, Check, Explain, Diff, How, List as ListTable, Lint, Make}
 use Rattle.compose_arguments.specs.declared.request.CommandRequest.{CommandRequest}
-use Rattle.compose_arguments.specs.declared.request.CommandRequest.TheVariants.{Answer, Update, Serve, Load, Session}
+use Rattle.compose_arguments.specs.declared.request.CommandRequest.TheVariants.{Answer, Update, TakeBack, Status, Serve, Load, Session}
 use Rattle.compose_arguments.specs.declared.serve_arguments.Served.{Served}
 use Rattle.compose_arguments.specs.declared.serve_arguments.Served.TheVariants.{Files as FilesServed, State}
 use Rattle.compose_input.specs.declared.fault.Fault.{Fault}
@@ -54,12 +54,14 @@ is_answer_on_files (Make tables fresh all repertoire output) = are_files tables
 is_answer_on_files _ = true
 
 abbrev pub is_served_file : Served → Bool
-is_served_file (FilesServed table repertoire certificate) = is_file table
+is_served_file (FilesServed files) = is_file files.table
 is_served_file (State folder) = false
 
 abbrev pub is_of_files : CommandRequest → Bool
 is_of_files (Answer question) = is_answer_on_files question
 is_of_files (Update arguments fresh) = true
+is_of_files (TakeBack arguments) = true
+is_of_files (Status arguments) = true
 is_of_files (Serve arguments fresh) = is_served_file arguments.served
 is_of_files (Load arguments) = is_file arguments.new
 is_of_files (Session arguments) = arguments.files

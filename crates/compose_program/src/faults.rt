@@ -58,6 +58,8 @@ fn is_json(request: &CommandRequest<'_>) -> bool
     match request {
         CommandRequest::Answer(question) => is_json_answer(question),
         CommandRequest::Update { .. }
+        | CommandRequest::TakeBack(_)
+        | CommandRequest::Status(_)
         | CommandRequest::Serve { .. }
         | CommandRequest::Load(_)
         | CommandRequest::Session(_) => { false }
@@ -98,6 +100,7 @@ fn is_of_files(request: &CommandRequest<'_>) -> bool
     match request {
         CommandRequest::Answer(question) => is_answer_on_files(question),
         CommandRequest::Update { .. } => true,
+        CommandRequest::TakeBack(_) | CommandRequest::Status(_) => true,
         CommandRequest::Serve { arguments, .. } => is_served_file(&arguments.served),
         CommandRequest::Load(arguments) => is_file(&arguments.new),
         CommandRequest::Session(arguments) => arguments.files,
@@ -109,7 +112,7 @@ fn is_served_file(served: &Served<'_>) -> bool
     ensures { result ≡ spec.is_served_file served.now }
 {
     match served {
-        Served::Files { table, .. } => is_file(table),
+        Served::Files(files) => is_file(&files.table),
         Served::State { .. } => false,
     }
 }

@@ -2,3 +2,4 @@ pub mod Kept
 pub mod Answering
 pub mod Starting
 pub mod Running
+pub mod Halves

@@ -23,4 +23,5 @@ mod stream;
 pub use compose_machine::{
     law_isolation, law_kept_texts, law_late_service, law_loads, law_run_append, law_run_history,
 };
-pub use service::{RunFault, Service, StartFault};
+pub use refusal::RefusalCode;
+pub use service::{Candidate, RunFault, Service, StartFault};

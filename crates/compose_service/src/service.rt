@@ -1,5 +1,7 @@
 //! The service: sessions over one current table.
-ghost use Rattle.std.specs.Prelude.{[], false};
+ghost use Rattle.std.specs.Prelude.{◌≡◌, [], false, Err};
+ghost use Rattle.compose_machine.specs.Machine.{ServiceState};
+ghost use Rattle.compose_service.specs.Answered.{ReadsLoad, with_names};
 ghost use Rattle.compose_state.specs.Texts.{text_bytes};
 ghost use Rattle.compose_wire.specs.Messages as words;
 ghost use Rattle.compose_wire.specs.Replies.{HasAnswerValue};
@@ -126,6 +128,13 @@ impl<T: ComposeTable> Model for Service<T> {
     ghost invariant = { λ s. AreKept (T.definitions s.table) s.sessions };
 }
 
+/// A table that was read from the payload of a load, with its certificate.
+#[derive(Drop)]
+pub struct Candidate<T: ComposeTable> {
+    table: T,
+    certificate: Certificate,
+}
+
 impl<T: BuildTable> Service<T> {
     ghost use Rattle.std.specs.Prelude.{◌≡◌, ◌≢◌, ◌<◌, ◌≤◌, List, [], ℕ, length, map, IsTrue, IsFalse, IfOk, OnErr, MatchResult, Some, Err, true, false};
     ghost use Rattle.keysym_core.specs.Keysym.{is_keysym};
@@ -136,7 +145,7 @@ impl<T: BuildTable> Service<T> {
     ghost use Rattle.compose_machine.specs.Machine.{ServiceState, Step, Run, Accepts, one_more};
     ghost use Rattle.compose_machine.specs.Late.{seen, swapped, rows_at_swap, LateAnswers, AreKept};
     ghost use Rattle.compose_service.specs.Reading.{reading};
-    ghost use Rattle.compose_service.specs.Answered.{Answered, ReadsLoad, AreReplies};
+    ghost use Rattle.compose_service.specs.Answered.{Answered, ReadsLoad, Judges, Resumes, AreReplies};
     ghost use Rattle.compose_service.specs.Start.{BeginsBy, StartReturns, started};
     ghost use Rattle.compose_tree.specs.TableReturns.{first_table};
     ghost use Rattle.compose_cert.specs.Reading.{certificate_of};
@@ -471,14 +480,77 @@ impl<T: BuildTable> Service<T> {
     fn load(&mut self, alloc: Global, number: u32, payload: &[u8], rule: Rule) -> ReplyBody
         ensures { Answered self.old number (words.load rule payload.now) result self.new }
     {
-        let (table, certificate) = match self.read_load(alloc, payload, rule) {
-            Ok(load) => load,
+        let candidate = match self.judge(alloc, payload, rule) {
+            Ok(candidate) => candidate,
             Err(refusal) => return ReplyBody::Refused(refusal.code()),
         };
+        self.swap_in(candidate)
+    }
+
+    /// Reads the payload of a load, and checks whether its table may become the current one. Nothing
+    /// changes.
+    ///
+    /// # Errors
+    /// The refusal with which a load of this payload is answered.
+    pub fn judge(
+        &self,
+        alloc: Global,
+        payload: &[u8],
+        rule: Rule,
+    ) -> Result<Candidate<T>, RefusalCode>
+        ensures judged { Judges self.now rule payload.now T.definitions result }
+        ensures sound { AreKept self.now.table self.now.sessions }
+    {
+        // the stored state is sound: its invariant says so
+        let _sessions = &self.sessions;
+        let (table, certificate) = match self.read_load(alloc, payload, rule) {
+            Ok(load) => load,
+            Err(refusal) => return Err(refusal),
+        };
         if !self.accepts(&table, &certificate) {
-            return ReplyBody::Refused(RefusalCode::VerdictNo.code());
+            return Err(RefusalCode::VerdictNo);
         }
+        Ok(Candidate { table, certificate })
+    }
+
+    /// Makes the table of a load that was judged the current one, counts the load, and returns the
+    /// answer to it. It takes no memory.
+    pub fn swap_in(&mut self, candidate: Candidate<T>) -> ReplyBody
+        requires prefix_free { IsTrue (is_prefix_free (T.definitions candidate.table)) }
+        requires accepted { Accepts self.old (T.definitions candidate.table) candidate.certificate }
+        ensures swapped { self.new
+            ≡ swapped self.old (T.definitions candidate.table) candidate.certificate.fresh }
+        ensures reported { HasAnswerValue result (words.loaded (one_more self.old.loads)) }
+    {
+        let Candidate { table, certificate } = candidate;
         self.swap(table, &certificate)
+    }
+
+    /// Starts a service without sessions over the table of a load that a service had accepted and
+    /// kept. The certificate isn't checked again: it is that of a move from another table.
+    ///
+    /// # Errors
+    /// The refusal with which a load of this payload would be answered.
+    pub fn resume(
+        alloc: Global,
+        names: Names,
+        repertoire: Repertoire,
+        payload: &[u8],
+        rule: Rule,
+    ) -> Result<Service<T>, RefusalCode>
+        ensures { Resumes names repertoire rule payload.now result }
+    {
+        match read_payload(alloc, &names, payload, rule) {
+            Ok((table, _)) => Ok(Service {
+                table,
+                names,
+                repertoire,
+                allowed: Allowed::any(),
+                loads: 0,
+                sessions: Sessions::new(alloc),
+            }),
+            Err(refusal) => Err(refusal),
+        }
     }
 
     /// Reads the table and the certificate of a load.
@@ -490,10 +562,7 @@ impl<T: BuildTable> Service<T> {
     ) -> Result<(T, Certificate), RefusalCode>
         ensures { ReadsLoad self.now rule payload.now T.definitions result }
     {
-        let bundle = read_bundle(alloc, payload)?;
-        let table: T = read_first_table(alloc, &self.names, &bundle.sources, rule)?;
-        let certificate = Certificate::read(alloc, bundle.certificate)?;
-        Ok((table, certificate))
+        read_payload(alloc, &self.names, payload, rule)
     }
 
     /// Whether the certificate is valid for the change from the current table to this one, and
@@ -556,6 +625,23 @@ impl<T: BuildTable> Service<T> {
         self.sessions.leave(certificate, &self.table, &self.names);
         self.table = table;
     }
+}
+
+/// Reads the table and the certificate of a load.
+fn read_payload<T: BuildTable>(
+    alloc: Global,
+    names: &Names,
+    payload: &[u8],
+    rule: Rule,
+) -> Result<(T, Certificate), RefusalCode>
+    ensures read { (now : ServiceState)
+        → ReadsLoad (with_names now names.now) rule payload.now T.definitions result }
+    ensures no_verdict { result ≡ Err RefusalCode.VerdictNo → ⊥ }
+{
+    let bundle = read_bundle(alloc, payload)?;
+    let table: T = read_first_table(alloc, names, &bundle.sources, rule)?;
+    let certificate = Certificate::read(alloc, bundle.certificate)?;
+    Ok((table, certificate))
 }
 
 /// Replaces an answer by that to a key which was fed: it writes the status and the bytes of the

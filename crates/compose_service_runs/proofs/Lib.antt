@@ -1,2 +1,2 @@
-pub mod SourceNames
 pub mod Underway
+pub mod Decided

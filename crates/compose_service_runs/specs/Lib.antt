@@ -2,3 +2,5 @@ pub mod Serving
 pub mod ServingFaults
 pub mod Turns
 pub mod Clients
+pub mod Taking
+pub mod Status

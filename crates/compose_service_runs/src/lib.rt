@@ -1,5 +1,5 @@
 //! A service and its clients as functions over values: the service that `serve` starts, what `load`
-//! and `session` send, and what they print for the replies. Nothing is printed here, files are read
+//! and `session` send, what they print for the replies, and what `update` stores, loads or hands over. Nothing is printed here, files are read
 //! through a [`ReadOnce`](compose_folder::ReadOnce) alone, and the other side of an exchange is a
 //! [`Peer`].
 //!
@@ -13,7 +13,13 @@
 mod client;
 mod peer;
 mod serving;
+mod status;
+mod taking;
 
 pub use client::{ClientRequests, load_requests, run_exchange, run_load, run_session};
 pub use peer::Peer;
 pub use serving::start_service;
+pub use status::{Change, ServiceState, Status, StoredSummary, status_outcome};
+pub use taking::{
+    HandOver, Handed, TableFolder, Taking, Wanted, decide_taking, take_alone, take_running,
+};

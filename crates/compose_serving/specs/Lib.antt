@@ -1,3 +1,4 @@
 pub mod Begin
 pub mod Connection
 pub mod Fresh
+pub mod Journal

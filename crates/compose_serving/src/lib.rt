@@ -13,8 +13,10 @@
 
 mod connection;
 mod fresh;
+mod journal;
 mod start;
 
 pub use connection::{end_text, unprinted_after, unprinted_text};
 pub use fresh::allow_fresh;
+pub use journal::{LoadEnd, chosen_text, load_text, table_text};
 pub use start::{BeginFault, BeginInput, begin};

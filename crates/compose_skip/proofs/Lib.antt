@@ -1,4 +1,8 @@
+pub mod Quoted
+pub mod Named
+pub mod Rewritten
 pub mod Parts
+pub mod Keys
 pub mod OneLine
 pub mod WrittenLines
 pub mod OtherSources

@@ -7,7 +7,7 @@ use Rattle.std.proofs.lemmas.Option.{slice_get-get_or}
 use Rattle.keysym_core.specs.Names.{KeysymNames}
 use Rattle.compose_read.specs.Lines.{Source, source_lines}
 use Rattle.compose_read.specs.declared.ReadFault.{ReadFault}
-use Rattle.compose_skip.specs.Faulty.{AreOthersFrom, kept_line, lines_in, own_fault, own_faults_from}
+use Rattle.compose_skip.specs.Faulty.{AreOthersFrom, kept_line, left_fault, lines_in, own_faults_from}
 
 abbrev pub no_source : Source
 no_source = record { name = []; bytes = [] }
@@ -24,12 +24,12 @@ others_more names index k (r ∷ sources) (p ∷ others) s o e are name lines =
 
 -- the faults of one source more
 faults_more : (names : KeysymNames) (index k : ℕ) (sources : List Source) (s : Source) → k ≡ index + length sources
-    → own_faults_from names index (sources ++ s ∷ []) ≡ own_faults_from names index sources ++ filter_map (own_fault names) (lines_in k s.bytes)
+    → own_faults_from names index (sources ++ s ∷ []) ≡ own_faults_from names index sources ++ filter_map (left_fault names) (lines_in k s.bytes)
 faults_more names index k [] s e =
-    let here : index ≡ k = omega (arith, e) in append-nil (filter_map (own_fault names) (lines_in index s.bytes)) ∙ ap (λ n. filter_map (own_fault names) (lines_in n s.bytes)) here
+    let here : index ≡ k = omega (arith, e) in append-nil (filter_map (left_fault names) (lines_in index s.bytes)) ∙ ap (λ n. filter_map (left_fault names) (lines_in n s.bytes)) here
 faults_more names index k (r ∷ sources) s e =
-    ap (λ fs. filter_map (own_fault names) (lines_in index r.bytes) ++ fs) (faults_more names (1 + index) k sources s (omega (arith, e)))
-    ∙ sym (append_assoc (filter_map (own_fault names) (lines_in index r.bytes)) (own_faults_from names (1 + index) sources) (filter_map (own_fault names) (lines_in k s.bytes)))
+    ap (λ fs. filter_map (left_fault names) (lines_in index r.bytes) ++ fs) (faults_more names (1 + index) k sources s (omega (arith, e)))
+    ∙ sym (append_assoc (filter_map (left_fault names) (lines_in index r.bytes)) (own_faults_from names (1 + index) sources) (filter_map (left_fault names) (lines_in k s.bytes)))
 
 module _ (names : KeysymNames) (sources : List Source) (index : ℕ) (within : index < length sources) where
   abbrev at : Source
@@ -60,7 +60,7 @@ module _ (names : KeysymNames) (sources : List Source) (index : ℕ) (within : i
         (lines ∙ ap (λ bs. map (kept_line names) (lines_in index bs)) bytes_are)))
 
     pub faults_next : (faults more : List ReadFault) → faults ≡ own_faults_from names 0 (take index sources)
-        → more ≡ faults ++ filter_map (own_fault names) (lines_in index bytes) → more ≡ own_faults_from names 0 (take (index + 1) sources)
+        → more ≡ faults ++ filter_map (left_fault names) (lines_in index bytes) → more ≡ own_faults_from names 0 (take (index + 1) sources)
     faults_next faults more is e =
-        e ∙ ap₂ (λ fs bs. fs ++ filter_map (own_fault names) (lines_in index bs)) is bytes_are
+        e ∙ ap₂ (λ fs bs. fs ++ filter_map (left_fault names) (lines_in index bs)) is bytes_are
         ∙ sym (ap (own_faults_from names 0) (take_more sources index no_source within) ∙ faults_more names 0 index (take index sources) at count)

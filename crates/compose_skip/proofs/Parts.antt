@@ -40,7 +40,7 @@ ok_map P Q (Err e) f h = tt
 abbrev pub fault_from : KeysymNames → Visit → List (Bor (List ℕ)) → ℕ → Option ReadFault
 fault_from names v events index = result_err (sequence_of names v index (drop index (map (λ e. e.now) events)))
 
-at_event : (events : List (Bor (List ℕ))) (index : ℕ) (d : Bor (List ℕ)) → index < length events
+pub at_event : (events : List (Bor (List ℕ))) (index : ℕ) (d : Bor (List ℕ)) → index < length events
     → drop index (map (λ e. e.now) events) ≡ (get_or events index d).now ∷ drop (index + 1) (map (λ e. e.now) events)
 at_event events index d l =
     let next : suc index ≡ index + 1 = omega arith in

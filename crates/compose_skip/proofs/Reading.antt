@@ -1,11 +1,10 @@
--- Sources whose faulty lines are left empty are read like the original ones, except for these lines.
-use Rattle.std.proofs.Common.{◌≡◌, ◌<◌, ◌+◌, ◌-◌, ℕ, zero, suc, Bool, true, false, not, List, [], ◌∷◌, ◌++◌, length, map, flat_map, get_or, cond, refl, sym, ◌∙◌, ap, ap₂, inl, inr, arith, nat_lt, ltb-true}
-use Rattle.std.specs.Prelude.{Option, Some, None, is_some, filter, Result, Ok, Err, bytes_eq}
+-- Sources whose faulty lines are rewritten or left empty are read like the original ones, except for these lines.
+use Rattle.std.proofs.Common.{◌≡◌, ◌<◌, ◌+◌, ◌-◌, ℕ, zero, suc, Bool, true, false, not, List, [], ◌∷◌, ◌++◌, length, map, flat_map, get_or, cond, refl, sym, ◌∙◌, ap, ap₂, arith, nat_lt, ltb-true}
+use Rattle.std.specs.Prelude.{Option, Some, None, unwrap_or, Result, Ok, Err, bytes_eq}
 use Rattle.std.specs.List.{cons_option, filter_map}
 use Rattle.std.specs.Option.{option_map_or}
 use Rattle.std.specs.Result.{result_err}
 use Rattle.std.specs.Str.{is_utf8}
-use Rattle.std.proofs.lemmas.Bool.{cases_Bool}
 use Rattle.std.proofs.lemmas.Str.{IsUtf8-nil, is_utf8-from_IsUtf8}
 use Rattle.std.proofs.lemmas.List.{map-append}
 use Rattle.std.proofs.lemmas.Option.{same_Some}
@@ -22,8 +21,10 @@ use Rattle.compose_read.specs.Read.{at_line, event_keysym, definition_of, defini
 use Rattle.compose_read.specs.declared.ReadFault.{ReadFault}
 use Rattle.compose_read.specs.declared.ReadFault.TheVariants.{NotUtf8, MissingRoot, MissingInclude, IncludeDepth}
 use Rattle.compose_read.proofs.Faultless.{read_to_end}
-use Rattle.compose_skip.specs.Faulty.{AreOthers, AreOthersFrom, is_faulty, kept_line, lines_in, own, own_fault, own_faults, own_faults_from}
-use Rattle.compose_skip.specs.Left.{kept_visit, other_definitions}
+use Rattle.compose_skip.specs.Faulty.{AreOthers, AreOthersFrom, fault_left, kept_line, left_fault, line_without, lines_in, own, own_fault, own_faults, own_faults_from}
+use Rattle.compose_skip.specs.Left.{kept_visit, other_definitions, other_result, result_or}
+use Rattle.compose_skip.specs.Libxkbcommon.{read_by_libxkbcommon, rewritten}
+use Rattle.compose_skip.proofs.Rewritten.{is_rewritten, not_rewritten}
 
 -- ---- a line has its own fault wherever it is read
 
@@ -73,9 +74,9 @@ same_own names v depth = ap (λ f. own (result_err (cond (is_utf8 v.bytes) f (Er
         ap (λ d. own (result_err (d >>= (λ d. let o : Result (Option Definition) ReadFault = Ok (Some d) in o)))) (same_definition names v depth events raw name)
 
 same_kept : (names : KeysymNames) (v : Visit) (depth : ℕ) → kept_line names (deeper v depth) ≡ kept_line names v
-same_kept names v depth = ap (λ f. let bytes : List ℕ = cond (is_some f) [] v.bytes in bytes) (same_own names v depth)
+same_kept names v depth = ap (line_without names v.bytes) (same_own names v depth)
 
--- the lines of a source with its faulty lines left empty
+-- the lines of a source, each as it is kept
 numbered_kept : (names : KeysymNames) (source depth number : ℕ) (lines : List (List ℕ))
     → numbered source depth number (map (kept_line names) (numbered source 0 number lines)) ≡ map (kept_visit names) (numbered source depth number lines)
 numbered_kept names source depth number [] = refl
@@ -138,15 +139,21 @@ module _ (names : KeysymNames) (sources others : List Source) (are : AreOthers n
       go (Ok (include name)) = same_include v name
       go (Ok (production events raw name)) = refl
 
-  -- a faulty line that is left empty defines nothing, and any other one has the same result as before
-  pub kept_result : (v : Visit) → line_result names others (kept_visit names v) ≡ cond (is_faulty names v) (Ok None) (line_result names sources v)
-  kept_result v = elim (cases_Bool (is_faulty names v)) [
-    | inl h ↦ ap (λ b. line_result names others (record { source = v.source; line = v.line; bytes = cond b [] v.bytes; depth = v.depth })) h
-        ∙ empty_result names others v.source v.line v.depth
-        ∙ sym (ap (λ b. let g : Result (Option Definition) ReadFault = cond b (Ok None) (line_result names sources v) in g) h)
-    | inr h ↦ ap (λ b. line_result names others (record { source = v.source; line = v.line; bytes = cond b [] v.bytes; depth = v.depth })) h ∙ same_line v
-        ∙ sym (ap (λ b. let g : Result (Option Definition) ReadFault = cond b (Ok None) (line_result names sources v) in g) h)
-  ]
+  by_rewritten : (v : Visit) (o : Option (List ℕ)) → rewritten names v.bytes ≡ o
+      → line_result names others (record { source = v.source; line = v.line; bytes = unwrap_or o []; depth = v.depth }) ≡ Ok (read_by_libxkbcommon names v.bytes)
+  by_rewritten v None e =
+      empty_result names others v.source v.line v.depth ∙ ap (λ d. let r : Result (Option Definition) ReadFault = Ok d in r) (sym (not_rewritten names v.bytes e))
+  by_rewritten v (Some written) e =
+      (is_rewritten names v.bytes written e).result others (record { source = v.source; line = v.line; bytes = written; depth = v.depth }) refl
+
+  -- a line without a fault has the same result as before, and another one what libxkbcommon reads in it
+  pub kept_result : (v : Visit) → line_result names others (kept_visit names v) ≡ other_result names sources v
+  kept_result v = go (own_fault names v)
+    where
+      go : (fault : Option ReadFault)
+          → line_result names others (record { source = v.source; line = v.line; bytes = line_without names v.bytes fault; depth = v.depth }) ≡ result_or names v fault (line_result names sources v)
+      go None = same_line v
+      go (Some fault) = by_rewritten v (rewritten names v.bytes) refl
 
   -- ---- what a line includes
 
@@ -163,10 +170,10 @@ module _ (names : KeysymNames) (sources others : List Source) (are : AreOthers n
       go (Ok (include name)) = included_same name
       go (Ok (production events raw name)) = refl
 
-  faulty_includes_none : (v : Visit) → is_faulty names v ≡ true → included sources v.bytes ≡ None
-  faulty_includes_none v h = go (is_utf8 v.bytes) (reading_of v.bytes) h
+  faulty_includes_none : (v : Visit) (fault : ReadFault) → own_fault names v ≡ Some fault → included sources v.bytes ≡ None
+  faulty_includes_none v fault h = go (is_utf8 v.bytes) (reading_of v.bytes) h
     where
-      go : (utf8 : Bool) (r : Result Reading LexFault) → is_some (own (result_err (cond utf8 (at_line v r >>= reading_result names [] v) (Err (NotUtf8 v.source v.line))))) ≡ true
+      go : (utf8 : Bool) (r : Result Reading LexFault) → own (result_err (cond utf8 (at_line v r >>= reading_result names [] v) (Err (NotUtf8 v.source v.line)))) ≡ Some fault
           → cond utf8 (included_by sources r) None ≡ None
       go false r h = refl
       go true (Err e) h = refl
@@ -174,11 +181,18 @@ module _ (names : KeysymNames) (sources others : List Source) (are : AreOthers n
       go true (Ok (include name)) h = cc
       go true (Ok (production events raw name)) h = refl
 
+  rewritten_includes : (line : List ℕ) (o : Option (List ℕ)) → rewritten names line ≡ o → included others (unwrap_or o []) ≡ None
+  rewritten_includes line None e = empty_includes others
+  rewritten_includes line (Some written) e =
+      let r = is_rewritten names line written e in
+      ap (λ b. let i : Option ℕ = cond b (included_by others (reading_of written)) None in i) r.utf8 ∙ ap (included_by others) r.reading
+
   kept_includes : (v : Visit) → included others (kept_line names v) ≡ included sources v.bytes
-  kept_includes v = elim (cases_Bool (is_faulty names v)) [
-    | inl h ↦ ap (λ b. included others (cond b [] v.bytes)) h ∙ empty_includes others ∙ sym (faulty_includes_none v h)
-    | inr h ↦ ap (λ b. included others (cond b [] v.bytes)) h ∙ included_line v.bytes
-  ]
+  kept_includes v = go (own_fault names v) refl
+    where
+      go : (fault : Option ReadFault) → own_fault names v ≡ fault → included others (line_without names v.bytes fault) ≡ included sources v.bytes
+      go None e = included_line v.bytes
+      go (Some fault) e = rewritten_includes v.bytes (rewritten names v.bytes) refl ∙ sym (faulty_includes_none v fault e)
 
   -- ---- all lines
 
@@ -228,16 +242,9 @@ module _ (names : KeysymNames) (sources others : List Source) (are : AreOthers n
 
   -- ---- the definitions
 
-  put_given : (faulty : Bool) (r : Result (Option Definition) ReadFault) (v : Visit) (vs : List Visit) → line_result names sources v ≡ r
-      → definitions_in (cond faulty (Ok None) r) ++ flat_map (λ v. definitions_in (line_result names sources v)) (filter (λ v. not (is_faulty names v)) vs)
-      ≡ flat_map (λ v. definitions_in (line_result names sources v)) (cond (not faulty) (v ∷ filter (λ v. not (is_faulty names v)) vs) (filter (λ v. not (is_faulty names v)) vs))
-  put_given true r v vs e = refl
-  put_given false r v vs e = ap (λ r. definitions_in r ++ flat_map (λ v. definitions_in (line_result names sources v)) (filter (λ v. not (is_faulty names v)) vs)) (sym e)
-
-  given_kept : (vs : List Visit) → given names others (map (kept_visit names) vs) ≡ flat_map (λ v. definitions_in (line_result names sources v)) (filter (λ v. not (is_faulty names v)) vs)
+  given_kept : (vs : List Visit) → given names others (map (kept_visit names) vs) ≡ flat_map (λ v. definitions_in (other_result names sources v)) vs
   given_kept [] = refl
-  given_kept (v ∷ vs) =
-      ap₂ (λ r ds. definitions_in r ++ ds) (kept_result v) (given_kept vs) ∙ put_given (is_faulty names v) (line_result names sources v) v vs refl
+  given_kept (v ∷ vs) = ap₂ (λ r ds. definitions_in r ++ ds) (kept_result v) (given_kept vs)
 
   pub table_of_others : (root : List ℕ) (table : List Definition) → definitions_of names others root ≡ Ok table → table ≡ other_definitions names sources root
   table_of_others root table h = go (nat_lt (source_named others root) (length others)) refl h
@@ -256,28 +263,33 @@ module _ (names : KeysymNames) (sources others : List Source) (are : AreOthers n
 
 -- ---- no line is faulty any longer
 
-kept_is_right : (names : KeysymNames) (v : Visit) → own_fault names (kept_visit names v) ≡ None
-kept_is_right names v = elim (cases_Bool (is_faulty names v)) [
-  | inl h ↦ ap (λ b. own_fault names (record { source = v.source; line = v.line; bytes = cond b [] v.bytes; depth = v.depth })) h
-      ∙ ap (λ r. own (result_err r)) (empty_result names [] v.source v.line v.depth)
-  | inr h ↦ ap (λ b. own_fault names (record { source = v.source; line = v.line; bytes = cond b [] v.bytes; depth = v.depth })) h ∙ none (own_fault names v) h
-]
+pub kept_is_right : (names : KeysymNames) (v : Visit) → own_fault names (kept_visit names v) ≡ None
+kept_is_right names v = go (own_fault names v) refl
   where
-    none : (o : Option ReadFault) → is_some o ≡ false → o ≡ None
-    none None h = refl
-    none (Some f) h = cc
+    by_written : (o : Option (List ℕ)) → rewritten names v.bytes ≡ o → own_fault names (record { source = v.source; line = v.line; bytes = unwrap_or o []; depth = v.depth }) ≡ None
+    by_written None e = ap (λ r. own (result_err r)) (empty_result names [] v.source v.line v.depth)
+    by_written (Some written) e =
+        ap (λ r. own (result_err r)) ((is_rewritten names v.bytes written e).result [] (record { source = v.source; line = v.line; bytes = written; depth = v.depth }) refl)
 
-none_in : (names : KeysymNames) (vs : List Visit) → filter_map (own_fault names) (map (kept_visit names) vs) ≡ []
+    go : (fault : Option ReadFault) → own_fault names v ≡ fault
+        → own_fault names (record { source = v.source; line = v.line; bytes = line_without names v.bytes fault; depth = v.depth }) ≡ None
+    go None e = e
+    go (Some fault) e = by_written (rewritten names v.bytes) refl
+
+kept_is_left : (names : KeysymNames) (v : Visit) → left_fault names (kept_visit names v) ≡ None
+kept_is_left names v = ap (fault_left names (kept_line names v)) (kept_is_right names v)
+
+none_in : (names : KeysymNames) (vs : List Visit) → filter_map (left_fault names) (map (kept_visit names) vs) ≡ []
 none_in names [] = refl
-none_in names (v ∷ vs) = ap₂ (λ o fs. cons_option o fs) (kept_is_right names v) (none_in names vs)
+none_in names (v ∷ vs) = ap₂ (λ o fs. cons_option o fs) (kept_is_left names v) (none_in names vs)
 
 none_from : (names : KeysymNames) (index : ℕ) (sources others : List Source) → AreOthersFrom names index sources others → own_faults_from names index others ≡ []
 none_from names index [] [] are = refl
 none_from names index [] (o ∷ others) are = absurd are
 none_from names index (s ∷ sources) [] are = absurd are
 none_from names index (s ∷ sources) (o ∷ others) are =
-    ap₂ (λ lines fs. filter_map (own_fault names) (numbered index 0 1 lines) ++ fs) are.1 (none_from names (1 + index) sources others are.2)
-    ∙ ap (λ vs. filter_map (own_fault names) vs ++ []) (numbered_kept names index 0 1 (source_lines s.bytes))
+    ap₂ (λ lines fs. filter_map (left_fault names) (numbered index 0 1 lines) ++ fs) are.1 (none_from names (1 + index) sources others are.2)
+    ∙ ap (λ vs. filter_map (left_fault names) vs ++ []) (numbered_kept names index 0 1 (source_lines s.bytes))
     ∙ ap (λ fs. fs ++ []) (none_in names (lines_in index s.bytes))
 
 pub none_faulty : (names : KeysymNames) (sources others : List Source) → AreOthers names sources others → own_faults names others ≡ []

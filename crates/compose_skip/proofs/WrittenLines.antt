@@ -1,14 +1,17 @@
 -- Lines that are written, each with its newline, are read as exactly these lines.
-use Rattle.std.proofs.Common.{◌≡◌, ◌+◌, ℕ, Bool, true, false, not, List, [], ◌∷◌, ◌++◌, cond, map, refl, sym, ◌∙◌, ap, inl, inr, append_assoc}
-use Rattle.std.specs.Prelude.{◌==◌, Option, Some, None, option_to_list}
+use Rattle.std.proofs.Common.{◌≡◌, ◌+◌, ℕ, Bool, true, not, List, [], ◌∷◌, ◌++◌, map, refl, sym, ◌∙◌, ap, inl, inr, append_assoc}
+use Rattle.std.specs.Prelude.{◌==◌, Option, Some, None, option_to_list, unwrap_or}
 use Rattle.std.specs.List.{cons_option, filter_map, list_all}
 use Rattle.std.proofs.lemmas.Bool.{and_parts, cases_Bool, ne_eqb}
 use Rattle.compose_text.specs.Lines.{in_line, lines_of, onto_first}
 use Rattle.compose_text.proofs.LineParts.{stays_in_line}
 use Rattle.keysym_core.specs.Names.{KeysymNames}
 use Rattle.compose_read.specs.Lines.{Visit, numbered, source_lines, without_mark}
-use Rattle.compose_skip.specs.Faulty.{is_faulty, kept_line, lines_in}
+use Rattle.compose_read.specs.declared.ReadFault.{ReadFault}
+use Rattle.compose_skip.specs.Faulty.{kept_line, line_without, lines_in, own_fault}
+use Rattle.compose_skip.specs.Libxkbcommon.{rewritten}
 use Rattle.compose_skip.specs.Written.{mark, written}
+use Rattle.compose_skip.proofs.Rewritten.{is_rewritten}
 
 -- ---- no line has a newline
 
@@ -34,9 +37,13 @@ line_first (b ∷ line) rest plain =
     let parts = and_parts (in_line b) (list_all in_line line) plain in
     rw (ne_eqb b 10 (stays_in_line b parts.0)) (ap (onto_first b) (line_first line rest parts.1))
 
-plain_if : (faulty : Bool) (line : List ℕ) → list_all in_line line ≡ true → list_all in_line (cond faulty [] line) ≡ true
-plain_if true line plain = refl
-plain_if false line plain = plain
+plain_rewritten : (names : KeysymNames) (line : List ℕ) (o : Option (List ℕ)) → rewritten names line ≡ o → list_all in_line (unwrap_or o []) ≡ true
+plain_rewritten names line None e = refl
+plain_rewritten names line (Some written) e = (is_rewritten names line written e).plain
+
+plain_without : (names : KeysymNames) (line : List ℕ) (fault : Option ReadFault) → list_all in_line line ≡ true → list_all in_line (line_without names line fault) ≡ true
+plain_without names line None plain = plain
+plain_without names line (Some fault) plain = plain_rewritten names line (rewritten names line) refl
 
 lines_written : (names : KeysymNames) (source number : ℕ) (lines : List (List ℕ)) → are_in_line lines ≡ true
     → lines_of (written names (numbered source 0 number lines)) ≡ map (kept_line names) (numbered source 0 number lines)
@@ -46,7 +53,7 @@ lines_written names source number (line ∷ lines) plain =
     let v : Visit = record { source = source; line = number; bytes = line; depth = 0 } in
     let others = written names (numbered source 0 (1 + number) lines) in
     ap lines_of (append_assoc (kept_line names v) (10 ∷ []) others)
-    ∙ line_first (kept_line names v) others (plain_if (is_faulty names v) line parts.0)
+    ∙ line_first (kept_line names v) others (plain_without names line (own_fault names v) parts.0)
     ∙ ap (λ ls. kept_line names v ∷ ls) (lines_written names source (1 + number) lines parts.1)
 
 -- a source that is a mark and these lines has these lines

@@ -1,11 +1,13 @@
--- Faulty lines, and sources without them (like libxkbcommon, which skips a faulty line and reads on).
-use Rattle.std.specs.Prelude.{◌≡◌, ◌+◌, ℕ, Bool, if◌then◌else◌, List, [], ◌∷◌, ◌++◌, map, Option, Some, None, is_some}
+-- Faulty lines, and sources as libxkbcommon reads them: it reads many of the lines that have a fault here, and skips the
+-- others.
+use Rattle.std.specs.Prelude.{◌≡◌, ◌+◌, ℕ, if◌then◌else◌, List, [], ◌∷◌, ◌++◌, map, Option, Some, None, is_some, unwrap_or}
 use Rattle.std.specs.List.{filter_map}
 use Rattle.keysym_core.specs.Names.{KeysymNames}
 use Rattle.compose_read.specs.Faults.{fault_of}
 use Rattle.compose_read.specs.Lines.{Source, Visit, numbered, source_lines}
 use Rattle.compose_read.specs.declared.ReadFault.{ReadFault}
 use Rattle.compose_read.specs.declared.ReadFault.TheVariants.{MissingInclude, IncludeDepth}
+use Rattle.compose_skip.specs.Libxkbcommon.{rewritten}
 
 -- ---- a line
 
@@ -19,12 +21,21 @@ own fault = fault
 abbrev pub own_fault : KeysymNames → Visit → Option ReadFault
 own_fault names v = own (fault_of names [] v)
 
-abbrev pub is_faulty : KeysymNames → Visit → Bool
-is_faulty names v = is_some (own_fault names v)
+-- the bytes of the line if it has no fault; else those of the same definition as libxkbcommon reads in it, or none
+abbrev pub line_without : KeysymNames → List ℕ → Option ReadFault → List ℕ
+line_without names bytes None = bytes
+line_without names bytes (Some fault) = unwrap_or (rewritten names bytes) []
 
--- the bytes of the line; a faulty one is left empty
 abbrev pub kept_line : KeysymNames → Visit → List ℕ
-kept_line names v = if is_faulty names v then [] else v.bytes
+kept_line names v = line_without names v.bytes (own_fault names v)
+
+-- the fault of a line that is left empty
+abbrev pub fault_left : KeysymNames → List ℕ → Option ReadFault → Option ReadFault
+fault_left names bytes None = None
+fault_left names bytes (Some fault) = if is_some (rewritten names bytes) then None else Some fault
+
+abbrev pub left_fault : KeysymNames → Visit → Option ReadFault
+left_fault names v = fault_left names v.bytes (own_fault names v)
 
 -- ---- a source
 
@@ -32,8 +43,7 @@ kept_line names v = if is_faulty names v then [] else v.bytes
 abbrev pub lines_in : ℕ → List ℕ → List Visit
 lines_in source bytes = numbered source 0 1 (source_lines bytes)
 
--- the sources have the same names as those from this index on, and the same lines, except that the faulty ones are left
--- empty
+-- the sources have the same names as those from this index on, and each of their lines is kept so
 abbrev pub AreOthersFrom : KeysymNames → ℕ → List Source → List Source → Type 0
 AreOthersFrom names index [] [] = Unit {0}
 AreOthersFrom names index (s ∷ sources) (o ∷ others) =
@@ -43,10 +53,10 @@ AreOthersFrom names index sources others = ⊥
 abbrev pub AreOthers : KeysymNames → List Source → List Source → Type 0
 AreOthers names sources others = AreOthersFrom names 0 sources others
 
--- the faults of the lines of each source from this index on, in order
+-- the faults of the lines of each source from this index on that are left empty, in order
 abbrev pub own_faults_from : KeysymNames → ℕ → List Source → List ReadFault
 own_faults_from names index [] = []
-own_faults_from names index (s ∷ sources) = filter_map (own_fault names) (lines_in index s.bytes) ++ own_faults_from names (1 + index) sources
+own_faults_from names index (s ∷ sources) = filter_map (left_fault names) (lines_in index s.bytes) ++ own_faults_from names (1 + index) sources
 
 abbrev pub own_faults : KeysymNames → List Source → List ReadFault
 own_faults names sources = own_faults_from names 0 sources

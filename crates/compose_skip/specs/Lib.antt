@@ -1,4 +1,5 @@
 pub mod Faulty
 pub mod Left
+pub mod Libxkbcommon
 pub mod Places
 pub mod Written

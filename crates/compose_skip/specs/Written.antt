@@ -8,6 +8,6 @@ use Rattle.compose_skip.specs.Faulty.{kept_line}
 abbrev pub mark : List ℕ
 mark = 0xef ∷ 0xbb ∷ 0xbf ∷ []
 
--- each line, or an empty one if it is faulty, and its newline (code 10)
+-- each line as it is kept, and its newline (code 10)
 abbrev pub written : KeysymNames → List Visit → List ℕ
 written names vs = flat_map (λ v. kept_line names v ++ 10 ∷ []) vs

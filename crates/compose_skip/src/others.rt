@@ -1,4 +1,4 @@
-//! A table without its faulty lines.
+//! A table as libxkbcommon reads it.
 ghost use Rattle.std.specs.Prelude.{◌≡◌, ◌++◌, ◌∷◌, [], IfOk, OnOk, option_copied, unwrap_or};
 ghost use Rattle.compose_skip.specs.Faulty.{AreOthers, own_faults};
 
@@ -7,7 +7,7 @@ use compose_read::{ReadFault, Sources};
 use keysym_core::Names;
 use std::alloc::{AllocError, Global};
 
-/// Sources in which faulty lines are left empty, and the faults of these lines.
+/// Sources in which faulty lines are rewritten or left empty, and the faults of the empty ones.
 #[derive(Drop)]
 pub struct OtherLines {
     /// The sources, with their names and in their order; all other lines keep their numbers.
@@ -16,8 +16,9 @@ pub struct OtherLines {
     pub faults: Vec<ReadFault>,
 }
 
-/// Returns the sources with their faulty lines left empty, so that all other lines keep their
-/// numbers, and the fault of each faulty line. Each source then begins with a byte order mark, and
+/// Returns the sources with their faulty lines rewritten with the definition that libxkbcommon reads
+/// in them, or left empty, so that all lines keep their numbers, and the fault of each line that is
+/// left empty. Each source then begins with a byte order mark, and
 /// each of its lines ends in a newline. O(bytes).
 ///
 /// Errors: `AllocError` if memory runs out.

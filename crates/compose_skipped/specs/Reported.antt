@@ -42,9 +42,9 @@ nothing = record { lines = []; count = 0 }
 abbrev pub with_faults : Reported → TableFiles → List ReadFault → Reported
 with_faults r table faults = record { lines = r.lines ++ fault_lines table faults; count = r.count + length faults }
 
--- the last line, which has the number of skipped lines
+-- the last line, which has the number of skipped lines; none if no line was skipped
 abbrev pub count_line : ℕ → List ℕ
-count_line count = if count == 1 then codes "1 faulty line left out\n" else decimal count ++ codes " faulty lines left out\n"
+count_line count = if count == 0 then [] else if count == 1 then codes "1 faulty line left out\n" else decimal count ++ codes " faulty lines left out\n"
 
 abbrev pub report_of : Reported → List ℕ
 report_of r = r.lines ++ count_line r.count

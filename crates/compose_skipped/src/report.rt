@@ -74,7 +74,7 @@ impl SkippedReport {
         }
     }
 
-    /// Returns the lines, followed by one with their number.
+    /// Returns the lines, followed by one with their number unless there are none.
     /// Errors: `AllocError` if memory runs out.
     pub fn into_text(self) -> Result<String, AllocError>
         ensures { IfOk result (λ text. string_bytes text ≡ words.report_of self) }
@@ -82,6 +82,7 @@ impl SkippedReport {
         let count = self.count;
         let mut text = self.lines;
         match count {
+            0 => {}
             1 => text.push_str("1 faulty line left out\n")?,
             _ => writeln!(text, "{count} faulty lines left out")?,
         }

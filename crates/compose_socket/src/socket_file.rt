@@ -1,9 +1,10 @@
 //! A socket file that is created with its mode.
+use mio::net::UnixStream;
 use std::alloc::AllocError;
 use std::fs::{DirBuilder, Permissions};
 use std::net::Net;
 use std::os::unix::fs::{DirBuilderExt, FileTypeExt, PermissionsExt};
-use std::os::unix::net::{UnixListener, UnixStream};
+use std::os::unix::net::UnixListener;
 use std::rt::Files;
 use std::{fs, io};
 use thiserror::Error;
@@ -45,7 +46,7 @@ pub struct SocketFile<'p> {
     pub path: &'p str,
     /// Who may connect, as the mode of a file: 0o600 is the user alone.
     pub mode: u32,
-    /// Whether a socket on which nobody listens is replaced.
+    /// Whether a stream socket on which nobody listens is replaced.
     pub replace: bool,
 }
 
@@ -93,14 +94,23 @@ impl SocketFile<'_> {
     }
 }
 
-/// Removes the file at the path if it is a socket on which nobody listens.
+/// Removes the file at the path if it is a stream socket on which nobody listens. A socket of
+/// another type, or one whose queue is full, is somebody's, and nothing is waited for.
 fn remove_unused(rt: &(impl Files + Net), path: &str) -> Result<(), SocketFault> {
     let Ok(found) = fs::symlink_metadata(rt, path) else {
         return Ok(());
     };
-    if !found.file_type().is_socket() || UnixStream::connect(rt, path).is_ok() {
+    if !found.file_type().is_socket() || !is_stale(rt, path) {
         return Err(SocketFault::Taken);
     }
     fs::remove_file(rt, path)?;
     Ok(())
+}
+
+/// Returns whether nobody listens on the stream socket at this path.
+fn is_stale(rt: &impl Net, path: &str) -> bool {
+    match UnixStream::connect(rt, path) {
+        Ok(_) => false,
+        Err(error) => error.kind() == io::ErrorKind::ConnectionRefused,
+    }
 }

@@ -7,7 +7,7 @@ use Rattle.keysym_core.proofs.HeaderParts.{after_part}
 use Rattle.keysym_core.proofs.HeaderPart1.{part-1, part-2, part-3, part-4, part-5, part-6, part-7, part-8, part-9, part-10}
 use Rattle.keysym_core.proofs.HeaderPart2.{part-11, part-12, part-13, part-14, part-15, part-16, part-17, part-18, part-19, part-20}
 use Rattle.keysym_core.proofs.HeaderPart3.{part-21, part-22, part-23, part-24, part-25, part-26, part-27, part-28, part-29, part-30}
-use Rattle.keysym_core.proofs.HeaderPart4.{part-31, part-32, part-33, part-34, part-35, part-36, part-37, part-38}
+use Rattle.keysym_core.proofs.HeaderPart4.{part-31, part-32, part-33, part-34, part-35, part-36, part-37, part-38, part-39}
 use Rattle.builtin_names.specs.declared.lines.TheConstants.{LINES}
 
 -- reading the header gives the names and characters of the tables
@@ -52,3 +52,4 @@ header_is_read =
     ∙ after_part part-36
     ∙ after_part part-37
     ∙ after_part part-38
+    ∙ after_part part-39

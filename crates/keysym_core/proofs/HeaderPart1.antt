@@ -21,26 +21,26 @@ pub part-4 : Part 4925 2203 193 64 (some_of 403 0) (some_of 454 0)
 unfolding built_in_rows built_in_characters is_utf8 chars encode_utf8
 part-4 = record { ends = refl; count = refl; read = refl }
 
-pub part-5 : Part 7128 2101 257 64 (some_of 454 0) (some_of 518 0)
+pub part-5 : Part 7128 2096 257 64 (some_of 454 0) (some_of 518 0)
 unfolding built_in_rows built_in_characters is_utf8 chars encode_utf8
 part-5 = record { ends = refl; count = refl; read = refl }
 
-pub part-6 : Part 9229 2023 321 64 (some_of 518 0) (some_of 544 37)
+pub part-6 : Part 9224 2028 321 64 (some_of 518 0) (some_of 547 34)
 unfolding built_in_rows built_in_characters is_utf8 chars encode_utf8
 part-6 = record { ends = refl; count = refl; read = refl }
 
-pub part-7 : Part 11252 1970 385 64 (some_of 544 37) (some_of 544 100)
+pub part-7 : Part 11252 1953 385 64 (some_of 547 34) (some_of 547 97)
 unfolding built_in_rows built_in_characters is_utf8 chars encode_utf8
 part-7 = record { ends = refl; count = refl; read = refl }
 
-pub part-8 : Part 13222 2272 449 64 (some_of 544 100) (some_of 544 161)
+pub part-8 : Part 13205 2264 449 64 (some_of 547 97) (some_of 550 156)
 unfolding built_in_rows built_in_characters is_utf8 chars encode_utf8
 part-8 = record { ends = refl; count = refl; read = refl }
 
-pub part-9 : Part 15494 2274 513 64 (some_of 544 161) (some_of 577 224)
+pub part-9 : Part 15469 2242 513 64 (some_of 550 156) (some_of 577 218)
 unfolding built_in_rows built_in_characters is_utf8 chars encode_utf8
 part-9 = record { ends = refl; count = refl; read = refl }
 
-pub part-10 : Part 17768 2334 577 64 (some_of 577 224) (some_of 641 287)
+pub part-10 : Part 17711 2338 577 64 (some_of 577 218) (some_of 641 281)
 unfolding built_in_rows built_in_characters is_utf8 chars encode_utf8
 part-10 = record { ends = refl; count = refl; read = refl }

@@ -5,42 +5,42 @@ use Rattle.std.specs.Char.{encode_utf8}
 use Rattle.keysym_core.specs.BuiltIn.{built_in_rows, built_in_characters}
 use Rattle.keysym_core.proofs.HeaderParts.{Part, some_of}
 
-pub part-21 : Part 45816 2603 1281 64 (some_of 1281 876) (some_of 1345 939)
+pub part-21 : Part 45719 2575 1281 64 (some_of 1281 872) (some_of 1345 934)
 unfolding built_in_rows built_in_characters is_utf8 chars encode_utf8
 part-21 = record { ends = refl; count = refl; read = refl }
 
-pub part-22 : Part 48419 2589 1345 64 (some_of 1345 939) (some_of 1409 987)
+pub part-22 : Part 48294 2594 1345 64 (some_of 1345 934) (some_of 1409 982)
 unfolding built_in_rows built_in_characters is_utf8 chars encode_utf8
 part-22 = record { ends = refl; count = refl; read = refl }
 
-pub part-23 : Part 51008 2806 1409 64 (some_of 1409 987) (some_of 1473 1050)
+pub part-23 : Part 50888 2762 1409 64 (some_of 1409 982) (some_of 1473 1046)
 unfolding built_in_rows built_in_characters is_utf8 chars encode_utf8
 part-23 = record { ends = refl; count = refl; read = refl }
 
-pub part-24 : Part 53814 2904 1473 64 (some_of 1473 1050) (some_of 1537 1109)
+pub part-24 : Part 53650 2869 1473 64 (some_of 1473 1046) (some_of 1537 1104)
 unfolding built_in_rows built_in_characters is_utf8 chars encode_utf8
 part-24 = record { ends = refl; count = refl; read = refl }
 
-pub part-25 : Part 56718 2870 1537 64 (some_of 1537 1109) (some_of 1601 1173)
+pub part-25 : Part 56519 2877 1537 64 (some_of 1537 1104) (some_of 1601 1168)
 unfolding built_in_rows built_in_characters is_utf8 chars encode_utf8
 part-25 = record { ends = refl; count = refl; read = refl }
 
-pub part-26 : Part 59588 2779 1601 64 (some_of 1601 1173) (some_of 1665 1237)
+pub part-26 : Part 59396 2794 1601 64 (some_of 1601 1168) (some_of 1665 1232)
 unfolding built_in_rows built_in_characters is_utf8 chars encode_utf8
 part-26 = record { ends = refl; count = refl; read = refl }
 
-pub part-27 : Part 62367 2788 1665 64 (some_of 1665 1237) (some_of 1729 1301)
+pub part-27 : Part 62190 2777 1665 64 (some_of 1665 1232) (some_of 1729 1296)
 unfolding built_in_rows built_in_characters is_utf8 chars encode_utf8
 part-27 = record { ends = refl; count = refl; read = refl }
 
-pub part-28 : Part 65155 2805 1729 64 (some_of 1729 1301) (some_of 1793 1355)
+pub part-28 : Part 64967 2767 1729 64 (some_of 1729 1296) (some_of 1793 1350)
 unfolding built_in_rows built_in_characters is_utf8 chars encode_utf8
 part-28 = record { ends = refl; count = refl; read = refl }
 
-pub part-29 : Part 67960 3160 1793 64 (some_of 1793 1355) (some_of 1857 1419)
+pub part-29 : Part 67734 3154 1793 64 (some_of 1793 1350) (some_of 1857 1414)
 unfolding built_in_rows built_in_characters is_utf8 chars encode_utf8
 part-29 = record { ends = refl; count = refl; read = refl }
 
-pub part-30 : Part 71120 3200 1857 64 (some_of 1857 1419) (some_of 1921 1483)
+pub part-30 : Part 70888 3200 1857 64 (some_of 1857 1414) (some_of 1921 1478)
 unfolding built_in_rows built_in_characters is_utf8 chars encode_utf8
 part-30 = record { ends = refl; count = refl; read = refl }

@@ -6,5 +6,5 @@ pub returns-in_ok-reported_start-clause-outcome : goal.returns-in_ok-reported_st
 returns-in_ok-reported_start-clause-outcome g c =
     let names = map (λ name. name.now) c.args.options.names.now in let fresh = map (λ name. name.now) c.args.key_names.now in
     let outcome = c.in_ok-reported_start.field-0 in
-    subst (λ wants. IsStartOutcome wants c.args.files.now.holds c.args.environment.now names c.args.arguments.now.served fresh c.args.answered outcome) c.if-wants_details.ensures
+    subst (λ wants. IsStartOutcome wants c.args.files.now.holds c.args.environment.now names c.args.served.now fresh c.args.answered outcome) c.if-wants_details.ensures
     (c.in_ok-again.again, c.in_ok-again.ensures.read, c.in_ok-reported_start.ensures)

@@ -11,7 +11,7 @@ returns-in-Ok-clause-started g c = (c.in_ok-noted.noted, c.in_ok-noted.ensures.r
 pub returns-in_ok-outcome-in-Err-clause-started : goal.returns-in_ok-outcome-in-Err-clause-started
 returns-in_ok-outcome-in-Err-clause-started g c =
     let folder = c.args.files.now.holds in let environment = c.args.environment.now in let options = c.args.options in let names = map (λ name. name.now) options.names.now in
-    let served = c.args.arguments.now.served in let answered = c.start_answer-answered.result in
+    let served = c.args.served.now in let answered = c.start_answer-answered.result in
     let fresh = unwrap_or (allowed_names c.args.allowed) [] in let key_names = map (λ name. name.now) c.unwrap_or-key_names.result.now in let printed = c.in_ok-outcome-in-Err.outcome in
     let are : key_names ≡ fresh = ap (λ (l : Bor (List (Bor (List ℕ)))). map (λ name. name.now) l.now) c.unwrap_or-key_names.ensures ∙ names_or_none c.args.allowed _ refl in
     let here = subst (λ f. IsStartOutcome (wants_details options.verbose served answered) f environment names served key_names answered printed) c.in_ok-noted.ensures.kept

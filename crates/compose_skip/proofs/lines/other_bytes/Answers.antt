@@ -1,11 +1,11 @@
-use Rattle.std.proofs.Common.{◌≡◌, ◌∙◌, ◌+◌, ◌++◌, ◌∷◌, [], cond, sym, ap, arith}
-use Rattle.std.specs.Prelude.{Option, is_some, option_to_list}
+use Rattle.std.proofs.Common.{◌≡◌, ◌∙◌, ◌+◌, ◌++◌, ◌∷◌, [], sym, ap, arith}
+use Rattle.std.specs.Prelude.{Option, option_to_list}
 use Rattle.std.specs.List.{filter_map}
 use Rattle.std.proofs.lemmas.List.{append-nil}
 use Rattle.compose_text.specs.Lines.{lines_of}
 use Rattle.compose_read.specs.Lines.{Visit, numbered}
 use Rattle.compose_read.specs.declared.ReadFault.{ReadFault}
-use Rattle.compose_skip.specs.Faulty.{own_fault}
+use Rattle.compose_skip.specs.Faulty.{fault_left, left_fault, line_without}
 use Rattle.compose_skip.specs.Written.{written}
 use Rattle.compose_skip.proofs.WrittenLines.{found_more, numbered_more, source_written, written_more}
 use Rattle.compose_skip.proofs.lines.other_bytes.Goals as goal
@@ -20,9 +20,9 @@ loop-own-preserved c =
     let kept = c.loop-own.kept.items in let faults = c.loop-own.faults.items in let fault = c.in_ok-fault.ensures in
     record {
       kept = written_more names v vs kept c.push_line.new.kept.items _ (ap (λ ws. kept ++ written names ws) next ∙ c.loop-own.invariant.kept)
-          (c.in_ok-push_line.ensures.line ∙ ap (λ (f : Option ReadFault). kept ++ (cond (is_some f) [] own ++ 10 ∷ [])) fault);
-      faults = found_more (own_fault names) v vs faults c.push_line.new.faults.items _ (ap (λ ws. faults ++ filter_map (own_fault names) ws) next ∙ c.loop-own.invariant.faults)
-          (c.in_ok-push_line.ensures.fault ∙ ap (λ (f : Option ReadFault). faults ++ option_to_list f) fault);
+          (c.in_ok-push_line.ensures.line ∙ ap (λ (f : Option ReadFault). kept ++ (line_without names own f ++ 10 ∷ [])) fault);
+      faults = found_more (left_fault names) v vs faults c.push_line.new.faults.items _ (ap (λ ws. faults ++ filter_map (left_fault names) ws) next ∙ c.loop-own.invariant.faults)
+          (c.in_ok-push_line.ensures.fault ∙ ap (λ (f : Option ReadFault). faults ++ option_to_list (fault_left names own f)) fault);
       within = (let w = c.loop-own.invariant.within in let s = c.in-Some.ensures.shorter in omega arith);
     }
 

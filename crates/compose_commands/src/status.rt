@@ -1,0 +1,153 @@
+//! `status`: which table is in use, the one before it, and whether a service serves it.
+use crate::client::connect;
+use crate::deadline::Deadline;
+use crate::kept_serving::{builtin_names, stored_at};
+use crate::places::{socket_path, state_folder};
+use crate::state_folder::{StateFolder, read_if_there};
+use compose_arguments::StatusArguments;
+use compose_bundle::read_bundle;
+use compose_input::Fault;
+use compose_model::Rule;
+use compose_read::Sources;
+use compose_report::Outcome;
+use compose_service_runs::{Change, ServiceState, Status, StoredSummary, status_outcome};
+use compose_tree::{BuildTable, TableFault, read_first_table};
+use jiff::Timestamp;
+use std::alloc::Global;
+use std::fs;
+use std::fs::File;
+use std::io::ErrorKind;
+use std::net::Net;
+use std::rt::{Clock, Env, Files};
+use std::time::UNIX_EPOCH;
+
+/// Returns what is printed of the table in use, the one before it, and the service.
+/// Errors: a fault of the folder; `Word` if a variable of the environment that is needed is not
+/// UTF-8; `NoMemory` if memory runs out.
+pub fn status<T: BuildTable>(
+    rt: &(impl Clock + Env + Files<File = File> + Net + AllocGlobal),
+    arguments: &StatusArguments<'_>,
+) -> Result<Outcome, Fault> {
+    let alloc = rt.alloc();
+    let folder = state_folder(rt, arguments.state)?;
+    let socket = socket_path(rt, arguments.socket)?;
+    let mut changes = Vec::new(alloc);
+    let in_use = summary_of::<T>(rt, &folder.table, Some(&mut changes))?;
+    let status = Status {
+        in_use,
+        changes,
+        before: summary_of::<T>(rt, &folder.previous, None)?,
+        is_next_there: matches!(fs::exists(rt, folder.next.as_str()), Ok(true)),
+        service: service_state(rt, &folder, socket)?,
+    };
+    Ok(status_outcome(alloc, &status)?)
+}
+
+/// Returns what is stored in the file at this path, if it is there, and adds which of the files that
+/// its table came from have changed since.
+fn summary_of<T: BuildTable>(
+    rt: &(impl Files + AllocGlobal),
+    path: &str,
+    changes: Option<&mut Vec<Change>>,
+) -> Result<Option<StoredSummary>, Fault> {
+    let alloc = rt.alloc();
+    let Some(bytes) = read_if_there(rt, path)? else {
+        return Ok(None);
+    };
+    let stored = stored_at(alloc, path, &bytes)?;
+    let Ok(bundle) = read_bundle(alloc, stored.payload) else {
+        return Err(Fault::refused("state", format!(in alloc; "{path}: 1 Form")));
+    };
+    if let Some(changes) = changes {
+        add_changes(rt, &bundle.sources, changes)?;
+    }
+    Ok(Some(StoredSummary {
+        origin: String::from_str(alloc, bundle.sources.name(0).unwrap_or(""))?,
+        stored: date_of(rt, path)?,
+        sequences: sequences_of::<T>(alloc, path, &bundle.sources, stored.rule)?,
+        files: bundle.sources.count(),
+    }))
+}
+
+/// Returns the number of sequences of the table of these sources.
+fn sequences_of<T: BuildTable>(
+    alloc: Global,
+    path: &str,
+    sources: &Sources,
+    rule: Rule,
+) -> Result<u32, Fault> {
+    let names = builtin_names(alloc)?;
+    let read: Result<T, TableFault> = read_first_table(alloc, &names, sources, rule);
+    match read {
+        Ok(table) => Ok(table.leaf_count()),
+        Err(TableFault::NoMemory) => Err(Fault::NoMemory),
+        Err(fault) => Err(Fault::refused("state", format!(in alloc; "{path}: {fault}"))),
+    }
+}
+
+/// Returns when the file at this path was written, or an empty text if that is not known.
+fn date_of(rt: &(impl Files + AllocGlobal), path: &str) -> Result<String, Fault> {
+    let alloc = rt.alloc();
+    let Some(written) = time_of(rt, path) else {
+        return Ok(String::new(alloc));
+    };
+    Ok(format!(in alloc; "{written}")?)
+}
+
+/// Returns when the file at this path was written, in whole seconds, if that is known.
+fn time_of(rt: &impl Files, path: &str) -> Option<Timestamp> {
+    let written = fs::metadata(rt, path).ok()?.modified().ok()?;
+    let since = written.duration_since(UNIX_EPOCH).ok()?;
+    Timestamp::from_second(i64::try_from(since.as_secs()).ok()?).ok()
+}
+
+/// Adds which of the files of these sources have changed since the table was stored.
+fn add_changes(
+    rt: &(impl Files + AllocGlobal),
+    sources: &Sources,
+    changes: &mut Vec<Change>,
+) -> Result<(), Fault> {
+    for index in 0..sources.count() {
+        if let Some(change) = change_of(rt, sources, index)? {
+            changes.push(change)?;
+        }
+    }
+    Ok(())
+}
+
+/// Returns how the file of this source has changed since the table was stored, if it has.
+fn change_of(
+    rt: &(impl Files + AllocGlobal),
+    sources: &Sources,
+    index: usize,
+) -> Result<Option<Change>, Fault> {
+    let Some(name) = sources.name(index) else {
+        return Ok(None);
+    };
+    let path = String::from_str(rt.alloc(), name)?;
+    match fs::read(rt, name) {
+        Ok(bytes) if index < sources.count() && bytes.as_slice() == sources.bytes(index) => Ok(
+            None,
+        ),
+        Ok(_) => Ok(Some(Change { path, is_gone: false })),
+        Err(error) if error.kind() == ErrorKind::OutOfMemory => Err(Fault::NoMemory),
+        Err(_) => Ok(Some(Change { path, is_gone: true })),
+    }
+}
+
+/// Returns whether a service has the folder, and whether it can be reached.
+fn service_state(
+    rt: &(impl Clock + Files<File = File> + Net + AllocGlobal),
+    folder: &StateFolder,
+    socket: Option<String>,
+) -> Result<ServiceState, Fault> {
+    if !folder.is_locked(rt)? {
+        return Ok(ServiceState::None);
+    }
+    match socket {
+        Some(socket) if connect(rt, &socket, &Deadline::after(rt, 1)).is_ok() => {
+            Ok(ServiceState::Serves(socket))
+        }
+        _ => Ok(ServiceState::Unreached),
+    }
+}

@@ -1,0 +1,5 @@
+pub mod Kept
+pub mod Keeping
+pub mod Answered
+pub mod Laws
+pub mod Stored

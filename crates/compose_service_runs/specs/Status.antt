@@ -1,0 +1,49 @@
+-- What `status` prints (this project's format: docs/FORMATS.md).
+use Rattle.std.specs.Prelude.{◌≡◌, ℕ, Bool, true, false, List, [], ◌∷◌, ◌++◌, flat_map, Option, Some, None, if◌then◌else◌, string_bytes, codes}
+use Rattle.std.specs.Fmt.{decimal}
+use Rattle.compose_shown.specs.Shown.{shown_text}
+use Rattle.compose_answer.specs.declared.answer.Ended.{Ended}
+use Rattle.compose_answer.specs.declared.answer.Ended.TheVariants.{Yes, No}
+use Rattle.compose_report.specs.Outcomes.{PrintsOutput}
+use Rattle.compose_report.specs.declared.outcome.Outcome.{Outcome}
+use Rattle.compose_service_runs.specs.declared.status.StoredSummary.{StoredSummary}
+use Rattle.compose_service_runs.specs.declared.status.Change.{Change}
+use Rattle.compose_service_runs.specs.declared.status.ServiceState.{ServiceState}
+use Rattle.compose_service_runs.specs.declared.status.ServiceState.TheVariants as services
+use Rattle.compose_service_runs.specs.declared.status.Status.{Status}
+
+abbrev pub table_lines : Option StoredSummary → List ℕ
+table_lines None = codes "in use: none\n"
+table_lines (Some s) =
+    codes "in use: " ++ shown_text (string_bytes s.origin) ++ codes "\nstored: " ++ string_bytes s.stored ++ codes "\nsequences: " ++ decimal s.sequences ++ codes "\nfiles: "
+    ++ decimal s.files ++ 10 ∷ []
+
+abbrev pub words_of : Bool → List ℕ
+words_of is_gone = if is_gone then codes "gone since: " else codes "changed since: "
+
+abbrev pub change_line : Change → List ℕ
+change_line change = words_of change.is_gone ++ shown_text (string_bytes change.path) ++ 10 ∷ []
+
+abbrev pub change_lines : List Change → List ℕ
+change_lines changes = flat_map change_line changes
+
+abbrev pub before_line : Option StoredSummary → List ℕ
+before_line None = []
+before_line (Some s) = codes "before it: " ++ shown_text (string_bytes s.origin) ++ codes ", stored " ++ string_bytes s.stored ++ 10 ∷ []
+
+abbrev pub next_line : Bool → List ℕ
+next_line is_there = if is_there then codes "next: a table waits for the service\n" else []
+
+abbrev pub service_line : ServiceState → List ℕ
+service_line services.None = codes "service: none runs\n"
+service_line (services.Serves path) = codes "service: serves it on " ++ shown_text (string_bytes path) ++ 10 ∷ []
+service_line services.Unreached = codes "service: runs, and can't be reached\n"
+
+-- a table is in use
+abbrev pub end_of : Option StoredSummary → Ended
+end_of None = No
+end_of (Some s) = Yes
+
+abbrev pub IsStatusOutcome : Status → Outcome → Type 0
+IsStatusOutcome s outcome =
+    PrintsOutput (table_lines s.in_use ++ change_lines s.changes.items ++ before_line s.before ++ next_line s.is_next_there ++ service_line s.service) (end_of s.in_use) outcome

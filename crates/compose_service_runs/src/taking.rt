@@ -1,0 +1,446 @@
+//! `update`: what becomes of a table that is to be taken into use. While no service runs it is
+//! stored; a running service, which alone writes the table in use, loads it, or it is handed over to
+//! the service.
+ghost use Rattle.std.specs.Prelude.{◌≡◌, Bool, List, [], ℕ, Option, Some, None, Err, OnOk, OnErr, IfOk, IfErr, IsTrue, map, option_map, string_bytes};
+ghost use Rattle.compose_answer.specs.declared.answer.Ended.TheVariants.{Refused};
+ghost use Rattle.compose_bundle.specs.Bundle.{Bundle, IsBundle};
+ghost use Rattle.compose_table_file.specs.TableFile.{TableFile, FileHas};
+ghost use Rattle.compose_table_file.specs.Reading.{table_of};
+ghost use Rattle.compose_report.specs.Outcomes.{PrintsErrors};
+ghost use Rattle.compose_service_runs.specs.Taking as words;
+ghost use Rattle.compose_service_runs.specs.Taking.{Becomes, Decides, DecidesTaking, IsFile, IsHandedOver, IsLoad, IsLoaded, Needs, OnOkOk, PrintsNoted, Stores, TakesHere, TakesRunning, more};
+
+use crate::client::{ClientRequests, load_requests, run_exchange};
+use crate::peer::Peer;
+use compose_answer::Ended;
+use compose_bundle::{read_bundle, write_bundle};
+use compose_input::Fault;
+use compose_model::Rule;
+use compose_read::Sources;
+use compose_report::Outcome;
+use compose_runs::{UpdateFiles, UpdateRun, run_update};
+use compose_table_file::{StoredFault, StoredTable, read_table, write_table};
+use compose_tree::BuildTable;
+use std::alloc::{AllocError, Global};
+use std::io::ErrorKind;
+
+/// The note if a table that is meant is stored while no service runs.
+const MEANT: &str = "note: typing changes as it is meant to\n";
+
+/// The note if a running service has taken a table that is meant.
+const TAKEN: &str =
+    "note: typing changes as it is meant to; the running service has taken the table, and its sessions begin anew\n";
+
+/// What is printed if the running service has not taken a table in time.
+const WAITING: &str =
+    "composecheck: the running service has not taken the table yet: it does so at its next connection\n";
+
+/// What becomes of a new table.
+#[derive(Drop)]
+pub enum Taking {
+    /// Nothing: this is printed.
+    Refused(Outcome),
+    /// Nothing: it is the table in use.
+    Same,
+    /// It follows the table in use, or none is in use.
+    Follows {
+        /// The bytes of its file.
+        file: Vec<u8>,
+        /// What a client sends to have a running service load it, if a table is in use.
+        load: Option<ClientRequests>,
+    },
+    /// It is meant: typing changes as the owner listed it or with the fresh keys that the owner
+    /// named, or people need other characters than before.
+    Meant {
+        /// The bytes of its file.
+        file: Vec<u8>,
+    },
+}
+
+/// What an update asks for, besides the files that it reads.
+#[derive(Clone, Copy)]
+pub struct Wanted<'a> {
+    /// The key names of the fresh keysyms: new sequences may start with these.
+    pub fresh: &'a [&'a str],
+    /// Whether the repertoire was given; otherwise people need what they needed before.
+    pub has_repertoire: bool,
+}
+
+/// What a running service made of a table that was handed over to it.
+#[derive(Clone, Copy, Debug, PartialEq, Eq, Drop)]
+pub enum Handed {
+    /// It has taken it.
+    Taken,
+    /// It has not taken it in time.
+    Waits,
+    /// The table could not be written, for this reason.
+    Unwritten(ErrorKind),
+}
+
+/// The folder of the table in use, while no service runs.
+pub trait TableFolder {
+    /// The files that were stored one after another as the table in use, if they are known.
+    ghost stored: { Self → Option (List (List ℕ)) };
+
+    /// Stores this file in the place of the one that is stored, whole or not at all.
+    ///
+    /// Errors: the reason if it can't be stored; nothing changes then.
+    fn replace(&mut self, alloc: Global, file: &[u8]) -> Result<(), ErrorKind>
+        ensures ok { OnOk result (stored self.new ≡ more (stored self.old) file.now) }
+        ensures err { OnErr result (stored self.new ≡ stored self.old) };
+}
+
+/// The folder of the table in use, while a service runs, which alone writes that table.
+pub trait HandOver {
+    /// The files that were handed over to the service one after another, if they are known.
+    ghost handed: { Self → Option (List (List ℕ)) };
+
+    /// Hands this file over, and waits until the service has taken it.
+    fn hand_over(&mut self, alloc: Global, file: &[u8]) -> Handed
+        ensures { handed self.new ≡ more (handed self.old) file.now };
+}
+
+/// Returns what becomes of the table of these files, if these are the bytes of the file of the table
+/// in use, which is `None` if no table is. A table that can't be read is never taken for none. Of the
+/// files only the repertoire changes, to what people need. Takes the time of `run_update`.
+/// Errors: why the table in use can't be read; a refusal of `state` if the bytes are no such file, or
+/// if the new file would be too large; `NoMemory` if memory runs out.
+pub fn decide_taking<T: BuildTable>(
+    alloc: Global,
+    files: &mut UpdateFiles,
+    wanted: Wanted<'_>,
+    stored: Result<Option<Vec<u8>>, Fault>,
+) -> Result<Taking, Fault>
+    ensures taking { IfOk result
+        (λ taking. DecidesTaking wanted.entry.has_repertoire
+        (map (λ name. name.now) wanted.entry.fresh.now) stored files.old files.exit.now taking) }
+    ensures unread { IfErr stored (λ fault. result ≡ Err fault) }
+{
+    match stored {
+        Ok(Some(stored)) => {
+            let current = stored_table(alloc, &stored)?;
+            decide_beside::<T>(alloc, files, wanted, current)
+        }
+        Ok(None) => decide_first::<T>(alloc, files, wanted),
+        Err(fault) => Err(fault),
+    }
+}
+
+/// Returns what becomes of the table of these files, if none is in use.
+fn decide_first<T: BuildTable>(
+    alloc: Global,
+    files: &UpdateFiles,
+    wanted: Wanted<'_>,
+) -> Result<Taking, Fault>
+    ensures { IfOk result
+        (λ taking. Becomes wanted.entry.has_repertoire
+        (map (λ name. name.now) wanted.entry.fresh.now) files.now.repertoire.items None files.now
+        taking) }
+{
+    let run = run_update::<T>(alloc, files, wanted.fresh, None)?;
+    taking_of(alloc, files, false, run)
+}
+
+/// Returns what becomes of the table of these files, if this one is in use.
+fn decide_beside<T: BuildTable>(
+    alloc: Global,
+    files: &mut UpdateFiles,
+    wanted: Wanted<'_>,
+    current: StoredTable<'_>,
+) -> Result<Taking, Fault>
+    ensures needs { Needs
+        (words.needed wanted.entry.has_repertoire files.old.repertoire.items
+        (Some (table_of current.entry))) files.old files.exit.now }
+    ensures becomes { IfOk result
+        (λ taking. Becomes wanted.entry.has_repertoire
+        (map (λ name. name.now) wanted.entry.fresh.now) files.old.repertoire.items
+        (Some (table_of current.entry)) files.exit.now taking) }
+{
+    let is_other = needs_other(wanted.has_repertoire, files, &current.repertoire);
+    let StoredTable {
+        rule: _,
+        repertoire,
+        payload,
+    } = current;
+    need(files, wanted.has_repertoire, repertoire);
+    decide_needed::<T>(alloc, files, wanted, is_other, payload)
+}
+
+/// Returns what becomes of the table of these files, which have what people need, if the table with
+/// this payload is in use.
+fn decide_needed<T: BuildTable>(
+    alloc: Global,
+    files: &UpdateFiles,
+    wanted: Wanted<'_>,
+    is_other: bool,
+    payload: &[u8],
+) -> Result<Taking, Fault>
+    ensures { (given : List ℕ) (current : TableFile) → current.payload ≡ payload.now
+        → is_other ≡ words.needs_other wanted.entry.has_repertoire given (Some current)
+        → IfOk result
+        (λ taking. Becomes wanted.entry.has_repertoire
+        (map (λ name. name.now) wanted.entry.fresh.now) given (Some current) files.now taking) }
+{
+    if !is_other && is_same(alloc, &files.new.sources, payload) {
+        return Ok(Taking::Same);
+    }
+    let is_meant = is_meant(is_other, wanted.fresh);
+    let run = run_update::<T>(alloc, files, wanted.fresh, Some(payload))?;
+    taking_of(alloc, files, is_meant, run)
+}
+
+/// Returns whether a change is meant although the table follows the one in use: it names fresh keys,
+/// or people need another repertoire.
+fn is_meant(is_other: bool, fresh: &[&str]) -> bool
+    ensures { (has_repertoire : Bool) (given : List ℕ) (current : TableFile)
+        → is_other ≡ words.needs_other has_repertoire given (Some current)
+        → result
+        ≡ words.is_meant has_repertoire (map (λ name. name.now) fresh.now) given (Some current) }
+{
+    if fresh.is_empty() {
+        return is_other;
+    }
+    true
+}
+
+/// Returns whether another repertoire than that of the table in use was given.
+fn needs_other(has_repertoire: bool, files: &UpdateFiles, repertoire: &[u8]) -> bool
+    ensures { (current : TableFile) → current.repertoire ≡ repertoire.now
+        → result
+        ≡ words.needs_other has_repertoire files.now.repertoire.items (Some current) }
+{
+    has_repertoire && files.repertoire.as_slice() != repertoire
+}
+
+/// Gives the files the repertoire of the table in use, unless another one was given.
+fn need(files: &mut UpdateFiles, has_repertoire: bool, repertoire: Vec<u8>)
+    ensures { (current : TableFile) → current.repertoire ≡ repertoire.items
+        → Needs (words.needed has_repertoire files.old.repertoire.items (Some current)) files.old
+        files.exit.now }
+{
+    if !has_repertoire {
+        files.repertoire = repertoire;
+    }
+}
+
+/// Reads the file of the table in use.
+fn stored_table(alloc: Global, stored: &[u8]) -> Result<StoredTable<'_>, Fault>
+    ensures { IfOk result (λ table. FileHas stored.now (table_of table)) }
+{
+    match read_table(alloc, stored) {
+        Ok(table) => Ok(table),
+        Err(StoredFault::NoMemory) => Err(Fault::NoMemory),
+        Err(_) => Err(Fault::refused("state", String::from_str(alloc, "1 Form"))),
+    }
+}
+
+/// Returns whether the payload has these sources. If memory runs out, it is taken for another one.
+fn is_same(alloc: Global, new: &Sources, payload: &[u8]) -> bool
+    ensures { IsTrue result
+        → (bundle : Bundle) × IsBundle payload.now bundle × (bundle.sources ≡ new.now) }
+{
+    let Ok(bundle) = read_bundle(alloc, payload) else {
+        return false;
+    };
+    match (
+        write_bundle(alloc, &bundle.sources, &[]),
+        write_bundle(alloc, new, &[]),
+    ) {
+        (Ok(old), Ok(new)) => old.as_slice() == new.as_slice(),
+        _ => false,
+    }
+}
+
+/// Returns what becomes of the table of these files by this decision.
+fn taking_of(
+    alloc: Global,
+    files: &UpdateFiles,
+    is_meant: bool,
+    run: UpdateRun,
+) -> Result<Taking, Fault>
+    ensures { IfOk result (λ taking. Decides is_meant (λ r. r ≡ run) files.now taking) }
+{
+    match run {
+        UpdateRun::Refused(outcome) => Ok(Taking::Refused(outcome)),
+        UpdateRun::Meant { stored } => {
+            let file = file_of(alloc, files, &stored)?;
+            Ok(Taking::Meant { file })
+        }
+        UpdateRun::Replaced {
+            stored,
+            certificate,
+        } => {
+            let file = file_of(alloc, files, &stored)?;
+            if is_meant {
+                return Ok(Taking::Meant { file });
+            }
+            let load = load_of(alloc, files, &certificate)?;
+            Ok(Taking::Follows { file, load })
+        }
+    }
+}
+
+/// Returns what a client sends to have a running service load the table of these files with this
+/// certificate, if there is one.
+fn load_of(
+    alloc: Global,
+    files: &UpdateFiles,
+    certificate: &Option<String>,
+) -> Result<Option<ClientRequests>, Fault>
+    ensures { IfOk result
+        (λ load. IsLoad files.now (option_map string_bytes certificate.now) load) }
+{
+    match certificate {
+        Some(certificate) => {
+            let load = load_requests(alloc, &files.new, certificate.as_bytes())?;
+            Ok(Some(load))
+        }
+        None => Ok(None),
+    }
+}
+
+/// Returns the file of the table with this payload.
+fn file_of(alloc: Global, files: &UpdateFiles, payload: &[u8]) -> Result<Vec<u8>, Fault>
+    ensures { IfOk result (λ file. IsFile files.now.repertoire.items payload.now file.items) }
+{
+    match write_table(alloc, Rule::Longest, &files.repertoire, payload) {
+        Ok(file) => Ok(file),
+        Err(StoredFault::NoMemory) => Err(Fault::NoMemory),
+        Err(fault) => Err(Fault::refused("state", format!(in alloc; "{fault}"))),
+    }
+}
+
+/// Stores the table while no service runs, if it follows or is meant. Returns what is printed, or
+/// the reason if it can't be stored.
+/// Errors: `AllocError` if memory runs out.
+pub fn take_alone<F: TableFolder>(
+    alloc: Global,
+    folder: &mut F,
+    taking: Taking,
+) -> Result<Result<Outcome, ErrorKind>, AllocError>
+    ensures { TakesHere taking (F.stored folder.old) (F.stored folder.new) result }
+{
+    match taking {
+        Taking::Refused(outcome) => Ok(Ok(outcome)),
+        Taking::Same => same(alloc),
+        Taking::Follows { file, load: _ } => store(alloc, folder, &file, ""),
+        Taking::Meant { file } => store(alloc, folder, &file, MEANT),
+    }
+}
+
+/// Returns what is printed if the table is in use already.
+fn same(alloc: Global) -> Result<Result<Outcome, ErrorKind>, AllocError>
+    ensures { OnOkOk result (λ outcome. PrintsNoted [] words.unchanged outcome) }
+{
+    match printed(alloc, "unchanged\n", "") {
+        Ok(outcome) => Ok(Ok(outcome)),
+        Err(error) => Err(error),
+    }
+}
+
+/// Stores a file, and returns what is printed, with this note.
+fn store<F: TableFolder>(
+    alloc: Global,
+    folder: &mut F,
+    file: &[u8],
+    note: &str,
+) -> Result<Result<Outcome, ErrorKind>, AllocError>
+    ensures { Stores note.now file.now (F.stored folder.old) (F.stored folder.new) result }
+{
+    match printed(alloc, "stored\n", note) {
+        Ok(outcome) => match folder.replace(alloc, file) {
+            Ok(()) => Ok(Ok(outcome)),
+            Err(why) => Ok(Err(why)),
+        },
+        Err(error) => Err(error),
+    }
+}
+
+/// Returns the outcome that prints this line, after this note.
+fn printed(alloc: Global, line: &str, note: &str) -> Result<Outcome, AllocError>
+    ensures { IfOk result (λ outcome. PrintsNoted note.now line.now outcome) }
+{
+    let line = String::from_str(alloc, line)?;
+    let note = String::from_str(alloc, note)?;
+    Ok(Outcome::of_output(alloc, line, Ended::Yes).with_notes(note))
+}
+
+/// Has the running service take the table: one that follows is loaded, and one that is meant is
+/// handed over. Returns what is printed, or the reason if it can't be handed over.
+/// Errors: what the service gives if the load can't be sent or its reply is malformed; `NoMemory` if
+/// memory runs out.
+pub fn take_running<P: Peer, H: HandOver>(
+    alloc: Global,
+    service: &mut P,
+    folder: &mut H,
+    taking: Taking,
+) -> Result<Result<Outcome, ErrorKind>, Fault>
+    ensures { OnOkOk result
+        (λ outcome. TakesRunning taking (P.turns service.old) (P.turns service.new)
+        (H.handed folder.old) (H.handed folder.new) outcome) }
+{
+    match taking {
+        Taking::Refused(outcome) => Ok(Ok(outcome)),
+        Taking::Same => Ok(same(alloc)?),
+        Taking::Follows { file, load } => match load {
+            Some(load) => Ok(Ok(load_running(alloc, service, load)?)),
+            None => Ok(handed_over(alloc, folder, &file)?),
+        },
+        Taking::Meant { file } => Ok(handed_over(alloc, folder, &file)?),
+    }
+}
+
+/// Has the running service load a table. Returns what is printed.
+fn load_running<P: Peer>(
+    alloc: Global,
+    service: &mut P,
+    load: ClientRequests,
+) -> Result<Outcome, Fault>
+    ensures { IfOk result
+        (λ outcome. IsLoaded load (P.turns service.old) (P.turns service.new) outcome) }
+{
+    let outcome = run_exchange(alloc, service, load)?;
+    match outcome.ended {
+        Ended::Yes => {
+            let stored = printed(alloc, "stored\n", "")?;
+            Ok(outcome.followed_by(&stored)?)
+        }
+        _ => Ok(outcome),
+    }
+}
+
+/// Hands a table over to the running service. Returns what is printed, or why it can't be written.
+fn handed_over<H: HandOver>(
+    alloc: Global,
+    folder: &mut H,
+    file: &[u8],
+) -> Result<Result<Outcome, ErrorKind>, AllocError>
+    ensures handed { H.handed folder.new ≡ more (H.handed folder.old) file.now }
+    ensures prints { OnOkOk result (λ outcome. IsHandedOver outcome) }
+{
+    match folder.hand_over(alloc, file) {
+        Handed::Taken => taken(alloc),
+        Handed::Waits => waits(alloc),
+        Handed::Unwritten(why) => Ok(Err(why)),
+    }
+}
+
+/// Returns what is printed if the service has taken a table.
+fn taken(alloc: Global) -> Result<Result<Outcome, ErrorKind>, AllocError>
+    ensures { OnOkOk result (λ outcome. IsHandedOver outcome) }
+{
+    match printed(alloc, "stored\n", TAKEN) {
+        Ok(outcome) => Ok(Ok(outcome)),
+        Err(error) => Err(error),
+    }
+}
+
+/// Returns what is printed if the service has not taken a table in time.
+fn waits(alloc: Global) -> Result<Result<Outcome, ErrorKind>, AllocError>
+    ensures { OnOkOk result (λ outcome. IsHandedOver outcome) }
+{
+    match String::from_str(alloc, WAITING) {
+        Ok(line) => Ok(Ok(Outcome::of_errors(alloc, line, Ended::Refused))),
+        Err(error) => Err(error),
+    }
+}

@@ -1,0 +1,4 @@
+pub mod Scans
+pub mod Lists
+pub mod Escapes
+pub mod Right

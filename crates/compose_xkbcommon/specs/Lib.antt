@@ -1,0 +1,4 @@
+pub mod Grammar
+pub mod Text
+pub mod Scanned
+pub mod Right
