@@ -5,12 +5,14 @@ import subprocess
 import sys
 
 TOP = os.path.dirname(os.path.dirname(os.path.abspath(__file__)))
-# The library of clients, on which the engines stand, also in a copy of the tree; that of tables, by which they list what can follow; and the proved
-# static libraries that they are built of.
-PROVED_CLIENT = os.path.join("crates", "compose_typing_c", "out", "libcompose_typing_c.a")
-PROVED = os.path.join("crates", "compose_c", "out", "libcompose_c.a")
-CLIENT_LIBRARY = os.path.join(TOP, "build", "lib", "libcomposecheck-client.so.0")
-LIBRARY = os.path.join(TOP, "build", "lib", "libcomposecheck.so.1")
+# The library of clients, on which the engines stand, also in a copy of the tree; that of tables, by which they list what can follow; and the static
+# libraries that they are built of: proved ones, or in the folder $COMPOSECHECK_STATIC ones that are built without a proof.
+STATIC = os.environ.get("COMPOSECHECK_STATIC")
+PROVED_CLIENT = os.path.join(STATIC or os.path.join("crates", "compose_typing_c", "out"), "libcompose_typing_c.a")
+PROVED = os.path.join(STATIC or os.path.join("crates", "compose_c", "out"), "libcompose_c.a")
+BUILT = os.environ.get("COMPOSECHECK_BUILT") or os.path.join(TOP, "build", "lib")
+CLIENT_LIBRARY = os.path.join(BUILT, "libcomposecheck-client.so.0")
+LIBRARY = os.path.join(BUILT, "libcomposecheck.so.1")
 os.environ.setdefault("COMPOSECHECK_CLIENT_LIBRARY", CLIENT_LIBRARY)
 COUNTS = re.compile(r"(\d+) passed, (\d+) failed(?:; .*)?\n?")
 
@@ -44,12 +46,12 @@ def write(folder, files):
 
 
 def build_libraries():
-    """Builds the library of clients from the proved static library, which is proved and built first if it isn't there; and that of tables, if its own
+    """Builds the library of clients from the static library, which is proved and built first if it isn't there; and that of tables, if its own
     one is there."""
-    if not os.path.exists(os.path.join(TOP, PROVED_CLIENT)):
+    if not STATIC and not os.path.exists(os.path.join(TOP, PROVED_CLIENT)):
         subprocess.run([sys.executable, os.path.join("tools", "build.py"), "compose_typing_c"], cwd=TOP, check=True, stdout=sys.stderr)
     which = [] if os.path.exists(os.path.join(TOP, PROVED)) else ["--client"]
-    subprocess.run([sys.executable, os.path.join("lib", "build_library.py"), *which, os.path.dirname(CLIENT_LIBRARY)], cwd=TOP, check=True)
+    subprocess.run([sys.executable, os.path.join("lib", "build_library.py"), *which, BUILT], cwd=TOP, check=True)
 
 
 def follow(command, is_quiet=False):

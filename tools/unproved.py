@@ -1,5 +1,6 @@
 #!/usr/bin/env python3
-"""unproved.py FILE [PROGRAM]: builds the program (`composecheck`, if none is given) as FILE, without a proof of anything.
+"""unproved.py FILE [PROGRAM]: builds the program (`composecheck`, if none is given) as FILE, without a proof of anything; or the static library
+of `compose_c` or `compose_typing_c`, which lib/build_library.py takes from the folder $COMPOSECHECK_STATIC.
 
 The kit's `rt try` does it, from the sources of all crates below the program. What it builds stops at an index out of bounds, an overflow or
 a bad access, and says where. It serves for trying a change, and for all tests that need no proof (`make quick`); whether the change is right
@@ -14,6 +15,8 @@ import sys
 import tempfile
 import time
 
+import unproved_library
+
 TOP = os.path.dirname(os.path.dirname(os.path.abspath(__file__)))
 # How each program reads a file, so that it waits for one that is a FIFO.
 READING = {
@@ -21,6 +24,7 @@ READING = {
     "composecheck_list": ["type", "FIFO", "a"],
     "compose_trials": ["bench", "names", "FIFO"],
 }
+LIBRARIES = {"compose_c", "compose_typing_c"}
 SECONDS = 900
 
 
@@ -64,7 +68,8 @@ def main():
         print(__doc__)
         return 2
     file, *programs = sys.argv[1:]
-    return 0 if build(programs[0] if programs else "composecheck", file) else 1
+    name = programs[0] if programs else "composecheck"
+    return 0 if (unproved_library.build if name in LIBRARIES else build)(name, file) else 1
 
 
 if __name__ == "__main__":
