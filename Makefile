@@ -1,6 +1,6 @@
 # make                proves and builds ./composecheck
 # make help           prints these lines
-# make quick          all tests that need no proof, on programs that are built without one: some minutes
+# make quick          all tests that need no proof, on programs and libraries that are built without one: some minutes
 # make test           the gate: proves what has changed since earlier runs on this machine, and runs all tests but `make real`
 # make test-anew      the gate from nothing
 # make test-whole     the gate with each must-fail edit in a check of its own, as the kit's `rt ci` tries them: for a release
@@ -20,6 +20,7 @@
 # make lib-client     the library of clients alone, which the engines of IBus and fcitx5 stand on
 # make install-lib    installs the C libraries alone, below PREFIX
 # make install-client installs the library of clients alone, likewise
+# make rim            tries wrong bodies of the C of the libraries and the C++ of the engines on their tests: a quarter of an hour
 # make peers          runs libxkbcommon's own test of Compose, from Debian's source package, on the C library
 # make clean          removes what was built, proved and packed here
 PREFIX = /usr/local
@@ -60,14 +61,22 @@ lib: $(LIBRARY) $(CLIENT_LIBRARY)
 lib-client: $(CLIENT_LIBRARY)
 	python3 lib/build_library.py --client build/lib
 
+# (programs find a new library once ldconfig has seen it, which looks in some folders alone)
+SEEN = $(if $(DESTDIR),,export PATH="$$PATH:/usr/sbin:/sbin"; ldconfig 2> /dev/null; ldconfig -p 2> /dev/null | grep -q " $(PREFIX)/lib/libcomposecheck" || echo "Programs don't find the libraries in $(PREFIX)/lib yet: run ldconfig as root, or set LD_LIBRARY_PATH if it doesn't look there.")
+
 install-lib: $(LIBRARY) $(CLIENT_LIBRARY)
 	python3 lib/install_library.py $(DESTDIR)$(PREFIX) $(PREFIX)
+	@$(SEEN)
 
 install-client: $(CLIENT_LIBRARY)
 	python3 lib/install_library.py --client $(DESTDIR)$(PREFIX) $(PREFIX)
+	@$(SEEN)
 
 peers: $(LIBRARY)
 	python3 tests/peers.py
+
+rim: composecheck $(LIBRARY) $(CLIENT_LIBRARY)
+	python3 tests/rim_bugs.py ./composecheck
 
 quick:
 	$(NEEDS_KIT)
@@ -87,6 +96,7 @@ test-whole:
 
 # Where $(PYTHON) looks for modules below PREFIX, if it does.
 MODULES = $(shell $(PYTHON) -c 'import site, sys; print(next((it for it in site.getsitepackages() if it.startswith(sys.argv[1])), ""))' $(PREFIX)/lib/ 2> /dev/null)
+MODULE_FILES = $(addprefix share/composecheck/,composecheck.py composecheck_client.py composecheck_typing.py)
 IBUS_ID = org.freedesktop.ibus.engine.composecheck
 UNITS = composecheck.service composecheck.socket composecheck-update@.path composecheck-update@.service composecheck-update@.timer
 
@@ -106,7 +116,7 @@ install: composecheck install-lib $(if $(IBUS_LACKS),without-ibus,install-ibus)
 	install -D -m 644 share/completions/composecheck.bash $(DESTDIR)$(PREFIX)/share/bash-completion/completions/composecheck
 	install -D -m 644 share/completions/_composecheck $(DESTDIR)$(PREFIX)/share/zsh/site-functions/_composecheck
 	install -D -m 644 share/completions/composecheck.fish $(DESTDIR)$(PREFIX)/share/fish/vendor_completions.d/composecheck.fish
-	$(if $(MODULES),install -D -m 644 -t $(DESTDIR)$(MODULES) share/composecheck/composecheck_client.py share/composecheck/composecheck_typing.py)
+	$(if $(MODULES),install -D -m 644 -t $(DESTDIR)$(MODULES) $(MODULE_FILES))
 
 without-ibus:
 	@echo "The engine of IBus is left out, for lack of $(strip $(IBUS_LACKS)). With that, \`make install-ibus\` adds it."
@@ -123,7 +133,7 @@ uninstall:
 	rm -f $(DESTDIR)$(PREFIX)/libexec/ibus-engine-composecheck $(DESTDIR)$(PREFIX)/libexec/ibus-setup-composecheck
 	rm -f $(DESTDIR)$(PREFIX)/share/ibus/component/composecheck.xml $(DESTDIR)$(PREFIX)/share/icons/hicolor/scalable/apps/ibus-composecheck.svg
 	rm -f $(DESTDIR)$(PREFIX)/share/glib-2.0/schemas/$(IBUS_ID).gschema.xml $(DESTDIR)$(PREFIX)/share/metainfo/$(IBUS_ID).metainfo.xml
-	$(if $(MODULES),rm -f $(DESTDIR)$(MODULES)/composecheck_client.py $(DESTDIR)$(MODULES)/composecheck_typing.py)
+	$(if $(MODULES),rm -f $(addprefix $(DESTDIR)$(MODULES)/,$(notdir $(MODULE_FILES))))
 	rm -f $(DESTDIR)$(PREFIX)/bin/composecheck $(DESTDIR)$(PREFIX)/share/man/man1/composecheck.1 $(DESTDIR)$(PREFIX)/share/man/man5/composecheck.5
 	rm -f $(addprefix $(DESTDIR)$(PREFIX)/lib/systemd/user/,$(UNITS))
 	rm -f $(DESTDIR)$(PREFIX)/lib/libcomposecheck.a $(DESTDIR)$(PREFIX)/lib/libcomposecheck.so $(DESTDIR)$(PREFIX)/lib/libcomposecheck.so.1
@@ -163,6 +173,7 @@ real: composecheck compose_trials $(LIBRARY)
 	python3 tests/streams.py ./composecheck 100000
 	python3 tests/network.py ./compose_trials 100000
 	python3 tests/library.py 100000
+	python3 tests/shim.py 3000
 
 bench: composecheck compose_trials $(LIBRARY)
 	python3 bench/run.py ./composecheck ./compose_trials
@@ -177,4 +188,4 @@ bench: composecheck compose_trials $(LIBRARY)
 clean:
 	rm -rf composecheck compose_trials packages build crates/*/out
 
-.PHONY: all help lib lib-client install-lib install-client install-ibus install-fcitx5 peers quick test test-anew test-whole install uninstall dist deb test-packages desk names real bench clean
+.PHONY: all help lib lib-client install-lib install-client install-ibus install-fcitx5 peers rim quick test test-anew test-whole install uninstall dist deb test-packages desk names real bench clean

@@ -2,8 +2,8 @@
  *
  * A table is five arrays in the caller's memory, which composecheck_compile fills and nothing changes after; a state is a struct of
  * numbers in the caller's memory, and zeros are a state at rest. The library keeps nothing between two calls: what it allocates it
- * frees before it returns. The one exception is composecheck_table_new and composecheck_table_load, which give back a block of malloc
- * that composecheck_table_free frees.
+ * frees before it returns. The exceptions are the calls that return a struct composecheck_table, one block of malloc that
+ * composecheck_table_free frees, and composecheck_files_find.
  *
  * The functions of the first part are proved: their contracts stand in crates/compose_c/src/lib.rt, and docs/LIBRARY.md says them in
  * words. Those of the second part are C over them, and tested.
@@ -285,6 +285,25 @@ uint8_t *composecheck_files_source(const struct composecheck_files *files, size_
 
 /* The line of composecheck_table_from_file for a fault of these files; gives the whole length, as snprintf does. MALLOC */
 size_t composecheck_files_explain(const struct composecheck_files *files, bool longest, const struct composecheck_fault *fault, char *text, size_t room);
+
+/* How the table of a locale is read. Zeros are the defaults. */
+struct composecheck_options {
+    const char *system; /* the folder of the system's tables, for %S and the tables of locales; null: $XLOCALEDIR, or /usr/share/X11/locale */
+    bool is_strict;     /* a faulty line refuses the table; else up to ten of them are left out, as by libxkbcommon */
+    void *context;      /* what the report is given */
+    void *reserved[5];
+};
+
+/* Why a line is left out, or there is no table: the fault, and a line `FILE:LINE:COLUMN: SENTENCE` with an end mark, which lasts until the report
+ * returns. */
+struct composecheck_message { const char *text; struct composecheck_fault fault; bool is_left_out; };
+typedef void composecheck_report(void *context, const struct composecheck_message *message);
+
+/* Reads the table of the user, with every file that it includes, by stdio: of the first of these files that can be read, as in libxkbcommon:
+ * $XCOMPOSEFILE; XCompose in $XDG_CONFIG_HOME if that is an absolute path, else in $HOME/.config; $HOME/.XCompose; the file of the locale. The longest
+ * of overlapping sequences count. locale: null for that of the environment ($LC_ALL, $LC_CTYPE or $LANG); C stands for en_US.UTF-8. Null if there is
+ * no table, and the last message says why. options and report may be null. A program with more rights than its user reads no variable. MALLOC */
+struct composecheck_table *composecheck_table_from_locale(const char *locale, const struct composecheck_options *options, composecheck_report *report);
 
 /* The text of a key that is part of no sequence, by the names that are built in, in UTF-8 with an end mark; returns its length, 0 if the
  * key has none or memory is wanting. For several keys composecheck_characters is faster. MALLOC */

@@ -30,7 +30,7 @@ WITH_LIMITS = ["README.md", "docs/FORMATS.md", "docs/GUIDE.md", "docs/PROTOCOL.m
 FOREIGN = re.compile(r"\b(?:rt|systemctl|dpkg-deb|taskset|valgrind|perf|python3|git|sed|cc) [^`\n]*")
 FILE = re.compile(r"(?<![\w./$~%-])(?:[\w-]+/)*[\w-]+\.(?:py|sh|md|rt|antt|txt|service|socket|case|edit|c|h)\b(?!\()")
 # Files that are not of the repository, and names that stand for any.
-OTHER_FILES = {"SHORTER_PROOFS.md", "keysymdef.h", "XF86keysym.h", "report.md", "files.py", "first.c", "stdio.h", "string.h"}
+OTHER_FILES = {"SHORTER_PROOFS.md", "keysymdef.h", "XF86keysym.h", "report.md", "files.py", "first.c", "report.c", "stdio.h", "string.h"}
 FOLDERS = ["", "docs/", "share/composecheck/", "tests/", "tools/", "bench/", "packaging/", "lib/", "crates/*/"]
 # Paths in which a word in capitals stands for any, and the file that the worked change of CONTRIBUTING doesn't need.
 PLACEHOLDER = re.compile(r"(?:^|/)(?:NAME|FILE|WHAT_IS_WRONG)\b|is_unsafe")

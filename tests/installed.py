@@ -61,6 +61,8 @@ def check_install(program, folder, results):
         print(made.stdout, end="")
     got = run(interpreter, "-c", IMPORTED)
     results.expect("the client is imported from the prefix", (got.stdout.startswith(f"{place}/lib/"), got.stderr), (True, ""))
+    got = run(interpreter, "-c", "import importlib.util; print(importlib.util.find_spec('composecheck').origin)")
+    results.expect("the library's module is where Python looks", (got.stdout.startswith(f"{place}/lib/"), got.stderr), (True, ""))
     shared = os.path.join(place, "share", "composecheck")
     results.expect("the client is imported from its documented place", python(IMPORTED, shared).stdout, f"{shared}/composecheck_client.py\n")
     snippets = [sorted(os.listdir(os.path.join(it, "ci"))) for it in (shared, os.path.join(TOP, "share", "composecheck"))]

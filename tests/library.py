@@ -1,10 +1,12 @@
 #!/usr/bin/env python3
 """library.py: tests the C library: builds it of the proved static library, runs its examples and what docs/LIBRARY.md pastes, types random keys
-on random tables beside a second reading of them, and, where libxkbcommon.so.0 is there, on a table of the system beside that; threads; states,
-arrays, rooms and lines of any numbers, the C of it compiled with -fsanitize=address,undefined.
+on random tables beside a second reading of them, and, where libxkbcommon.so.0 is there, on a table of the system beside that; the user's table;
+threads; states, arrays, rooms and lines of any numbers, clauses of the headers, and each allocation refused, the C of it compiled with
+-fsanitize=address,undefined, and under valgrind where that is there.
 
   library.py          20,000 keys on the table of en_US.UTF-8: for the gate; it takes seconds, once crates/compose_c is proved
   library.py COUNT    COUNT keys on each table of the system in UTF-8: for `make real`
+  library.py PART..   only these of its parts, which are functions below, or the programs of tests/library
 
 The last line is `N passed, M failed`."""
 import ctypes
@@ -160,7 +162,13 @@ def loads(results, library):
     results.expect(fault and (fault.part, fault.code, fault.line) == (8, 1, 6), "a certificate that is cut is refused")
     fault, _ = refusal(lambda: old.load(good, CERTIFICATE, "nothing"))
     results.expect(fault and (fault.part, fault.code, fault.line) == (7, 1, 1), "a repertoire of another form is refused")
+    for what, certificate, part in (("another certificate's bundle", CERTIFICATE, 9), ("a bundle without a certificate", "", 8)):
+        bundle = library.find("/r", look=looking({"/r": bad["r"]}, []), certificate=certificate)
+        fault, _ = refusal(lambda: library.Table({}, repertoire="", bundle=bundle, in_use=old))
+        results.expect(fault and fault.part == part, f"{what} is refused")
     results.expect(refusal(lambda: old.check(loaded, CERTIFICATE, ""))[0] is None, "a valid certificate")
+    fault, _ = refusal(lambda: old.check(loaded, CERTIFICATE, "U+00E9\n"))
+    results.expect(fault and (fault.part, fault.value) == (9, 0xE9), "a certificate without a typing of the repertoire's character")
     fault, _ = refusal(lambda: old.check(library.Table(bad), CERTIFICATE, ""))
     results.expect(fault and fault.part == 9, "a certificate for another table")
 
@@ -284,6 +292,62 @@ def searches(results, library):
     results.expect(library.locale_file("l", "/f", f"{long}: l\n", "") == f"/f/{long}", "a long path of a locale's table")
 
 
+# ---- the user's table
+
+
+VARIABLES = ("XCOMPOSEFILE", "XDG_CONFIG_HOME", "HOME", "XLOCALEDIR", "LC_ALL", "LC_CTYPE", "LANG")
+
+
+def user_tables(results, library):
+    """Which file is the user's, what is left out of it, and what is reported."""
+    kept = {it: os.environ.pop(it) for it in VARIABLES if it in os.environ}
+    with tempfile.TemporaryDirectory(prefix="library-") as room:
+        def write(name, text):
+            os.makedirs(os.path.dirname(f"{room}/{name}"), exist_ok=True)
+            with open(f"{room}/{name}", "wb") as file:
+                file.write(text.encode())
+
+        def typed(locale=None, **options):
+            reports = []
+            try:
+                table = library.Table.from_locale(locale, lambda fault, said: reports.append((fault.part, fault.line, said.replace(room, ""))), system, **options)
+            except library.Refused as refused:
+                return (refused.fault.part, refused.fault.code, str(refused).replace(room, "")), reports
+            return library.State().feed(table, 0x61), reports
+
+        system = f"{room}/system"
+        write("system/compose.dir", "en/Compose: en_US.UTF-8\nde/Compose: de_DE.UTF-8\nnone/Compose: fr\n")
+        write("system/locale.alias", "german: de_DE.UTF-8\n")
+        write("system/en/Compose", '<a> : "en"\n')
+        write("system/de/Compose", '<a> : "de"\n')
+        for locale, wanted in (("en_US.UTF-8", "en"), ("C", "en"), (None, "en"), ("german", "de")):
+            results.expect(typed(locale) == (wanted, []), f"the table of the locale {locale}: {typed(locale)}")
+        for locale in ("xx", "fr", "POSIX"):
+            results.expect(typed(locale) == ((10, 2, f"there is no Compose file for the locale {locale}"), []), f"no table for {locale}: {typed(locale)}")
+        for name, locale, wanted in (("LANG", "de_DE.UTF-8", "de"), ("LC_CTYPE", "en_US.UTF-8", "en"), ("LC_ALL", "german", "de"), ("LC_ALL", "", "en")):
+            os.environ[name] = locale
+            results.expect(typed() == (wanted, []), f"the locale by {name}={locale}: {typed()}")
+        os.environ.update(HOME=f"{room}/home", XLOCALEDIR="/nowhere")
+        write("home/.XCompose", 'include "%L"\n<b> : "b"\n')
+        results.expect(typed("german") == ("de", []), f"a file of the user that includes the locale's: {typed('german')}")
+        write("home/.config/XCompose", '<a> : "x"\n<nosuch> : "y"\n <b : "z"\n<a> : "of config"\n')
+        reported = [(3, 2, '/home/.config/XCompose:2:1: no keysym has the name "nosuch"'), (3, 3, '/home/.config/XCompose:3:5: expected ">", found ":"')]
+        results.expect(typed() == ("of config", reported), f"faulty lines are left out and reported: {typed()}")
+        results.expect(typed(strict=True) == ((3, 4, reported[0][2]), []), f"a strict table is refused: {typed(strict=True)}")
+        os.environ["XCOMPOSEFILE"] = room
+        results.expect(typed()[0] == "of config", f"a folder is no file: {typed()}")
+        write("given", "<nosuch> : x\n" * 10 + '<a> : "given"\n')
+        os.environ["XCOMPOSEFILE"] = f"{room}/given"
+        results.expect((typed()[0], len(typed()[1])) == ("given", 10), f"ten faulty lines are left out: {typed()}")
+        write("given", "<nosuch> : x\n" * 11)
+        results.expect(typed()[0] == (3, 4, '/given:11:1: no keysym has the name "nosuch"'), f"the eleventh refuses the table: {typed()}")
+        write("given", 'include "%H/none"\n')
+        results.expect(typed() == ((10, 3, "/given:1:9: the file of the include isn't there"), []), f"no file of an include: {typed()}")
+    for it in VARIABLES:
+        os.environ.pop(it, None)
+    os.environ.update(kept)
+
+
 # ---- beside libxkbcommon
 
 
@@ -372,20 +436,68 @@ def compiled(folder, source, *words):
     return target
 
 
+CHECKED = ["-g", "-O1", "-fsanitize=address,undefined", "-fno-sanitize-recover=all"]
+WRAPPED = [f"-Wl,--wrap={it}" for it in ("malloc", "calloc", "realloc", "free")]
+
+
+def ran_well(results, what, *command):
+    ran = subprocess.run(command, stdout=subprocess.PIPE, stderr=subprocess.STDOUT, text=True, errors="replace", timeout=120)
+    results.expect(ran.returncode == 0, f"{what}: {ran.stdout}")
+    return ran.stdout
+
+
 def c_programs(results, folder):
-    checked = ["-g", "-O1", "-fsanitize=address,undefined", "-fno-sanitize-recover=all"]
-    build_library.build(f"{folder}/checked", checked)
-    os.mkdir(f"{folder}/files")
-    for name in ("hostile", "threads"):
-        program = compiled(folder, f"{TOP}/tests/library/{name}.c", *checked, f"{folder}/checked/libcomposecheck.a", "-lpthread")
-        ran = subprocess.run([program, f"{folder}/files"], stdout=subprocess.PIPE, stderr=subprocess.STDOUT, text=True, timeout=300)
-        results.expect(ran.returncode == 0, f"{name}: {ran.stdout}")
+    """Programs in C, with the C of the library and of the shim compiled to find what is read or written outside; two of them under valgrind too."""
+    names = [it for it in ("hostile", "threads", "clauses", "memory", "shim") if is_chosen(it)]
+    if names:
+        build_library.build(f"{folder}/checked", CHECKED)
+        os.mkdir(f"{folder}/files")
+    if "shim" in names and not has_shim_header(folder):
+        print("library.py: without libxkbcommon-dev the calls of the shim are not tried")
+        names.remove("shim")
+    for name in names:
+        words = {"memory": ["-D_GNU_SOURCE", *WRAPPED], "shim": [f"{folder}/checked/xkb_shim.o"]}.get(name, [])
+        program = compiled(folder, f"{TOP}/tests/library/{name}.c", *CHECKED, *words, f"{folder}/checked/libcomposecheck.a", "-lpthread")
+        ran_well(results, name, program, f"{folder}/files")
+    if not shutil.which("valgrind"):
+        print("library.py: without valgrind nothing is run under it")
+        return
+    for name in set(names) & {"clauses", "shim"} if is_chosen("valgrind") else ():
+        words = [f"{folder}/plain/xkb_shim.o"] if name == "shim" else []
+        program = compiled(f"{folder}/plain", f"{TOP}/tests/library/{name}.c", "-g", *words, f"{folder}/plain/libcomposecheck.a")
+        ran_well(results, f"{name} under valgrind", "valgrind", "--quiet", "--leak-check=full", "--error-exitcode=9", program, f"{folder}/files")
+
+
+def has_shim_header(folder):
+    """Whether the header of libxkbcommon's calls is there."""
+    words = [build_library.compiler(), "-E", "-x", "c", "-", "-o", f"{folder}/header"]
+    return subprocess.run(words, input="#include <xkbcommon/xkbcommon-compose.h>\n", text=True, stderr=subprocess.DEVNULL).returncode == 0
+
+
+def secure(results, folder):
+    """A program with more rights than its user reads none of his variables. (Root can make one, in a folder where such programs may run.)"""
+    if os.geteuid() != 0 or not has_shim_header(folder) or os.statvfs(folder).f_flag & os.ST_NOSUID:
+        print("library.py: it isn't root here, or such programs don't run in the folder, or libxkbcommon-dev isn't there: programs with more rights are not tried")
+        return
+    program = compiled(folder, f"{TOP}/tests/library/secure.c", f"{folder}/plain/xkb_shim.o", f"{folder}/plain/libcomposecheck.a")
+    with open(f"{folder}/own", "w", encoding="utf-8") as file:
+        file.write('<Multi_key> <apostrophe> <e> : "own"\n')
+    env = {**os.environ, "XCOMPOSEFILE": f"{folder}/own", "HOME": folder}
+    os.chmod(folder, 0o755)
+    wanted = 'plain "own" "own"\n'
+    said = subprocess.run([program], env=env, stdout=subprocess.PIPE, text=True).stdout
+    results.expect(said == wanted, f"a program with its user's rights prints {said!r}")
+    os.chown(program, 65534, 65534)
+    os.chmod(program, 0o6755)
+    said = subprocess.run([program], env=env, stdout=subprocess.PIPE, text=True).stdout
+    typed = "é" if os.path.exists(f"{LOCALES}/en_US.UTF-8/Compose") else ""
+    results.expect(said == f'secure "{typed}" "{typed}"\n', f"a program with more rights prints {said!r}")
 
 
 def symbols(results, folder):
     """The shared libraries show their own names alone."""
     for name, prefix, count in (
-        ("libcomposecheck.so.1", "composecheck_", None), ("libcomposecheck-xkb.so", "xkb_compose_", 14), ("libcomposecheck-client.so.0", "composecheck_client_", 11),
+        ("libcomposecheck.so.1", "composecheck_", None), ("libcomposecheck-xkb.so", "xkb_compose_", 20), ("libcomposecheck-client.so.0", "composecheck_client_", 11),
     ):
         said = subprocess.run(["nm", "-D", "--defined-only", f"{folder}/{name}"], stdout=subprocess.PIPE, text=True, check=True).stdout
         found = [it.split()[-1].split("@")[0] for it in said.splitlines() if " A " not in it]
@@ -432,26 +544,38 @@ def documents(results, folder):
                 results.expect(ran.returncode == 0 and ran.stdout == wanted, f"docs/LIBRARY.md:\n{pasted}printed\n{ran.stdout}")
 
 
+PARTS = {it for it in sys.argv[1:] if not it.isdigit()}
+
+
+def is_chosen(part):
+    return not PARTS or part in PARTS
+
+
 def main():
     results = Results()
     count, locales = 20_000, ["en_US.UTF-8"]
-    if len(sys.argv) > 1:
+    if len(sys.argv) > 1 and not PARTS:
         count, locales = int(sys.argv[1]), sorted(it for it in os.listdir(LOCALES) if it.endswith(".UTF-8"))
     for proved in (build_library.PROVED, build_library.PROVED_CLIENT):
-        if not os.path.exists(proved):
+        if not os.path.exists(proved) and "COMPOSECHECK_STATIC" not in os.environ:
             subprocess.run(["make", "-s", os.path.relpath(proved, TOP)], cwd=TOP, check=True, stdout=sys.stderr)
     with tempfile.TemporaryDirectory(prefix="library-") as folder:
         subprocess.run([sys.executable, f"{TOP}/lib/install_library.py", folder, folder], check=True)
         os.environ["COMPOSECHECK_LIBRARY"] = f"{folder}/lib/libcomposecheck.so.1"
         import composecheck as library
 
-        for test in (refusals, loads, result_keysyms, key_texts, searches, random_keys):
-            test(results, library)
-        beside(results, folder, count, locales)
-        symbols(results, f"{folder}/lib")
-        documents(results, folder)
-        packages(results, folder)
-        c_programs(results, folder)
+        if is_chosen("secure") or is_chosen("valgrind"):
+            build_library.build(f"{folder}/plain")
+        for test in (refusals, loads, result_keysyms, key_texts, searches, user_tables, random_keys):
+            if is_chosen(test.__name__):
+                test(results, library)
+        if is_chosen("beside"):
+            beside(results, folder, count, locales)
+        for test in (documents, packages, c_programs, secure):
+            if is_chosen(test.__name__) or test is c_programs:
+                test(results, folder)
+        if is_chosen("symbols"):
+            symbols(results, f"{folder}/lib")
     print(f"{results.passed} passed, {results.failed} failed")
     return 1 if results.failed else 0
 

@@ -56,6 +56,17 @@ class Fault(ctypes.Structure):
     ] + [("reserved", ctypes.c_uint64 * 2)]  # fmt: skip
 
 
+class _Options(ctypes.Structure):
+    _fields_ = [("system", ctypes.c_char_p), ("is_strict", ctypes.c_bool), ("context", ctypes.c_void_p), ("reserved", ctypes.c_void_p * 5)]
+
+
+class _Message(ctypes.Structure):
+    _fields_ = [("text", ctypes.c_char_p), ("fault", Fault), ("is_left_out", ctypes.c_bool)]
+
+
+_Report = ctypes.CFUNCTYPE(None, ctypes.c_void_p, ctypes.POINTER(_Message))
+
+
 class Refused(Exception):
     """A table, or a certificate, is refused."""
 
@@ -72,6 +83,7 @@ def _load(path):
         ("table_new", table, (given, fault)),
         ("table_load", table, (table, given, fault)),
         ("table_free", None, (table,)),
+        ("table_from_locale", table, (ctypes.c_char_p, ctypes.POINTER(_Options), _Report)),
         ("table_explain", ctypes.c_size_t, (given, ctypes.c_char_p, ctypes.c_size_t)),
         ("table_check", ctypes.c_bool, (table, table, given, fault)),
         ("table_is_table", ctypes.c_uint32, (table,)),
@@ -93,9 +105,9 @@ def _load(path):
 
 
 def _path():
-    """Where the library is: below the prefix of this file, in its source tree, or where the system looks."""
+    """Where the library is: below the prefix of this file, which Python may have in lib/pythonN/, in its source tree, or where the system looks."""
     above = os.path.dirname(os.path.dirname(os.path.dirname(os.path.realpath(__file__))))
-    places = [os.path.join(above, *it, LIBRARY) for it in (("lib",), ("build", "lib"))]
+    places = [os.path.join(above, *it, LIBRARY) for it in ((), ("lib",), ("build", "lib"))]
     return os.environ.get("COMPOSECHECK_LIBRARY") or next(filter(os.path.exists, places), LIBRARY)
 
 
@@ -205,6 +217,27 @@ class Table:
     def from_file(cls, path, header=None, longest=True, **places):
         """Returns the table of the file at this path, with all files that it includes; `find` says what the places are."""
         return cls({}, header, longest, bundle=find(path, **places))
+
+    @classmethod
+    def from_locale(cls, locale=None, report=None, system=None, strict=False):
+        """Returns the table of the user, as composecheck_table_from_locale finds it; without a locale that of the environment.
+
+        Up to ten faulty lines are left out, unless `strict`: `report` is called for each, with its fault and a line FILE:LINE:COLUMN: SENTENCE."""
+        messages = []
+
+        def keep(_, message):
+            message = message.contents
+            messages.append((bool(message.is_left_out), Fault.from_buffer_copy(message.fault), message.text.decode(errors="replace")))
+
+        table = cls.__new__(cls)
+        options = _Options(_bytes(system), strict)
+        table._table = _library.composecheck_table_from_locale(_bytes(locale), options, _Report(keep))
+        for is_left_out, fault, said in messages:
+            if not is_left_out:
+                raise Refused(fault, said)
+            if report:
+                report(fault, said)
+        return table
 
     def __del__(self):
         if getattr(self, "_table", None):
