@@ -1,8 +1,9 @@
 #!/usr/bin/env python3
-"""engine.py PROGRAM: what the input methods do with keys, without a desktop: several requests in one write (composecheck_client.py), a session
+"""engine.py PROGRAM [CHECK..]: what the input methods do with keys, without a desktop: several requests in one write (composecheck_client.py), a session
 that survives a lost connection (composecheck_typing.py); and of the classes that the engines of IBus and fcitx5 share, compiled here where there is
 a compiler of C++ (engine/probe.cpp), what is taken, passed, committed, shown and logged, and what can follow, also on random keys beside second
-readings. PROGRAM serves. The last line is `N passed, M failed`."""
+readings. With names of checks only those are made. PROGRAM serves. The last line is `N passed, M failed`."""
+import concurrent.futures
 import contextlib
 import logging
 import os
@@ -16,6 +17,7 @@ import sys
 import tempfile
 import threading
 import time
+import unicodedata
 from typing import NamedTuple
 
 from harness import CLIENT_LIBRARY, LIBRARY, Results
@@ -23,7 +25,7 @@ from typing_service import TypingService
 
 TOP = os.path.dirname(os.path.dirname(os.path.abspath(__file__)))
 sys.path.insert(0, os.path.join(TOP, "share", "composecheck"))
-from composecheck_client import Client, Fed, NoSession, Request, SessionTaken, State, TimedOut, UnexpectedReply
+from composecheck_client import Client, Fed, Full, NoSession, Request, SessionTaken, State, TimedOut, UnexpectedReply
 from composecheck_typing import Service, Typed, Typing
 
 GRAVE, ACUTE, CARON, MULTI, BACKSPACE, ESCAPE, RETURN, SHIFT = 0xFE50, 0xFE51, 0xFE5A, 0xFF20, 0xFF08, 0xFF1B, 0xFF0D, 0xFFE1
@@ -45,6 +47,12 @@ class Answer(NamedTuple):
 
     taken: bool
     text: str = ""
+
+
+class Place(NamedTuple):
+    """Where something listens that is no service of these tests."""
+
+    socket: str
 
 
 class Row(NamedTuple):
@@ -281,19 +289,41 @@ def check_log(service, results):
 
 # ---- the classes in C++
 
-PROBE = os.path.join(TOP, "tests", "engine", "probe.cpp")
 SOURCES = [os.path.join(TOP, it) for it in ("typing/client.cpp", "typing/typing.cpp", "typing/keys.cpp", "typing/following.cpp", "ibus/journal.cpp")]
 
 
-def compiled(folder, results):
-    """The path of the probe, which looks for its libraries in its folder; or None where it isn't compiled."""
-    probe, places = os.path.join(folder, "probe"), [f"-I{TOP}/{it}" for it in ("lib", "typing", "ibus")]
+def sanitizers(folder):
+    """The flags that find what is read or written outside, or is not defined; none where the compiler has no library for them."""
+    words = ["-fsanitize=address,undefined", "-fno-sanitize-recover=all"]
+    made = subprocess.run(["c++", *words, "-x", "c++", "-", "-o", os.path.join(folder, "empty")], input="int main() {}", capture_output=True, text=True)
+    return [] if made.returncode else words
+
+
+def compiled(folder, results, name="probe", sources=(), flags=()):
+    """The path of a probe, which looks for its libraries in its folder; or None where it isn't compiled. What another one has too is compiled once."""
+    probe, checked = os.path.join(folder, name), sanitizers(folder)
     for it in (CLIENT_LIBRARY, LIBRARY):
-        os.symlink(it, os.path.join(folder, os.path.basename(it)))
-    words = ["c++", "-std=c++17", "-Wall", "-Wextra", "-Werror", *places, f"-Wl,-rpath,{folder}", "-o", probe, PROBE, *SOURCES, CLIENT_LIBRARY]
-    made = subprocess.run(words, capture_output=True, text=True)
-    results.expect("the classes in C++ are compiled", (made.returncode, made.stderr), (0, ""))
-    return None if made.returncode else probe
+        if not os.path.lexists(os.path.join(folder, os.path.basename(it))):
+            os.symlink(it, os.path.join(folder, os.path.basename(it)))
+    files = {os.path.join(folder, f"{os.path.basename(it)}.o"): it for it in (os.path.join(TOP, "tests", "engine", f"{name}.cpp"), *SOURCES, *sources)}
+    words = ["c++", "-std=c++17", "-g", "-Wall", "-Wextra", "-Werror", *checked, *(f"-I{TOP}/{it}" for it in ("lib", "typing", "ibus")), *(it for it in flags if it[:2] not in ("-l", "-L"))]
+    with concurrent.futures.ThreadPoolExecutor(os.cpu_count()) as pool:
+        made = [*pool.map(lambda it: run_quietly(*words, "-c", files[it], "-o", it), (it for it in files if not os.path.exists(it)))]
+    # (a library of the sanitizers that calls dlopen itself sees no RUNPATH, but the RPATH of the program)
+    if not any(status for status, _ in made):
+        made.append(run_quietly("c++", *checked, f"-Wl,--disable-new-dtags,-rpath,{folder}", "-o", probe, *files, CLIENT_LIBRARY, *flags))
+    results.expect(f"the classes in C++ are compiled ({name})", [it for it in made if it != (0, "")], [])
+    return probe if os.path.exists(probe) else None
+
+
+def run_quietly(*words):
+    """The status of a command, and what it prints on standard error."""
+    ran = subprocess.run(words, stdout=subprocess.DEVNULL, stderr=subprocess.PIPE, text=True)
+    return ran.returncode, ran.stderr
+
+
+# How the probes ended that didn't end well.
+ended = []
 
 
 class Probe:
@@ -309,9 +339,11 @@ class Probe:
     def __exit__(self, *_):
         self.process.stdin.close()
         self.process.stdout.close()
-        self.process.wait(60)
+        status = self.process.wait(60)
         self.errors.seek(0)
         self.said = self.errors.read()
+        if status:
+            ended.append((status, self.said))
         self.errors.close()
 
     def ask(self, *words):
@@ -324,10 +356,10 @@ def text_of(hexadecimal):
 
 
 class Keys(Probe):
-    """The keys of a place where somebody types."""
+    """The keys of a place where somebody types. Without a patience it is the engines' own."""
 
-    def __init__(self, probe, service, patience=AMPLE):
-        super().__init__(probe, "press", service.socket, str(int(patience * 1000)))
+    def __init__(self, probe, service, patience=AMPLE, what="press"):
+        super().__init__(probe, what, service.socket, *([str(int(patience * 1000))] if patience else []))
         self.shown = ""
 
     def press(self, keysym, settings=Settings(), is_text_field=True):
@@ -337,6 +369,9 @@ class Keys(Probe):
 
     def drop(self):
         self.press(0)
+
+    def close(self):
+        self.press(0xFFFFFFFF)
 
 
 class Listing(Probe):
@@ -379,6 +414,17 @@ def check_state_folder(probe, _, results):
         # (it ends without a look at standard input, which may then be written to no more)
         asked = subprocess.run([probe, "stored"], capture_output=True, text=True, env={**os.environ, **changes})
         results.expect(f"the stored table with {changes}", (asked.stdout, asked.stderr), (f"{wanted}\n", ""))
+
+
+def check_socket_path(probe, _, results):
+    """Where the service is looked for: as docs/PROTOCOL.md says; an empty variable is none."""
+    for changes, wanted in (
+        ({"COMPOSECHECK_SOCKET": "/a", "XDG_RUNTIME_DIR": "/r"}, "/a"), ({"COMPOSECHECK_SOCKET": "", "XDG_RUNTIME_DIR": "/r"}, "/r/composecheck.socket"),
+        ({"XDG_RUNTIME_DIR": "/r"}, "/r/composecheck.socket"), ({}, "/run/composecheck.socket"),
+    ):
+        env = {name: value for name, value in os.environ.items() if name not in ("COMPOSECHECK_SOCKET", "XDG_RUNTIME_DIR")}
+        asked = subprocess.run([probe, "socket"], capture_output=True, text=True, env={**env, **changes})
+        results.expect(f"the socket with {changes}", (asked.stdout, asked.stderr), (f"{wanted}\n", ""))
 
 
 # ---- keys
@@ -442,6 +488,95 @@ def check_patience(probe, service, results):
         results.expect("and wait once", time.monotonic() - began < 3 * PATIENCE, True)
         service.go_on()
     results.expect("that is logged once", (keys.said.count("no reply from "), keys.said.count("\n")), (1, 1))
+
+
+def check_own_patience(probe, service, results):
+    """The engines wait half a second for a key, and pass keys for two seconds then."""
+    service.start("old")
+    with Keys(probe, service, None) as keys:
+        keys.press(ACUTE)
+        service.stop()
+        began = time.monotonic()
+        keys.press(X)
+        waited = time.monotonic() - began
+        results.expect("a key waits half a second", 0.45 < waited < 3, True)
+        service.go_on()
+        results.expect("keys pass after it", keys.press(E), Answer(False))
+    results.expect("that is logged", keys.said, f"no reply from {service.socket}; keys pass for 2 s\n")
+
+
+def check_signals(probe, service, results):
+    """A signal while a reply is waited for loses nothing."""
+    service.start("old")
+    with Keys(probe, service, AMPLE, "signals") as keys:
+        for keysym, wanted in ((ACUTE, Answer(True)), (E, Answer(True, "é"))):
+            service.stop()
+            later = threading.Timer(0.3, service.go_on)
+            later.start()
+            results.expect("a key while signals come", keys.press(keysym), wanted)
+            later.join()
+    results.expect("and nothing is logged", keys.said, "")
+
+
+def check_close(probe, service, results):
+    """A place that is closed leaves its session to others, and so does one that ends. (A service has room for 4,096.)"""
+    service.start("old")
+    with Client(service.socket, timeout=30) as other:
+        other.exchange(Request.open(it) for it in range(4095))
+        with Keys(probe, service) as keys:
+            keys.press(ACUTE)
+            results.expect("all sessions are open", type(other.exchange([Request.open(4095)])[0]), Full)
+            keys.close()
+            results.expect("one is closed", other.exchange([Request.open(4095), Request.close(4095)]), [None, None])
+            results.expect("a key opens another one", keys.press(ACUTE), Answer(True))
+        results.expect("a place that has ended", other.exchange([Request.open(4095)]), [None])
+
+
+def replies(session, text):
+    """The replies to the first key of a session that is new on its connection: it composes the text."""
+    return [struct.pack(">BII", 0x81, session, 0), struct.pack(">BII", 0x83, session, 0) + struct.pack(">BIIBB", 0x82, session, 2 + len(text), 2, 1) + text
+            + struct.pack(">BIIBB", 0x86, session, 2, 2, 0)]
+
+
+def session_of(connection):
+    """The session that the next request on the connection opens."""
+    return struct.unpack(">xI", connection.recv(1000)[:5])[0]
+
+
+def answers_with_more(listener):
+    """Answers a key, and sends with that what would be the answer to a key on the next connection; refuses a second session; and has a next connection."""
+    listener.settimeout(AMPLE)
+    with contextlib.suppress(OSError, struct.error), listener.accept()[0] as connection:
+        opened, answered = replies(session_of(connection), b"one")
+        connection.sendall(opened)
+        connection.recv(1000)
+        connection.sendall(answered + opened + answered)
+        connection.sendall(struct.pack(">BIIH", 0xFF, session_of(connection), 2, 3))
+        with listener.accept()[0] as following:
+            opened, answered = replies(session_of(following), b"two")
+            following.sendall(opened)
+            following.recv(1000)
+            following.sendall(answered)
+            following.recv(1000)
+
+
+def check_older_bytes(probe, _, results):
+    """What came on a connection that another place gave up answers nothing on the next one."""
+    with listening(answers_with_more) as path:
+        with Keys(probe, Place(path), AMPLE) as keys:
+            results.expect("a key on the first connection", keys.press(E), Answer(True, "one"))
+            results.expect("a key of another place, whose session is refused", keys.press(E, is_text_field=2), Answer(False))
+            results.expect("a key on the next connection", keys.press(E), Answer(True, "two"))
+    results.expect("what is logged of them", keys.said, f"the service refuses the session; keys pass\n{path} answers\n")
+
+
+def check_long_path(probe, _, results):
+    """A path that no socket can have is nobody's, however long it is."""
+    for length in (107, 108, 109, 110, 5000):
+        path = "/" + "x" * (length - 1)
+        with Keys(probe, Place(path), PATIENCE) as keys:
+            results.expect(f"a path of {length} bytes", keys.press(E), Answer(False))
+        results.expect(f"is logged, with its {length} bytes", keys.said, f"nobody listens on {path}; keys pass\n")
 
 
 # The keys of a second reading, and the accents of those among them that are dead.
@@ -509,17 +644,51 @@ def check_following(probe, service, results):
         results.expect("letters first, and keys without a sign behind the others, by their names", listing.look_up(A), wanted)
 
 
+# Which character stands for a dead key, by its name in Unicode; those of letters and of marks follow by rule.
+ACCENT_NAMES = {
+    "grave": "GRAVE ACCENT", "acute": "ACUTE ACCENT", "circumflex": "CIRCUMFLEX ACCENT", "tilde": "TILDE", "macron": "MACRON", "breve": "BREVE",
+    "abovedot": "DOT ABOVE", "diaeresis": "DIAERESIS", "abovering": "RING ABOVE", "doubleacute": "DOUBLE ACUTE ACCENT", "caron": "CARON",
+    "cedilla": "CEDILLA", "ogonek": "OGONEK", "iota": "GREEK YPOGEGRAMMENI", "voiced_sound": "KATAKANA-HIRAGANA VOICED SOUND MARK",
+    "semivoiced_sound": "KATAKANA-HIRAGANA SEMI-VOICED SOUND MARK", "belowdot": "COMBINING DOT BELOW", "hook": "COMBINING HOOK ABOVE",
+    "horn": "COMBINING HORN", "stroke": "SOLIDUS", "abovecomma": "GREEK PSILI", "abovereversedcomma": "GREEK DASIA",
+    "doublegrave": "COMBINING DOUBLE GRAVE ACCENT", "belowring": "MODIFIER LETTER LOW RING", "belowmacron": "MODIFIER LETTER LOW MACRON",
+    "belowcircumflex": "COMBINING CIRCUMFLEX ACCENT BELOW", "belowtilde": "MODIFIER LETTER LOW TILDE", "belowbreve": "COMBINING BREVE BELOW",
+    "belowdiaeresis": "COMBINING DIAERESIS BELOW", "invertedbreve": "COMBINING INVERTED BREVE", "belowcomma": "COMMA", "currency": "CURRENCY SIGN",
+    "schwa": "LATIN SMALL LETTER SCHWA", "SCHWA": "LATIN CAPITAL LETTER SCHWA", "greek": "MICRO SIGN", "hamza": "ARABIC HAMZA ABOVE",
+    "lowline": "LOW LINE", "aboveverticalline": "MODIFIER LETTER VERTICAL LINE", "belowverticalline": "MODIFIER LETTER LOW VERTICAL LINE",
+    "longsolidusoverlay": "COMBINING LONG SOLIDUS OVERLAY",
+}
+# Other names of some of them, in keysymdef.h.
+SAME_KEYS = {"perispomeni": "tilde", "psili": "abovecomma", "dasia": "abovereversedcomma", "small_schwa": "schwa", "capital_schwa": "SCHWA"}
+
+
+def accent_of(name):
+    """The sign of a dead key: a letter is its own, and a mark that has no form of its own stands on a no-break space."""
+    sign = name if len(name) == 1 else unicodedata.lookup(ACCENT_NAMES[SAME_KEYS.get(name, name)])
+    return "\u00a0" + sign if unicodedata.combining(sign) else sign
+
+
 def check_accents(probe, service, results):
-    """Each dead key that has a name is shown by an accent, and no other keysym is a dead key."""
+    """Each dead key that has a name is shown by its accent."""
     with open(os.path.join(TOP, "crates", "builtin_names", "src", "lines.rt"), encoding="utf-8") as file:
-        names = {int(number, 16): name for name, number in re.findall(r"^#define XK_(dead_\w+) (0x\w+)", file.read(), re.M)}
-    service.write("dead.compose", "".join(f'<Multi_key> <{it}> : "x"\n' for it in names.values()))
+        names = {int(number, 16): name for name, number in re.findall(r"^#define XK_dead_(\w+) (0x\w+)", file.read(), re.M)}
+    service.write("dead.compose", "".join(f'<Multi_key> <dead_{it}> : "{it}"\n' for it in names.values()))
     with Listing(probe, service.store_anew("dead")) as listing:
         rows = listing.look_up(MULTI)
         for _ in range(len(names) // 10):
             listing.turn(PAGE_DOWN)
             rows += listing.rows
-    results.expect("each dead key has an accent", (len(rows), [it.key for it in rows if it.key.startswith("0x")]), (len(names), []))
+    results.expect("the accent of each dead key", {it.gives: it.key for it in rows}, {it: accent_of(it) for it in names.values()})
+
+
+def check_many(probe, service, results):
+    """A thousand keys are listed, and no more."""
+    service.write("many.compose", "".join(f'<Multi_key> <U{0x4E00 + it:04X}> : "x"\n' for it in range(1001)))
+    with Listing(probe, service.store_anew("many")) as listing:
+        listing.look_up(MULTI)
+        results.expect("the first of a thousand", listing.place, "1–10 / 1000")
+        listing.turn(PAGE_UP)
+        results.expect("the last of a thousand", (listing.place, len(listing.rows)), ("991–1000 / 1000", 10))
 
 
 def check_pages(probe, service, results):
@@ -584,16 +753,117 @@ def check_random_following(probe, service, results):
     results.expect("nothing is logged", listing.said, "")
 
 
+# ---- the engine of IBus
+
+# The modifiers with which a key is a command, and the others (ibustypes.h).
+CONTROL, ALT, MOD4, SUPER, HYPER, META = 1 << 2, 1 << 3, 1 << 6, 1 << 26, 1 << 27, 1 << 28
+SHIFTED, LOCKED, NUM_LOCK, MOD3, ALT_GR, RELEASED = 1 << 0, 1 << 1, 1 << 4, 1 << 5, 1 << 7, 1 << 30
+F1, F2 = 0xFFBE, 0xFFBF
+IBUS_SOURCES = [os.path.join(TOP, it) for it in ("ibus/engine.cpp", "ibus/choices.cpp")]
+
+
+class Engine(Probe):
+    """An engine of IBus, without a daemon: what a call answers, and what would be sent."""
+
+    def call(self, *words):
+        taken, *sent = self.ask(*words)
+        return taken == "1", [(name, self.content(value)) for name, _, value in (it.partition("=") for it in sent)]
+
+    def content(self, value):
+        if ":" in value:
+            return [Row(*map(text_of, it.split(":"))) for it in value.split(",") if it]
+        return text_of(value)
+
+    def press(self, keysym, modifiers=0):
+        return self.call("key", keysym, modifiers)
+
+
+def compiled_for_ibus(folder, results):
+    """The path of the engine's probe and its environment, or None where IBus's library isn't installed."""
+    flags = subprocess.run(["pkg-config", "--cflags", "--libs", "ibus-1.0"], capture_output=True, text=True) if shutil.which("pkg-config") else None
+    if not flags or flags.returncode:
+        print("no libibus-1.0-dev here: the engine of IBus is not tried")
+        return None
+    program = compiled(folder, results, "ibus", IBUS_SOURCES, flags.stdout.split())
+    if program and shutil.which("glib-compile-schemas"):
+        subprocess.run(["glib-compile-schemas", f"--targetdir={folder}", os.path.join(TOP, "ibus")], check=True)
+    return program
+
+
+def check_commands(program, service, results):
+    """With Ctrl, Alt, Super, Hyper or Meta a key is a command, and passes, also in a sequence; other modifiers change nothing."""
+    with Engine(program, service.socket, service.path("none")) as engine:
+        results.expect("a dead key", engine.press(ACUTE), (True, [("shown", "´")]))
+        for modifier in (CONTROL, ALT, MOD4, SUPER, HYPER, META):
+            results.expect(f"a command with {modifier:#x}", engine.press(E, modifier), (False, []))
+        results.expect("a key that is released", engine.press(E, RELEASED), (False, []))
+        results.expect("the sequence goes on", engine.press(E, SHIFTED | LOCKED | NUM_LOCK | MOD3 | ALT_GR), (True, [("hidden", ""), ("commit", "é")]))
+        results.expect("a plain key where nobody edits text", engine.press(X), (False, []))
+
+
+def check_drops(program, service, results):
+    """What is pending is dropped where the application, the focus or the daemon wants it."""
+    with Engine(program, service.socket, service.path("none")) as engine:
+        for call in ("reset", "focus-out", "disable"):
+            engine.press(ACUTE)
+            results.expect(call, (engine.call(call), engine.press(E)), ((False, [("hidden", "")]), (False, [])))
+
+
+def check_list(program, service, results):
+    """The list that a key shows and hides, and its pages."""
+    service.write("pages.compose", "".join(f'<Multi_key> <{it}> : "{it}"\n' for it in "abcdefghijklmnopqrstuvwxy"))
+    pages = [[Row(it, it) for it in part] for part in ("abcdefghij", "klmnopqrst", "uvwxy")]
+    stored = service.store_anew("pages")
+    service.start("old")
+    with Engine(program, service.socket, stored) as engine:
+        results.expect("nothing is listed at first", engine.press(MULTI), (True, [("shown", "·")]))
+        results.expect("the key that shows the list", engine.press(F1), (True, [("listed", pages[0])]))
+        results.expect("the next page, by the panel", engine.call("page-down"), (False, [("listed", pages[1])]))
+        results.expect("the one before, by the panel", engine.call("page-up"), (False, [("listed", pages[0])]))
+        results.expect("the one before, by a key", engine.press(PAGE_UP), (True, [("listed", pages[2])]))
+        results.expect("the next page, by a key", engine.press(PAGE_DOWN), (True, [("listed", pages[0])]))
+        results.expect("the key that hides the list", engine.press(F1), (True, [("listed", "")]))
+        engine.call("set", "list-key", "F2")
+        results.expect("the key that was chosen in its place", engine.press(F2), (True, [("listed", pages[0])]))
+        results.expect("a reset hides the list", engine.call("reset"), (False, [("hidden", ""), ("listed", "")]))
+        results.expect("at rest the key passes", engine.press(F2), (False, []))
+    results.expect("nothing is logged", engine.said, "")
+
+
+def check_ibus(folder, service, results):
+    checks = [it for it in (check_commands, check_drops, check_list) if is_chosen(it)]
+    program = compiled_for_ibus(folder, results) if checks else None
+    if not program:
+        return
+    if check_list in checks and not (os.path.exists(os.path.join(folder, "gschemas.compiled")) and os.path.exists(LIBRARY)):
+        print("no glib-compile-schemas or no libcomposecheck here: the list of the engine of IBus is not tried")
+        checks.remove(check_list)
+    # (the choices are in memory, and nobody's)
+    os.environ.update(GSETTINGS_SCHEMA_DIR=folder, GSETTINGS_BACKEND="memory", IBUS_ADDRESS="unix:path=/nonexistent", ASAN_OPTIONS="detect_leaks=0")
+    for check in checks:
+        service.start("old")
+        check(program, service, results)
+
+
+def is_chosen(check):
+    return not sys.argv[2:] or check.__name__.removeprefix("check_") in sys.argv[2:]
+
+
 def check_classes(service, results):
-    checks = [check_journal, check_state_folder, check_keys, check_patience, check_random_keys]
+    checks = [check_journal, check_state_folder, check_socket_path, check_keys, check_patience, check_own_patience, check_signals, check_close,
+              check_older_bytes, check_long_path, check_random_keys]
     if os.path.exists(LIBRARY):
-        checks += [check_following, check_accents, check_pages, check_random_following]
+        checks += [check_following, check_accents, check_many, check_pages, check_random_following]
     else:
         print("no libcomposecheck here: what can follow is not tried")
     with tempfile.TemporaryDirectory(prefix="engine-") as folder:
-        probe = compiled(folder, results)
-        for check in [*checks, check_without_library] if probe else []:
+        probe = compiled(folder, results) if any(map(is_chosen, [*checks, check_without_library])) else None
+        for check in filter(is_chosen, checks if probe else []):
             check(probe, service, results)
+        check_ibus(folder, service, results)
+        if probe and is_chosen(check_without_library):
+            check_without_library(probe, service, results)
+    results.expect("how the probes ended", ended, [])
 
 
 def main():
@@ -601,7 +871,8 @@ def main():
     logging.getLogger("composecheck").setLevel(logging.INFO)
     results = Results()
     with TypingService(sys.argv[1]) as service:
-        for check in (check_exchange, check_document, check_deadline, check_session, check_loads, check_lost_connections, check_silence, check_full, check_others, check_log):
+        checks = check_exchange, check_document, check_deadline, check_session, check_loads, check_lost_connections, check_silence, check_full, check_others, check_log
+        for check in filter(is_chosen, checks):
             check(service, results)
         if shutil.which("c++"):
             check_classes(service, results)

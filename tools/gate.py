@@ -118,7 +118,7 @@ def run_programs(pool):
     every = [print_whole(*it) for it in pool.map(run_quietly, commands())]
     every.append(print_whole(*library.result()))
     build_libraries()
-    return every + [print_whole(*it) for it in pool.map(run_quietly, [script("engine.py", PROGRAM), script("library.py")])]
+    return every + [print_whole(*it) for it in pool.map(run_quietly, [script("engine.py", PROGRAM), script("library.py"), script("shim.py")])]
 
 
 def main():

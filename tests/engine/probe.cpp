@@ -1,20 +1,23 @@
 // The classes of typing/ and the journal of the engine of IBus, without a toolkit, for tests/engine.py: it answers each line of standard input.
 //
-// probe press SOCKET PATIENCE: a line is a keysym, both settings, and whether it is a text field; its answer whether the key is taken, the text,
-// and what is shown, both in hexadecimal. Keysym 0 drops what is pending. The patience is in milliseconds.
+// probe press SOCKET [PATIENCE]: a line is a keysym, both settings, and whether it is a text field (0 or 1; of another place 2 or 3); its answer
+// whether the key is taken, the text, and what is shown, both in hexadecimal. Keysym 0 drops what is pending, and 4294967295 closes the session. The
+// patience is in milliseconds; without one it is the engines' own. `probe signals SOCKET PATIENCE` does the same, while signals come all the time.
 //
 // probe list TABLE: `look KEYSYM..` lists what can follow these, by a stored table, and `turn KEYSYM` turns the page; the answer is whether it did,
 // which rows these are, and each row, in hexadecimal.
 //
 // probe write PATH: writes each line to a journal, as a fault.
 //
-// probe stored: prints where the stored table is.
+// probe stored: prints where the stored table is. probe socket: prints where the service listens.
 #include "following.h"
 #include "journal.h"
 
+#include <csignal>
 #include <iostream>
 #include <iterator>
 #include <sstream>
+#include <sys/time.h>
 
 namespace {
 
@@ -51,18 +54,28 @@ std::string nameOf(uint32_t keysym) {
 
 void log(bool, const std::string &what) { std::cerr << what << std::endl; }
 
-void press(const std::string &socket, int patience) {
-    composecheck::Service service(socket, log, std::chrono::milliseconds(patience));
-    composecheck::Keys keys(service, numberedCharacter);
-    uint32_t keysym;
-    bool keepsAccents, commitsPlain, isTextField;
-    while (std::cin >> keysym >> keepsAccents >> commitsPlain >> isTextField) {
-        if (keysym == 0) {
-            keys.drop();
+// Has a signal come each few milliseconds. It ends no program and no call of read, but each wait of poll.
+void sendSignals() {
+    struct sigaction action {};
+    action.sa_handler = [](int) {};
+    action.sa_flags = SA_RESTART;
+    sigaction(SIGALRM, &action, nullptr);
+    itimerval every{{0, 5000}, {0, 5000}};
+    setitimer(ITIMER_REAL, &every, nullptr);
+}
+
+void press(composecheck::Service service) {
+    composecheck::Keys first(service, numberedCharacter), second(service, numberedCharacter);
+    uint32_t keysym, field;
+    bool keepsAccents, commitsPlain;
+    while (std::cin >> keysym >> keepsAccents >> commitsPlain >> field) {
+        auto &keys = field < 2 ? first : second;
+        if (keysym == 0 || keysym == 0xffffffff) {
+            keysym == 0 ? keys.drop() : keys.close();
             std::cout << "1  " << hexadecimal(keys.shown()) << std::endl;
             continue;
         }
-        auto answer = keys.press(keysym, {keepsAccents, commitsPlain}, isTextField);
+        auto answer = keys.press(keysym, {keepsAccents, commitsPlain}, field % 2 == 1);
         std::cout << answer.isTaken << ' ' << hexadecimal(answer.text) << ' ' << hexadecimal(keys.shown()) << std::endl;
     }
 }
@@ -101,13 +114,18 @@ void write(const std::string &path) {
 
 int main(int count, char **words) {
     std::string what = words[1];
-    if (what == "press" && count == 4) {
-        press(words[2], std::stoi(words[3]));
+    if (what == "signals") {
+        sendSignals();
+    }
+    if (what == "press" && count == 3) {
+        press({words[2], log});
+    } else if (what == "press" || what == "signals") {
+        press({words[2], log, std::chrono::milliseconds(std::stoi(words[3]))});
     } else if (what == "list") {
         list(words[2]);
     } else if (what == "write") {
         write(words[2]);
     } else {
-        std::cout << composecheck::storedPath() << std::endl;
+        std::cout << (what == "socket" ? composecheck::socketPath() : composecheck::storedPath()) << std::endl;
     }
 }
