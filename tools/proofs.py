@@ -79,8 +79,8 @@ class Gate:
         self.rt, self.trials, self.kept, self.tries_edits = rt, {}, kept, tries_edits
         # (an older kit knows no edit that neither passed nor failed)
         self.last = None if kept else time.monotonic() + SECONDS_FOR_EDITS
-        self.crate_ci, self.in_lanes = rt.Crate.ci, rt.in_lanes
-        measured.measure(rt.rtlib, file)
+        self.crate_ci, self.in_lanes, self.on_chains = rt.Crate.ci, rt.in_lanes, set()
+        measured.measure(rt.rtlib, file, self.on_chains)
         rt.Crate.ci = lambda crate, flags, tests: self.prove(crate, flags, tests)
         rt.Crate.has_tests = lambda crate: False
         if kept:
@@ -152,16 +152,17 @@ class Gate:
 
     def in_measured_lanes(self, tasks):
         """Runs rt's tasks with the measured seconds of proofs in the place of lines, and with the memory that the checks of a crate took. A proof
-        on a long chain of proofs gets as many jobs as there are processors, up to four, and shares these with what nothing waits for: how many
-        jobs a proof has is settled when it begins, and what runs beside it then soon ends."""
+        on a long chain of proofs gets up to four jobs, and the others give way to it: how many jobs a proof has is settled when it begins, so that
+        it would have one for good if it began beside three others."""
         crates = {it.name: it for it in self.rt.rtlib.crates_below(os.getcwd())}
-        on_chains = on_long_chains([*crates.values()]) if self.rt.processors() >= 4 else set()
+        self.on_chains.update(on_long_chains([*crates.values()]))
+        least_of_chains = min(4, self.rt.processors())
 
         def weighed(name, kind, waits, work, memory, call):
             # (a task of some edits is named after its crate and their number)
             crate = crates[name.partition(" ")[0]]
             seconds = work if kind == "edits" else work and measured.seconds_of(crate, kind)
-            least = 4 if kind == "proof" and name in on_chains else 1
+            least = least_of_chains if kind == "proof" and name in self.on_chains else 1
             return waits, seconds, measured.memory_of(crate, memory), lambda given, jobs: named(f"{name} {kind}", lambda: call(given, max(jobs, least)))
 
         return self.in_lanes({it: weighed(*it, *task) for it, task in tasks.items()})
