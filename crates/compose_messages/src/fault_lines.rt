@@ -45,7 +45,7 @@ impl<'a> Model for FaultLines<'a> {
     ghost view = { λ l. l.sources.now };
 
     ghost invariant = { λ l. lines_of l.rest.now
-      ≡ drop l.passed (lines_of (bytes_at l.sources.now l.source)) };
+        ≡ drop l.passed (lines_of (bytes_at l.sources.now l.source)) };
 }
 
 impl<'a> FaultLines<'a> {

@@ -21,11 +21,7 @@ pub fn read_message<'a>(sources: &'a Sources, fault: &ReadFault) -> Message<'a>
 }
 
 /// Returns the message for a fault of these sources, in this line. O(bytes of the line).
-pub(crate) fn message_in<'a>(
-    sources: &'a Sources,
-    line: &'a [u8],
-    fault: &ReadFault,
-) -> Message<'a>
+pub(crate) fn message_in<'a>(sources: &'a Sources, line: &'a [u8], fault: &ReadFault) -> Message<'a>
     requires { line.now ≡ fault_line sources.now fault.now }
     ensures { message_text result ≡ read_message_text sources.now fault.now }
 {

@@ -16,7 +16,8 @@ use compose_model::Rule;
 use std::alloc::{AllocError, Global};
 
 /// Why a table is not compared with itself.
-const ITSELF: &str = "OLD and NEW are one file in the same folders; --system and --root may be given twice, first for OLD and then for NEW";
+const ITSELF: &str =
+    "OLD and NEW are one file in the same folders; --system and --root may be given twice, first for OLD and then for NEW";
 
 /// The files of names, and those of an old and a new table.
 #[derive(Drop)]
@@ -81,8 +82,22 @@ impl<'n> MigrationFiles<'n> {
             root: pair.new_root,
         };
         let names = read_names(files, alloc, names)?;
-        let old = read_table(files, alloc, environment, old_places, pair.longest, pair.old)?;
-        let new = read_table(files, alloc, environment, new_places, pair.longest, pair.new)?;
+        let old = read_table(
+            files,
+            alloc,
+            environment,
+            old_places,
+            pair.longest,
+            pair.old,
+        )?;
+        let new = read_table(
+            files,
+            alloc,
+            environment,
+            new_places,
+            pair.longest,
+            pair.new,
+        )?;
         Ok(MigrationFiles { names, old, new })
     }
 

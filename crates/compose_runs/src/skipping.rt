@@ -88,7 +88,8 @@ impl<'n> KeptPair<'n> {
 }
 
 /// The hint for a refusal of `diff` because of a faulty line.
-const SKIP_HINT: &str = "composecheck: hint: `--skip-faulty` reads faulty lines as libxkbcommon does, and leaves out those that it skips\n";
+const SKIP_HINT: &str =
+    "composecheck: hint: `--skip-faulty` reads faulty lines as libxkbcommon does, and leaves out those that it skips\n";
 
 /// The most faults that are examined: as many as lines are read.
 const MOST_FAULTS: usize = 1_000_000;
@@ -169,7 +170,13 @@ fn line_faults(
     ensures { IfOk result
         (λ faults. faults.items ≡ words.line_faults names.now table.now.sources) }
 {
-    read_faults(alloc, names, &table.sources, root_of(&table.sources), MOST_FAULTS)
+    read_faults(
+        alloc,
+        names,
+        &table.sources,
+        root_of(&table.sources),
+        MOST_FAULTS,
+    )
 }
 
 /// Returns the name of the first source, or an empty text if there is none.
