@@ -1,5 +1,6 @@
 # make                proves and builds ./composecheck
 # make help           prints these lines
+# make try            builds build/composecheck without a proof, in some minutes: for a look, and not for use
 # make quick          all tests that need no proof, on programs and libraries that are built without one: some minutes
 # make test           the gate: proves what has changed since earlier runs on this machine, and runs all tests but `make real`
 # make test-anew      the gate from nothing
@@ -34,18 +35,20 @@ all: composecheck
 help:
 	@sed -n 's/^# \(make .*\)/\1/p' $(firstword $(MAKEFILE_LIST))
 
-composecheck: $(SOURCES)
-	$(NEEDS_KIT)
-	python3 tools/build.py composecheck --version
-	cp crates/composecheck/out/composecheck composecheck
-
-compose_trials: $(SOURCES)
-	$(NEEDS_KIT)
-	python3 tools/build.py compose_trials bench names ../../share/composecheck/short-unicode-names.h
-	cp crates/compose_trials/out/compose_trials compose_trials
-
 LIBRARY = crates/compose_c/out/libcompose_c.a
 CLIENT_LIBRARY = crates/compose_typing_c/out/libcompose_typing_c.a
+
+# (what is installed or packed has the C libraries too: all of it is proved in one run)
+ifneq ($(filter install deb,$(MAKECMDGOALS)),)
+composecheck $(LIBRARY) $(CLIENT_LIBRARY) &: $(SOURCES)
+	$(NEEDS_KIT)
+	python3 tools/build.py composecheck compose_c compose_typing_c
+	cp crates/composecheck/out/composecheck composecheck
+else
+composecheck: $(SOURCES)
+	$(NEEDS_KIT)
+	python3 tools/build.py composecheck
+	cp crates/composecheck/out/composecheck composecheck
 
 $(LIBRARY): $(SOURCES)
 	$(NEEDS_KIT)
@@ -54,6 +57,17 @@ $(LIBRARY): $(SOURCES)
 $(CLIENT_LIBRARY): $(SOURCES)
 	$(NEEDS_KIT)
 	python3 tools/build.py compose_typing_c
+endif
+
+try:
+	$(NEEDS_KIT)
+	python3 tools/unproved.py --marked build/composecheck
+	@echo "build/composecheck is not proved, stops at an index out of bounds or an overflow, and is many times slower than the proved program."
+
+compose_trials: $(SOURCES)
+	$(NEEDS_KIT)
+	python3 tools/build.py compose_trials
+	cp crates/compose_trials/out/compose_trials compose_trials
 
 lib: $(LIBRARY) $(CLIENT_LIBRARY)
 	python3 lib/build_library.py build/lib
@@ -188,4 +202,4 @@ bench: composecheck compose_trials $(LIBRARY)
 clean:
 	rm -rf composecheck compose_trials packages build crates/*/out
 
-.PHONY: all help lib lib-client install-lib install-client install-ibus install-fcitx5 peers rim quick test test-anew test-whole install uninstall dist deb test-packages desk names real bench clean
+.PHONY: all help try lib lib-client install-lib install-client install-ibus install-fcitx5 peers rim quick test test-anew test-whole install uninstall dist deb test-packages desk names real bench clean

@@ -33,6 +33,7 @@ def prepare(program, folder, lines):
     """Writes the tables with their manifests, a repertoire, and the certificate that the table follows itself."""
     write(folder, "old", sequences(lines, "a"))
     write(folder, "new", sequences(lines, "b"))
+    write(folder, "faulty", sequences(lines, "a").replace("<Multi_key>", "<Multi_kei>"))
     write(folder, "table", "root\told\n")
     write(folder, "repertoire", "")
     made = subprocess.run([program, "make", "table", "table", "repertoire"], cwd=folder, capture_output=True, text=True, check=True)
@@ -47,9 +48,10 @@ def commands(program):
         "diff": ["diff", "old", "new"],
         "lint": ["lint", "old"],
         "list": ["list", "old"],
+        "list, each line faulty": ["list", "faulty"],
     }
     named = subprocess.run([program, "--help"], capture_output=True, text=True, check=True).stdout.split()
-    return {name: [program, *words] for name, words in every.items() if name in named}
+    return {name: [program, *words] for name, words in every.items() if words[0] in named}
 
 
 def measure(program):
@@ -59,7 +61,7 @@ def measure(program):
         with tempfile.TemporaryDirectory() as folder:
             prepare(program, folder, lines)
             for name, command in commands(program).items():
-                turns = [process(command, folder) for _ in range(TURNS[lines])]
+                turns = [process(command, folder, subprocess.DEVNULL) for _ in range(TURNS[lines])]
                 rows[name].append((min(seconds for seconds, _ in turns), max(memory for _, memory in turns)))
     return rows
 

@@ -54,11 +54,11 @@ def least_figures(commands, folder, rounds):
     return least
 
 
-def process(command, folder):
-    """The seconds of a whole process and the most memory that it held, in bytes."""
+def process(command, folder, errors=None):
+    """The seconds of a whole process and the most memory that it held, in bytes. What it prints on standard error goes to `errors`, if that is given."""
     with open(os.path.join(folder, "output"), "wb") as output:
         start = time.perf_counter()
-        child = subprocess.Popen(command, cwd=folder, stdout=output)
+        child = subprocess.Popen(command, cwd=folder, stdout=output, stderr=errors)
         _, status, usage = os.wait4(child.pid, 0)
         child.returncode = os.waitstatus_to_exitcode(status)
     if child.returncode > 1:

@@ -70,9 +70,12 @@ def check_install(program, folder, results):
     if has_engine:
         check_component(place, place, version_of(program), results)
     check_units(place, results)
+    if can_build("Fcitx5Core"):
+        made = tree.make("install-fcitx5", f"PREFIX={place}")
+        results.expect("make install-fcitx5", (made.returncode, made.stderr, [it for it in files_below(place) if it.endswith("/fcitx5/composecheck.so")] != []), (0, "", True))
     made = tree.make("uninstall", f"PREFIX={place}", f"PYTHON={interpreter}")
-    left = [it for it in files_below(place) if it not in before and "__pycache__" not in it and not it.endswith("gschemas.compiled")]
-    results.expect("make uninstall leaves nothing", (made.returncode, left), (0, []))
+    left = [it for it in files_below(place) if it not in before and "__pycache__" not in it]
+    results.expect("make uninstall leaves nothing", (made.returncode, made.stderr, left), (0, "", []))
     other = os.path.join(folder, "other")
     made = tree.make("install", f"DESTDIR={other}", "PREFIX=/opt/composecheck")
     results.expect("make install with DESTDIR", (made.returncode, os.listdir(other)), (0, ["opt"]))
@@ -80,14 +83,76 @@ def check_install(program, folder, results):
         check_component(os.path.join(other, "opt", "composecheck"), "/opt/composecheck", version_of(program), results)
 
 
+def can_build(headers):
+    """Whether cmake, a compiler and the headers of this name in pkg-config are there."""
+    return all(map(shutil.which, ("cmake", "c++", "pkg-config"))) and run("pkg-config", "--exists", headers).returncode == 0
+
+
 def version_of(program):
     return run(program, "--version").stdout.split()[1]
+
+
+LAYOUTS = """<?xml version="1.0" encoding="UTF-8"?>
+<!DOCTYPE xkbConfigRegistry SYSTEM "xkb.dtd">
+<xkbConfigRegistry version="1.1">
+  <layoutList>
+    <layout>
+      <configItem>
+        <name>de</name>
+        <shortDescription>de</shortDescription>
+        <description>German</description>
+        <languageList><iso639Id>deu</iso639Id></languageList>
+      </configItem>
+      <variantList>
+        <variant><configItem><name>nodeadkeys</name><description>German (no dead keys)</description></configItem></variant>
+        <variant>
+          <configItem>
+            <name>tr</name>
+            <shortDescription>tr</shortDescription>
+            <description>Turkish (Germany)</description>
+            <languageList><iso639Id>tur</iso639Id><iso639Id>deu</iso639Id></languageList>
+          </configItem>
+        </variant>
+      </variantList>
+    </layout>
+    <layout><configItem><name>xx</name><description>A &amp; B</description></configItem><variantList/></layout>
+  </layoutList>
+</xkbConfigRegistry>
+"""
+# Of each engine: its name, the long one, the language, the layout with its variant, and the sign of the panel.
+ENGINES = [
+    ["composecheck:de", "German, Compose", "de", "de", "", "de"],
+    ["composecheck:de:nodeadkeys", "German (no dead keys), Compose", "de", "de", "nodeadkeys", "de"],
+    ["composecheck:de:tr", "Turkish (Germany), Compose", "tr", "de", "tr", "tr"],
+    ["composecheck:xx", "A & B, Compose", "other", "xx", "", ""],
+]
+# (as GNOME Shell has it)
+IN_GNOME = [[*it[:3], "+".join(filter(None, it[3:5])), "", it[5]] for it in ENGINES]
+
+
+def check_engines(asked, setup, folder, results):
+    """What the component asks for: an engine for each layout, in the form that GNOME Shell reads where that runs."""
+    path = os.path.join(folder, "layouts.xml")
+    with open(path, "w", encoding="utf-8") as file:
+        file.write(LAYOUTS)
+    settings = {"HOME": folder, "LD_LIBRARY_PATH": os.path.dirname(CLIENT_LIBRARY)}
+    for desktop, wanted in (("KDE", ENGINES), ("GNOME-Classic:GNOME", IN_GNOME)):
+        got = run(*asked, path, env={**settings, "XDG_CURRENT_DESKTOP": desktop})
+        listed = xml.etree.ElementTree.fromstring(got.stdout).findall("engine")
+        parts = ("name", "longname", "language", "layout", "layout_variant", "symbol")
+        results.expect(f"the engines of layouts, {desktop}", [[it.findtext(part) for part in parts] for it in listed], wanted)
+        results.expect(f"their settings, {desktop}", {it.findtext("setup") for it in listed}, {setup})
+    got = run(*asked, os.path.join(folder, "nosuch"), env=settings)
+    results.expect("the engines of layouts, without any", (got.stdout, got.stderr, got.returncode), ("<engines>\n</engines>\n", "", 0))
+    os.remove(path)
 
 
 def check_component(place, prefix, version, results):
     """The component of IBus names files that are there, and runs."""
     component = xml.etree.ElementTree.parse(os.path.join(place, "share", "ibus", "component", "composecheck.xml")).getroot()
     named = [component.findtext("exec").split()[0], component.findtext("engines/engine/setup")]
+    asked, = filter(None, (it.get("exec") for it in component.findall("engines")))
+    check_engines(asked.replace(prefix, place, 1).split(), named[1], place, results)
     results.expect("the component's version", component.findtext("version"), version)
     results.expect("the component's programs", [os.access(it.replace(prefix, place, 1), os.X_OK) for it in named], [True, True])
     icon = component.findtext("engines/engine/icon")

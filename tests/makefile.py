@@ -11,7 +11,7 @@ import tempfile
 from harness import Results
 
 TOP = os.path.dirname(os.path.dirname(os.path.abspath(__file__)))
-PROVING = ("all", "composecheck", "compose_trials", "quick", "test", "test-anew", "test-whole")
+PROVING = ("all", "composecheck", "compose_trials", "try", "quick", "test", "test-anew", "test-whole")
 NO_KIT = re.compile(r'Makefile:\d+: \*\*\* this needs the Rattle kit: `rt` is not on the path; see "Install" in README\.md\.  Stop\.\n')
 
 
@@ -58,8 +58,10 @@ def check_without_kit(results):
 
 def check_build(results):
     with Tree(["rt"]) as tree:
-        building = "python3 tools/build.py composecheck --version\ncp crates/composecheck/out/composecheck composecheck\n"
+        building = "python3 tools/build.py composecheck\ncp crates/composecheck/out/composecheck composecheck\n"
         results.expect("make alone builds the program", tree.make("-n"), (building, "", 0))
+        proved = building.replace("composecheck\n", "composecheck compose_c compose_typing_c\n", 1)
+        results.expect("make deb proves the program and the libraries in one run", tree.make("-n", "deb")[0].startswith(proved), True)
         results.expect("make test runs the gate", tree.make("-n", "test"), ("python3 tools/gate.py\n", "", 0))
 
 

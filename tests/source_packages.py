@@ -1,14 +1,24 @@
-"""Debian's source packages, which apt-get fetches into a folder of their own: the system's own lists and packages stay as they are."""
+"""The source packages of the system's release, which apt-get fetches into a folder of their own: the system's own lists and packages stay as they are. They
+come from the places that the system's own apt is set up with."""
 import os
+import platform
 import subprocess
 import tarfile
-
-RELEASE = "bookworm"
-KEYRING = "/usr/share/keyrings/debian-archive-keyring.gpg"
 
 
 class Unfetched(Exception):
     """A source package that can't be fetched, and why."""
+
+
+def places():
+    """The lines of a list of sources: where the system's apt takes the packages of its release from, but for sources."""
+    release = platform.freedesktop_os_release()["VERSION_CODENAME"]
+    command = ["apt-get", "indextargets", "--format", "deb-src $(REPO_URI) $(RELEASE) $(COMPONENT)", "Created-By: Packages", f"Codename: {release}"]
+    ran = subprocess.run(command, check=True, capture_output=True, text=True, timeout=60)
+    lines = sorted(set(ran.stdout.splitlines()))
+    if not lines:
+        raise Unfetched(f"apt has no place for {release}")
+    return "".join(f"{line}\n" for line in lines)
 
 
 class SourcePackages:
@@ -30,7 +40,7 @@ class SourcePackages:
         for name in ("lists/partial", "cache/archives/partial"):
             os.makedirs(os.path.join(self.folder, name), exist_ok=True)
         with open(os.path.join(self.folder, "sources.list"), "w", encoding="utf-8") as file:
-            file.write(f"deb-src [signed-by={KEYRING}] http://deb.debian.org/debian {RELEASE} main\n")
+            file.write(places())
         self.run("update", where=self.folder)
         self.has_lists = True
 
@@ -42,7 +52,7 @@ class SourcePackages:
                 self.update()
             os.makedirs(folder, exist_ok=True)
             self.run("source", "--download-only", package, where=folder)
-        except (OSError, subprocess.SubprocessError) as error:
+        except (OSError, KeyError, subprocess.SubprocessError) as error:
             raise Unfetched(f"{package}: {error}") from error
         archive, = (it for it in os.listdir(folder) if ".orig.tar." in it and not it.endswith(".asc"))
         with tarfile.open(os.path.join(folder, archive)) as file:

@@ -1,102 +1,93 @@
 #!/usr/bin/env python3
-"""Proves a program and each library that it stands on, as far as they are not proved yet, builds the program and runs it once; or builds a static
-library.
+"""Proves programs and static libraries with each library that they stand on, as far as they are not proved yet, and builds them.
 
-  build.py PROGRAM [ARGUMENT..]
-  build.py compose_c
+  build.py NAME ..
 
-Nothing is built that is not proved, so a first build takes long: it says which crate it is at and about how many minutes are left, by
-the seconds that docs/GATE.md has for each crate, and by how fast this machine was so far. Crates that do not stand on one
-another are proved side by side. What is proved is kept in crates/*/out, so that the next build takes only what has changed."""
+Nothing is built that is not proved, so a first build takes long: it says about how many minutes are left, by the seconds that docs/GATE.md has for each
+crate and by how fast this machine was so far. What is proved is kept where the gate keeps it (proofs.py), so that neither proves what the other has, and
+a build that was stopped goes on from there. What is built is left in crates/*/out: the programs and static libraries alone (tools/fill.py puts the
+libraries there too, for `rt check`)."""
 import os
+import re
 import subprocess
 import sys
 import tempfile
-import threading
-import time
 
 import edits
 import measured
 
+# What the lines of proofs.py say of a crate, where what is said of one begins, and what is said of one that is kept.
+ENDED = re.compile(r"rt: (\w+) (NOT PROVED|proved)\b.*\n?")
+BEGUN = re.compile(r"== \w+\n")
+KEPT = "an earlier run has proved it"
 
-class Build:
-    """The crates that are still to be proved, and how long that takes."""
 
-    def __init__(self, rt, libraries, program):
-        self.rt, self.program, self.every = rt, program, [*libraries, program]
-        self.seconds = {it.name: measured.seconds_of(it) for it in self.every}
-        self.left = {it.name for it in libraries if not it.is_built()} | {program.name}
-        self.began, self.work, self.lock = time.monotonic(), self.work_left(), threading.Lock()
+def needed(rt, names):
+    """Returns the named crates and all below them, each after those that it stands on."""
+    known = {it.name: it for it in rt.rtlib.crates_below(os.getcwd())}
+    unknown = [it for it in names if it not in known]
+    if unknown:
+        sys.exit(f"build: no crate is called {' or '.join(unknown)}")
+    wanted = {crate.name: crate for name in names for crate in [*known[name].below(), known[name]]}
+    return sorted(wanted.values(), key=lambda it: len(it.below()))
 
-    def work_left(self):
-        """Returns the seconds that the crates which are left take on these processors: no less than the longest chain of them does."""
+
+class Pace:
+    """How long what is left takes: by the processor time that each crate was measured to take, and by what those took that this run has proved."""
+
+    def __init__(self, crates, processors, file):
+        self.crates, self.processors, self.file = crates, processors, file
+        self.seconds = {it.name: measured.seconds_of(it) for it in crates}
+        self.left = {it.name for it in crates}
+
+    def factor(self):
+        """Returns how many times as long as it was measured the proof of a crate takes here."""
+        taken = {crate: row[0] for (crate, kind), row in measured.rows_of(self.file).items() if kind == "proof" and crate in self.seconds}
+        known = sum(self.seconds[it] for it in taken)
+        return sum(taken.values()) / known if known > 60 else 1.0
+
+    def minutes_left(self):
+        """Returns the minutes that are likely left: what is left over all processors, or the longest chain of it, of which a proof uses about two."""
         chains = {}
-        for it in self.every:
-            below = max((chains[dep.name] for dep in it.deps), default=0)
+        for it in self.crates:
+            below = max((chains[dep.name] for dep in it.deps if dep.name in chains), default=0)
             chains[it.name] = below + self.seconds[it.name] * (it.name in self.left)
-        return max(*chains.values(), sum(self.seconds[it] for it in self.left) / self.rt.processors())
+        work = sum(self.seconds[it] for it in self.left)
+        return max(1, round(self.factor() * max(work / self.processors, max(chains.values()) / min(2, self.processors)) / 60))
 
-    def estimate(self):
-        """Returns what the time left is likely to be, by how long what is done took."""
-        left = self.work_left()
-        done = self.work - left
-        minutes = left * ((time.monotonic() - self.began) / done if done > 0 else 1) / 60
-        return f"about {minutes:.0f} minutes left" if minutes >= 1.5 else "about a minute left"
+    def left_in_words(self):
+        return f"about {self.minutes_left()} minutes left" if self.left else "done"
 
-    def say(self, crate):
-        place = [it.name for it in self.every].index(crate.name) + 1
-        print(f"crate {place} of {len(self.every)}: {crate.name}, {self.estimate()}", flush=True)
 
-    def prove(self, crate, given, jobs):
-        """Proves a library over what is kept of it, and returns whether it and all below it is proved."""
-        if not all(given[it.name, "proof"] for it in crate.below()):
-            return False
-        if crate.name in self.left:
-            with self.lock:
-                self.say(crate)
-        with tempfile.TemporaryFile("w+", errors="replace") as crate.out:
-            status = crate.build_rlib(["--jobs", str(jobs)], anew=False)
-            with self.lock:
-                self.left.discard(crate.name)
-                if status:
-                    crate.out.seek(0)
-                    print(f"{crate.out.read()}{crate.name} is not proved", flush=True)
-        return not status
-
-    def prove_all(self):
-        """Proves the libraries, each once those below it are proved, and returns whether all are."""
-        tasks = {}
-        for it in self.every[:-1]:
-            waits = [(dep.name, "proof") for dep in it.below()]
-            work = self.seconds[it.name] if it.name in self.left else 0
-            tasks[it.name, "proof"] = waits, work, measured.memory_of(it, self.rt.need(it)), lambda given, jobs, it=it: self.prove(it, given, jobs)
-        return all(self.rt.in_lanes(tasks).values())
+def follow(lines, pace):
+    """Prints how far the proofs are, and all that is said of a crate that is not proved. Returns whether each is."""
+    said, are_proved = [], True
+    for line in lines:
+        said = [line] if BEGUN.fullmatch(line) else [*said, line]
+        ended = ENDED.fullmatch(line)
+        if ended and ended[2] == "proved":
+            pace.left.discard(ended[1])
+            if not any(KEPT in it for it in said):
+                print(f"{ended[1]} is proved, the last of {len(pace.crates) - len(pace.left)} of {len(pace.crates)}: {pace.left_in_words()}", flush=True)
+        elif ended:
+            are_proved = False
+            print("".join(said), end="", flush=True)
+    return are_proved
 
 
 def main():
-    rt, (name, *arguments) = edits.load_rt(), sys.argv[1:]
     os.chdir(measured.TOP)
-    crates = {it.name: it for it in rt.rtlib.crates_below(os.getcwd())}
-    program = crates[name]
-    libraries = sorted(program.below(), key=lambda it: len(it.below()))
-    rt.rtlib.guarded()
-    held = rt.rtlib.lock([*libraries, program])
-    build = Build(rt, libraries, program)
-    if len(build.left) > 1:
-        print(f"{len(build.left)} crates are to be proved before {name} is built, {build.estimate()}: nothing is built that is not proved", flush=True)
-    if not build.prove_all():
-        return 1
-    # (the command takes the lock itself)
-    for it in held:
-        os.close(it)
-    build.say(program)
-    with tempfile.TemporaryFile("w+", errors="replace") as said:
-        command = ["rt", "lib" if program.is_static else "run", "--jobs", str(rt.processors()), *([] if program.is_static else ["--", *arguments])]
-        status = subprocess.run(command, cwd=program.folder, stderr=said).returncode
-        if status:
-            said.seek(0)
-            print(said.read(), end="")
-    return status
+    rt, names = edits.load_rt(), sys.argv[1:]
+    with tempfile.TemporaryDirectory(prefix="build-") as room:
+        file = os.path.join(room, "measured")
+        open(file, "w", encoding="utf-8").close()
+        pace = Pace(needed(rt, names), rt.processors(), file)
+        print(f"{' and '.join(names)}: {len(pace.crates)} crates, and nothing is built that is not proved. From nothing it takes about {pace.minutes_left()} "
+              "minutes; what an earlier run proved takes none. `make try` builds the program without a proof.", flush=True)
+        command = [sys.executable, os.path.join("tools", "proofs.py"), file, "--without-edits", *names]
+        with subprocess.Popen(command, stdout=subprocess.PIPE, stderr=subprocess.STDOUT, text=True, errors="replace") as ran:
+            are_proved = follow(ran.stdout, pace)
+    return 0 if are_proved and ran.returncode == 0 else 1
 
 
 if __name__ == "__main__":

@@ -54,15 +54,32 @@ def prove_static(rt, crate, flags):
 
 
 def ci(rt, is_anew, names):
-    """Runs `rt ci`, of the named crates and those below them if any are named, and returns its status. Where a kit takes no names it does so on a copy."""
+    """Runs `rt ci`, of the named crates and those below them if any are named, and returns its status. Where a kit takes no names it does so on a copy,
+    and brings what was built of the named programs and static libraries."""
     if has_store(rt):
         return rt.ci(is_anew, names)
     if not names:
         return rt.ci()
+    top = os.getcwd()
     with tempfile.TemporaryDirectory(prefix="gate-crates-") as room:
         copy_crates(rt, names, room)
         os.chdir(room)
-        return rt.ci()
+        status = rt.ci()
+        os.chdir(top)
+        if not status:
+            bring(rt, names, room)
+    return status
+
+
+def bring(rt, names, room):
+    """Copies what was built of the named programs and static libraries from a copy of the crates into their folders here."""
+    for crate in rt.rtlib.crates_below(os.getcwd()):
+        built = [it for it in (crate.name, f"{crate.name}.by-rattle", f"lib{crate.name}.a") if os.path.isfile(f"{room}/crates/{crate.name}/out/{it}")]
+        for it in built if crate.name in names else []:
+            os.makedirs(f"{crate.folder}/out", exist_ok=True)
+            # (a file of its own, so that one that is being run may be there already)
+            shutil.copy(f"{room}/crates/{crate.name}/out/{it}", f"{crate.folder}/out/{it}.new")
+            os.replace(f"{crate.folder}/out/{it}.new", f"{crate.folder}/out/{it}")
 
 
 def copy_crates(rt, names, room):

@@ -9,10 +9,13 @@ TOP = os.path.dirname(os.path.dirname(os.path.abspath(__file__)))
 TABLE = os.path.join(TOP, "docs", "GATE.md")
 HEAD = "| Crate | Proof s | Its tests s | Edits s | Edits | Proof, wall s | Most memory GB |"
 KINDS = ("proof", "tests", "edits")
-# Runs a command, and adds a line to a file: the crate, the kind of check, its processor seconds, its wall seconds and its memory in bytes.
+# Runs a command, and adds a line to a file: the crate, the kind of check, its processor seconds, its wall seconds and its memory in bytes. It gives way
+# to the proofs of the crates that come first, if it is none of them, and a check of edits to all proofs.
 METER = """
 import os, signal, sys, time
-file, words, began = sys.argv[1], sys.argv[2:], time.monotonic()
+file, first, words, began = sys.argv[1], sys.argv[2].split(","), sys.argv[3:], time.monotonic()
+if "--crate-name" in words:
+    os.nice(10 if "--incremental" in words else 0 if words[words.index("--crate-name") + 1] in first else 5)
 _, status, used = os.wait4(os.posix_spawnp(words[0], words, os.environ, setsigdef=[signal.SIGPIPE, signal.SIGXFSZ]), 0)
 if "--crate-name" in words:
     crate = words[words.index("--crate-name") + 1]
@@ -26,10 +29,10 @@ sys.exit(os.waitstatus_to_exitcode(status))
 """
 
 
-def measure(rtlib, file):
-    """Has each check that the kit starts from here on be measured into a file."""
+def measure(rtlib, file, first):
+    """Has each check that the kit starts from here on be measured into a file. `first` has the names of the crates whose proofs come first, at each time."""
     guarded = rtlib.guarded
-    rtlib.guarded = lambda: [*guarded(), sys.executable, "-ISc", METER, file]
+    rtlib.guarded = lambda: [*guarded(), sys.executable, "-ISc", METER, file, ",".join(first)]
 
 
 def add(file, crate, kind, processor, wall, memory):

@@ -1,14 +1,14 @@
 #!/usr/bin/env python3
 """`rt ci`, with the must-fail edits tried over the proofs of their crates, several in one check.
 
-  proofs.py FILE [--anew] [CRATE ..]
+  proofs.py FILE [--anew] [--without-edits] [CRATE ..]
 
 `rt ci` proves a crate that has edits a second time, to keep work for them, and then tries each edit in a check of its own. Here each
 library is built with its proofs in it, which `rt ci` leaves out. These are the kept work over which its edits are tried (edits.py).
 All else of `rt ci` stays as it is. What a run passed is kept on this machine, by the checksums of all that it read, and what is kept is
 not proved or tried again, but with --anew: in the kit's store, where the kit has one, and else in the gate's own (store.py). With names it
-does these crates and those below them, on a copy, and leaves what was built here as it was. What each check took is written to FILE. Tests
-are not proved here, but run by examples.py.
+does these crates and those below them, on a copy, and brings what was built of the named programs and static libraries alone. Without edits it
+proves alone, as `make` does (build.py). What each check took is written to FILE. Tests are not proved here, but run by examples.py.
 """
 import contextlib
 import hashlib
@@ -26,7 +26,7 @@ import store
 
 
 # A gate on a slow machine has to end all the same. Edits of which no check has begun by then, in seconds, are left for the next run.
-SECONDS_FOR_EDITS = 95 * 60
+SECONDS_FOR_EDITS = 70 * 60
 
 
 def take_checked(crate, kept):
@@ -74,17 +74,17 @@ class Results:
 class Gate:
     """`rt ci` with some of its calls replaced."""
 
-    def __init__(self, rt, file, kept):
+    def __init__(self, rt, file, kept, tries_edits=True):
         """`kept` is the gate's own store, where the kit has none."""
-        self.rt, self.trials, self.kept = rt, {}, kept
-        # (an older kit knows no edit that neither passed nor failed)
-        self.last = None if kept else time.monotonic() + SECONDS_FOR_EDITS
-        self.crate_ci, self.in_lanes = rt.Crate.ci, rt.in_lanes
-        measured.measure(rt.rtlib, file)
+        self.rt, self.trials, self.kept, self.tries_edits = rt, {}, kept, tries_edits
+        self.last = time.monotonic() + SECONDS_FOR_EDITS
+        self.crate_ci, self.in_lanes, self.on_chains = rt.Crate.ci, rt.in_lanes, set()
+        measured.measure(rt.rtlib, file, self.on_chains)
         rt.Crate.ci = lambda crate, flags, tests: self.prove(crate, flags, tests)
         rt.Crate.has_tests = lambda crate: False
         if kept:
-            rt.must_fail_all = lambda crate, files, flags: self.trials[crate.name].end() if files else []
+            # (an older kit knows no edit that neither passed nor failed: it counts those that are left as passed, and the gate takes them off)
+            rt.must_fail_all = lambda crate, files, flags: [(passes is not False, line) for passes, line in self.trials[crate.name].end()] if files else []
             rt.in_lanes = lambda tasks: self.in_measured_lanes(self.with_trials(tasks))
         else:
             rt.add_edits, rt.in_lanes = self.add_edits, self.in_measured_lanes
@@ -129,7 +129,7 @@ class Gate:
 
     def add_edits(self, tasks, crate, files, first, waits, is_well, kept):
         """Adds the tasks that try a crate's edits. As rt's, it returns what gives their results, in order, and what gives those of earlier runs."""
-        if not files:
+        if not files or not self.tries_edits:
             return lambda given: [], dict
         last = lambda given, jobs: trial.end() if is_well(given) else []
         trial = self.add_trial(tasks, crate, waits, is_well, last, Results(self.rt, kept, crate))
@@ -141,7 +141,9 @@ class Gate:
         """Returns the tasks of a kit that has no `add_edits`, with one of edits as several. The last of them is the kit's own, which calls `must_fail_all`."""
         crates, more = {it.name: it for it in self.rt.rtlib.crates_below(os.getcwd())}, {}
         for (name, kind), task in tasks.items():
-            if kind == "edits" and self.rt.edits_of(crates[name])[0]:
+            if kind == "edits" and not self.tries_edits:
+                more[name, kind] = task[0], 0, task[2], lambda given, jobs: ([], [], [])
+            elif kind == "edits" and self.rt.edits_of(crates[name])[0]:
                 is_well = lambda given, name=name: given[name, "proof"] and given[name, "tests"]
                 self.trials[name] = self.add_trial(more, crates[name], task[0], is_well, task[-1], store.Results(self.kept, crates[name]))
             else:
@@ -150,15 +152,17 @@ class Gate:
 
     def in_measured_lanes(self, tasks):
         """Runs rt's tasks with the measured seconds of proofs in the place of lines, and with the memory that the checks of a crate took. A proof
-        on a long chain of proofs gets two jobs at least, and shares the processors with edits, which nothing waits for."""
+        on a long chain of proofs gets up to four jobs, and the others give way to it: how many jobs a proof has is settled when it begins, so that
+        it would have one for good if it began beside three others."""
         crates = {it.name: it for it in self.rt.rtlib.crates_below(os.getcwd())}
-        on_chains = on_long_chains([*crates.values()]) if self.rt.processors() >= 4 else set()
+        self.on_chains.update(on_long_chains([*crates.values()]))
+        least_of_chains = min(4, self.rt.processors())
 
         def weighed(name, kind, waits, work, memory, call):
             # (a task of some edits is named after its crate and their number)
             crate = crates[name.partition(" ")[0]]
             seconds = work if kind == "edits" else work and measured.seconds_of(crate, kind)
-            least = 2 if kind == "proof" and name in on_chains else 1
+            least = least_of_chains if kind == "proof" and name in self.on_chains else 1
             return waits, seconds, measured.memory_of(crate, memory), lambda given, jobs: named(f"{name} {kind}", lambda: call(given, max(jobs, least)))
 
         return self.in_lanes({it: weighed(*it, *task) for it, task in tasks.items()})
@@ -189,9 +193,9 @@ def on_long_chains(crates):
 def main():
     file, *words = sys.argv[1:]
     rt, is_anew = edits.load_rt(), "--anew" in words
-    Gate(rt, os.path.abspath(file), None if kit.has_store(rt) else store.Store(rt, is_anew))
+    Gate(rt, os.path.abspath(file), None if kit.has_store(rt) else store.Store(rt, is_anew), "--without-edits" not in words)
     try:
-        return kit.ci(rt, is_anew, [it for it in words if it != "--anew"])
+        return kit.ci(rt, is_anew, [it for it in words if not it.startswith("--")])
     except Exception as error:
         # (what stands above the last frames are rt's lanes, whatever went wrong in them)
         sys.exit("".join(traceback.format_exception(error, limit=-3)))

@@ -129,9 +129,15 @@ fn change_of(
         Ok(bytes) if index < sources.count() && bytes.as_slice() == sources.bytes(index) => Ok(
             None,
         ),
-        Ok(_) => Ok(Some(Change { path, is_gone: false })),
+        Ok(_) => Ok(Some(Change {
+            path,
+            is_gone: false,
+        })),
         Err(error) if error.kind() == ErrorKind::OutOfMemory => Err(Fault::NoMemory),
-        Err(_) => Ok(Some(Change { path, is_gone: true })),
+        Err(_) => Ok(Some(Change {
+            path,
+            is_gone: true,
+        })),
     }
 }
 

@@ -280,10 +280,7 @@ fn wished<T: BuildTable>(
 
 /// Returns the table before the last change, as it is taken into use again.
 /// Errors: a refusal of `state` if none is kept.
-fn previous(
-    rt: &(impl Files + AllocGlobal),
-    folder: &StateFolder,
-) -> Result<Taking, Fault> {
+fn previous(rt: &(impl Files + AllocGlobal), folder: &StateFolder) -> Result<Taking, Fault> {
     match read_if_there(rt, &folder.previous)? {
         Some(file) => Ok(Taking::Meant { file }),
         None => Err(no_previous(rt.alloc(), folder)),

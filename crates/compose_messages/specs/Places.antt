@@ -10,7 +10,7 @@ use Rattle.compose_lex.specs.Line.{Reading, production}
 use Rattle.compose_lex.specs.Fault.{reading_of}
 use Rattle.compose_lex.specs.declared.LexFault.{LexFault}
 use Rattle.compose_lex.specs.declared.LexFault.TheVariants.{BadToken, ModifierList, UnclosedString, UnknownEscape, BadCode, NoResult, TooManyKeysyms}
-use Rattle.compose_read.specs.Lines.{Source, source_lines}
+use Rattle.compose_read.specs.Lines.{Source, source_lines, without_mark}
 use Rattle.compose_read.specs.declared.ReadFault.{ReadFault}
 use Rattle.compose_read.specs.declared.ReadFault.TheVariants.{NotUtf8, Lex, UnknownKeysym, IgnoredKeysym, MissingInclude, IncludeDepth, TooManyLines, TooManyDefinitions}
 use Rattle.compose_messages.specs.declared.position.Position.{Position}
@@ -18,6 +18,10 @@ use Rattle.compose_messages.specs.declared.position.Position.{Position}
 -- the line with this number, counted from 1, of the source with this index; nothing if there is none
 abbrev pub line_at : List Source → ℕ → ℕ → List ℕ
 line_at sources source line = get_or (source_lines (get_or sources source (record { name = []; bytes = [] })).bytes) (line - 1) []
+
+-- the bytes of the source with this index, without a byte order mark; nothing if there is none
+abbrev pub bytes_at : List Source → ℕ → List ℕ
+bytes_at sources source = without_mark (get_or sources source (record { name = []; bytes = [] })).bytes
 
 -- the bytes if they are UTF-8, and otherwise nothing
 abbrev pub text_or_nothing : List ℕ → List ℕ

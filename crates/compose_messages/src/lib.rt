@@ -16,6 +16,7 @@
 
 mod beginning;
 mod characters;
+mod fault_lines;
 mod faults;
 mod hints;
 mod lines;
@@ -28,6 +29,7 @@ mod reading;
 mod tokens;
 
 pub use characters::{CharacterHint, key_of_text, text_in_place};
+pub use fault_lines::{FaultLines, PlacedFault};
 pub use faults::{
     FaultWords, certificate_words, manifest_words, name_words, open_words, repertoire_words,
     socket_words, source_words,

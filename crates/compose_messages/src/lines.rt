@@ -35,7 +35,7 @@ pub(crate) fn nth_line(bytes: &[u8], index: usize) -> &[u8]
 }
 
 /// Returns the bytes without a UTF-8 byte order mark at their start.
-fn without_mark(bytes: &[u8]) -> &[u8]
+pub(crate) fn without_mark(bytes: &[u8]) -> &[u8]
     ensures { result.now ≡ without_mark bytes.now }
 {
     if bytes.starts_with(&[0xef, 0xbb, 0xbf]) {

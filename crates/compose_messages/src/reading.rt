@@ -17,7 +17,14 @@ use compose_read::{ReadFault, Sources};
 pub fn read_message<'a>(sources: &'a Sources, fault: &ReadFault) -> Message<'a>
     ensures { message_text result ≡ read_message_text sources.now fault.now }
 {
-    let line = fault_line(sources, fault);
+    message_in(sources, fault_line(sources, fault), fault)
+}
+
+/// Returns the message for a fault of these sources, in this line. O(bytes of the line).
+pub(crate) fn message_in<'a>(sources: &'a Sources, line: &'a [u8], fault: &ReadFault) -> Message<'a>
+    requires { line.now ≡ fault_line sources.now fault.now }
+    ensures { message_text result ≡ read_message_text sources.now fault.now }
+{
     match fault {
         ReadFault::MissingRoot => Message::Plain("the manifest lists no file"),
         ReadFault::NotUtf8 { .. } => Message::Plain("the line is not UTF-8"),

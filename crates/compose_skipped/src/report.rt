@@ -5,7 +5,7 @@ ghost use Rattle.compose_skipped.specs.Kept as kept_words;
 
 use crate::kept::others_by;
 use compose_input::TableFiles;
-use compose_messages::{FileMessage, fault_position, read_message};
+use compose_messages::{FaultLines, FileMessage};
 use compose_read::{ReadFault, Sources};
 use std::alloc::{AllocError, Global};
 use std::fmt::Write;
@@ -90,46 +90,47 @@ impl SkippedReport {
     }
 }
 
-/// Adds a line for each of these faults.
+/// Adds a line for each of these faults. O(bytes) if they are in the order of their lines.
 fn push_faults(
-    lines: &mut String,
+    text: &mut String,
     sources: &Sources,
     paths: &[String],
     faults: &[ReadFault],
 ) -> Result<(), AllocError>
     ensures { OnOk result
-        (string_bytes lines.new
-        ≡ string_bytes lines.old
+        (string_bytes text.new
+        ≡ string_bytes text.old
         ++ flat_map (words.skipped_line sources.now (map string_bytes paths.now)) faults.now) }
 {
+    let mut lines = FaultLines::new(sources);
     for fault in faults {
-        push_fault(lines, sources, paths, fault)?;
+        push_fault(text, &mut lines, paths, fault)?;
     }
     Ok(())
 }
 
 /// Adds the line of a fault.
 fn push_fault(
-    lines: &mut String,
-    sources: &Sources,
+    text: &mut String,
+    lines: &mut FaultLines<'_>,
     paths: &[String],
     fault: &ReadFault,
 ) -> Result<(), AllocError>
-    ensures { OnOk result
-        (string_bytes lines.new
-        ≡ string_bytes lines.old
-        ++ words.skipped_line sources.now (map string_bytes paths.now) fault.now) }
+    ensures text { OnOk result
+        (string_bytes text.new
+        ≡ string_bytes text.old
+        ++ words.skipped_line lines.old (map string_bytes paths.now) fault.now) }
+    ensures lines { lines.new ≡ lines.old }
 {
-    let message = read_message(sources, fault);
-    let Some((source, position)) = fault_position(sources, fault) else {
+    let Some(placed) = lines.placed(fault) else {
         return Ok(());
     };
     let reported = FileMessage {
-        path: path_of(paths, source),
-        position: Some(position),
-        message,
+        path: path_of(paths, placed.source),
+        position: Some(placed.position),
+        message: placed.message,
     };
-    writeln!(lines, "{reported}")?;
+    writeln!(text, "{reported}")?;
     Ok(())
 }
 
