@@ -12,7 +12,7 @@ import os
 import re
 import sys
 
-from harness import TOP, build_libraries, follow
+from harness import CLIENT_LIBRARY, TOP, build_libraries, follow
 
 # The head of a script: its name, what it takes, and what it does.
 HEAD = re.compile(r"(\w+)\.py((?: (?:PROGRAM|TRIALS|\[[^\]]*\]))*): (.*?)(?:[.:;](?:\s|$)|$)", re.S)
@@ -67,8 +67,10 @@ def built_libraries():
         print(f"== the library of {crate} is {'not ' * failed}built\n{''.join(lines)}", end="", flush=True)
         if failed:
             return None
-    os.environ.update(COMPOSECHECK_STATIC=folder, COMPOSECHECK_BUILT=os.path.join(folder, "lib"))
-    lines, (_, failed) = follow([sys.executable, os.path.join("lib", "build_library.py"), os.environ["COMPOSECHECK_BUILT"]], is_quiet=True)
+    place = os.path.join(folder, "lib")
+    client = os.path.join(place, os.path.basename(CLIENT_LIBRARY))
+    os.environ.update(COMPOSECHECK_STATIC=folder, COMPOSECHECK_BUILT=place, COMPOSECHECK_CLIENT_LIBRARY=client)
+    lines, (_, failed) = follow([sys.executable, os.path.join("lib", "build_library.py"), place], is_quiet=True)
     print("".join(lines), end="", flush=True)
     return None if failed else folder
 
