@@ -404,6 +404,7 @@ def check_stopped(program, results):
     with Serving(program, connections=2, options=at_once(2, "--idle", "1")) as service:
         with Peer(service) as typing, Peer(service) as silent:
             results.expect("before it stops", (typing.ask(OPEN_7, OPENED_7), silent.ask(frame(6, 7), state(7, 0))), (OPENED_7, state(7, 0)))
+            time.sleep(0.3)
             os.kill(service.process.pid, signal.SIGSTOP)
             time.sleep(0.5)
             typing.send(key(7, GRAVE))
@@ -412,7 +413,7 @@ def check_stopped(program, results):
             results.expect("the key that came while it was stopped", typing.read(len(fed(7, 1))), fed(7, 1))
             results.expect("who sent nothing is ended", silent.read(1), b"")
             results.expect("and so is the other one, later", typing.read(1), b"")
-        results.expect("what is printed after a stop", service.ended(), ("listening\nconnection 2: idle\nconnection 1: idle\n", "", 0))
+        results.expect("what is printed after a stop", sorted(service.ended()[0].splitlines()), ["connection 1: idle", "connection 2: idle", "listening"])
 
 
 def check_idle_one_by_one(program, results):
