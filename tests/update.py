@@ -990,6 +990,13 @@ def try_full_disk(program, tell):
         for call in ("open", "write", "fsync", "rename"):
             with Room(program) as room:
                 given = {"LD_PRELOAD": library, "FAIL": call, "FULL": room.path("full")}
+                if call != "fsync":
+                    room.write("full", "")
+                    room.write("none", "")
+                    made = room.run("make", "-f", "-o", "certificate", "old", "follows", "none", **given)
+                    tell.expect(f"a certificate that can't be written: {call}", made, (2, "", "composecheck: certificate: can't be written: no space left\n"))
+                    tell.expect(f"no part of it is left: {call}", [it for it in os.listdir(room.folder) if it.startswith("certificate")], [])
+                    os.unlink(room.path("full"))
                 room.next_table()
                 room.update("table")
                 room.start("--fresh", "", **given)
