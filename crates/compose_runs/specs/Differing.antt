@@ -126,7 +126,7 @@ IsAcceptRefusal numbered path fault outcome =
     (own : List ℕ) × PrintsErrors (reported_text numbered (codes "refused: accept: " ++ (own ++ 10 ∷ [])) (accept_details (unwrap_or path []) fault)) Refused outcome
 
 abbrev pub IsFaultPrinted : DiffFiles → DiffArguments → List (List ℕ) → DiffFault → Outcome → Type 0
-IsFaultPrinted files arguments fresh (Input refusal) outcome = IsHintedRefusal (is_numbered arguments.form) files fresh refusal (skip_hint arguments.left_out files.both refusal) outcome
+IsFaultPrinted files arguments fresh (Input refusal) outcome = IsHintedRefusal (is_numbered arguments.form) files fresh refusal (skip_hint arguments.left_out refusal) outcome
 IsFaultPrinted files arguments fresh (Accept fault) outcome = IsAcceptRefusal (is_numbered arguments.form) (option_copied arguments.accept) fault outcome
 
 abbrev pub IsDiffPrinted : DiffFiles → DiffArguments → List (List ℕ) → Bool → Result Answer DiffFault → Outcome → Type 0

@@ -1,6 +1,6 @@
 -- The files that commands read, without the faulty lines of tables, and the report of these lines
 -- (this project's profile).
-use Rattle.std.specs.Prelude.{◌≡◌, ◌&&◌, ℕ, Bool, true, false, List, [], ◌∷◌, ◌++◌, take, slice_get, if◌then◌else◌, Option, Some, Result, Ok, Err, string_bytes, codes}
+use Rattle.std.specs.Prelude.{◌≡◌, ◌&&◌, ℕ, Bool, true, false, List, [], ◌∷◌, ◌++◌, take, slice_get, Result, Ok, Err, string_bytes, codes}
 use Rattle.std.specs.List.{list_all}
 use Rattle.std.specs.Option.{option_map_or}
 use Rattle.keysym_core.specs.Header.{names_of}
@@ -11,14 +11,9 @@ use Rattle.compose_read.specs.Lines.{Source}
 use Rattle.compose_read.specs.Read.{max_lines}
 use Rattle.compose_read.specs.declared.ReadFault.{ReadFault}
 use Rattle.compose_read.specs.declared.ReadFault.TheVariants.{NotUtf8, Lex, UnknownKeysym, IgnoredKeysym}
-use Rattle.compose_tree.specs.declared.reading.TableFault.{TableFault}
 use Rattle.compose_tree.specs.declared.reading.TableFault.TheVariants.{Read}
-use Rattle.compose_messages.specs.Hints.{table_hint}
-use Rattle.compose_messages.specs.declared.hints.Hint.{Hint}
-use Rattle.compose_messages.specs.declared.hints.Hint.TheVariants.{Certificate, Repertoire, Manifest, Utf16}
 use Rattle.compose_migration.specs.declared.refusal.Refusal.{Refusal}
 use Rattle.compose_migration.specs.declared.refusal.Refusal.TheVariants.{Side}
-use Rattle.compose_migration.specs.declared.refusal.Side.TheVariants.{Old, New}
 use Rattle.compose_answer.specs.declared.answer.Answer.{Answer}
 use Rattle.compose_arguments.specs.declared.diff_arguments.FaultyLines.{FaultyLines}
 use Rattle.compose_arguments.specs.declared.diff_arguments.FaultyLines.TheVariants.{Nothing}
@@ -79,30 +74,14 @@ line_hint (UnknownKeysym source line index) = skip_option
 line_hint (IgnoredKeysym source line index) = skip_option
 line_hint fault = []
 
-abbrev pub fault_hint : TableFault → List ℕ
-fault_hint (Read fault) = line_hint fault
-fault_hint fault = []
-
--- the file is no Compose file
-abbrev pub is_other_file : Option Hint → Bool
-is_other_file (Some Certificate) = true
-is_other_file (Some Repertoire) = true
-is_other_file (Some Manifest) = true
-is_other_file (Some Utf16) = true
-is_other_file hint = false
-
-abbrev pub table_skip_hint : List Source → TableFault → List ℕ
-table_skip_hint sources fault = if is_other_file (table_hint sources true fault) then [] else fault_hint fault
-
-abbrev pub refusal_hint : MigrationFiles → Refusal → List ℕ
-refusal_hint both (Side Old fault) = table_skip_hint both.old.sources fault
-refusal_hint both (Side New fault) = table_skip_hint both.new.sources fault
-refusal_hint both refusal = []
+abbrev pub refusal_hint : Refusal → List ℕ
+refusal_hint (Side side (Read fault)) = line_hint fault
+refusal_hint refusal = []
 
 -- none with --strict
-abbrev pub skip_hint : FaultyLines → MigrationFiles → Refusal → List ℕ
-skip_hint Nothing both refusal = []
-skip_hint left_out both refusal = refusal_hint both refusal
+abbrev pub skip_hint : FaultyLines → Refusal → List ℕ
+skip_hint Nothing refusal = []
+skip_hint left_out refusal = refusal_hint refusal
 
 -- ---- the files of a command
 

@@ -316,7 +316,7 @@ fn fault_outcome(
     let numbered = is_numbered(arguments.form);
     match fault {
         DiffFault::Input(refusal) => {
-            let hint = skip_hint(arguments.left_out, &files.both, &refusal);
+            let hint = skip_hint(arguments.left_out, &refusal);
             hinted_refusal(alloc, numbered, files, fresh, refusal, hint)
         }
         DiffFault::Accept(fault) => accept_outcome(alloc, numbered, arguments.accept, &fault),

@@ -12,8 +12,6 @@ use compose_answer::{Answer, Refusal};
 use compose_arguments::FaultyLines;
 use compose_diff_rows::DiffFault;
 use compose_input::TableFiles;
-use compose_messages::{Hint, table_hint};
-use compose_migration::Side;
 use compose_read::{ReadFault, Sources, read_faults};
 use compose_report::Outcome;
 use compose_skipped::{SkippedReport, kept_table};
@@ -200,61 +198,29 @@ fn is_unknown_name(fault: &ReadFault) -> bool
     matches!(fault, ReadFault::UnknownKeysym { .. })
 }
 
-/// Returns the hint for a refusal of `diff` on these tables, given which faulty lines it leaves out;
-/// empty if there is none. O(bytes of the faulty source).
-pub(crate) fn skip_hint(
-    left_out: FaultyLines,
-    both: &MigrationFiles<'_>,
-    refusal: &Refusal,
-) -> &'static str
-    ensures { result.now ≡ words.skip_hint left_out both.now refusal.now }
+/// Returns the hint for a refusal of `diff`, given which faulty lines it leaves out; empty if there
+/// is none. O(1).
+pub(crate) fn skip_hint(left_out: FaultyLines, refusal: &Refusal) -> &'static str
+    ensures { result.now ≡ words.skip_hint left_out refusal.now }
 {
     match left_out {
         FaultyLines::Nothing => "",
-        FaultyLines::UnknownNames | FaultyLines::Faulty => refusal_hint(both, refusal),
+        FaultyLines::UnknownNames | FaultyLines::Faulty => refusal_hint(refusal),
     }
 }
 
-/// Returns the hint for a refusal of one of these tables because of a faulty line; empty for another
+/// Returns the hint for a refusal of one of two tables because of a faulty line; empty for another
 /// refusal.
-fn refusal_hint(both: &MigrationFiles<'_>, refusal: &Refusal) -> &'static str
-    ensures { result.now ≡ words.refusal_hint both.now refusal.now }
+fn refusal_hint(refusal: &Refusal) -> &'static str
+    ensures { result.now ≡ words.refusal_hint refusal.now }
 {
     match refusal {
         Refusal::Side {
-            side: Side::Old,
-            fault,
-        } => table_skip_hint(&both.old.sources, fault),
-        Refusal::Side {
-            side: Side::New,
-            fault,
-        } => table_skip_hint(&both.new.sources, fault),
+            fault: TableFault::Read(fault),
+            ..
+        } => line_hint(fault),
         _ => "",
     }
-}
-
-/// Returns the hint for a table that is refused because of a faulty line; empty for another fault,
-/// or if the file is no Compose file at all.
-fn table_skip_hint(sources: &Sources, fault: &TableFault) -> &'static str
-    ensures { result.now ≡ words.table_skip_hint sources.now fault.now }
-{
-    if is_other_file(table_hint(sources, fault, true)) {
-        return "";
-    }
-    match fault {
-        TableFault::Read(fault) => line_hint(fault),
-        _ => "",
-    }
-}
-
-/// Returns whether this hint says that a file is no Compose file.
-fn is_other_file(hint: Option<Hint>) -> bool
-    ensures { result ≡ words.is_other_file hint }
-{
-    matches!(
-        hint,
-        Some(Hint::Certificate | Hint::Repertoire | Hint::Manifest | Hint::Utf16)
-    )
 }
 
 /// Returns the hint for the fault of a line; empty for the fault of an include or of a whole table.
