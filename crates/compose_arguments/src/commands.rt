@@ -104,14 +104,6 @@ const SYSTEM: OptionRow = OptionRow {
     help: "The folder for %S in place of $XLOCALEDIR or /usr/share/X11/locale",
 };
 
-/// `--system` of a command with two tables, which may have different folders.
-const SYSTEMS: OptionRow = OptionRow {
-    name: "system",
-    letter: None,
-    takes: Takes::Values("DIR"),
-    help: "The folder for %S in place of $XLOCALEDIR or /usr/share/X11/locale; given twice, the first is OLD's and the last NEW's",
-};
-
 /// `--locale`: the name of a locale.
 const LOCALE: OptionRow = OptionRow {
     name: "locale",
@@ -141,7 +133,7 @@ const SKIP_FAULTY: OptionRow = OptionRow {
     name: "skip-faulty",
     letter: None,
     takes: Takes::Nothing,
-    help: "Read faulty lines as libxkbcommon does, leave out those that it skips, and report each; the last line says how many",
+    help: "Leave faulty lines out, as libxkbcommon does, and report each; the last line says how many",
 };
 
 /// `--skip-faulty` of a command that skips faulty lines without it too.
@@ -149,7 +141,7 @@ const SKIP_FAULTY_BY_DEFAULT: OptionRow = OptionRow {
     name: "skip-faulty",
     letter: None,
     takes: Takes::Nothing,
-    help: "Read faulty lines as libxkbcommon does, leave out those that it skips, and report each: the default",
+    help: "Leave faulty lines out, as libxkbcommon does, and report each: the default",
 };
 
 /// `--strict`: refuses a table with faulty lines.
@@ -157,7 +149,7 @@ const STRICT: OptionRow = OptionRow {
     name: "strict",
     letter: None,
     takes: Takes::NothingWith(&["skip-faulty"]),
-    help: "Refuse a table that has a faulty line, also one that would be left out",
+    help: "Refuse a table that has a faulty line, in place of leaving the line out",
 };
 
 /// `--files`: Compose files instead of manifests.
@@ -256,7 +248,7 @@ static CHECK: CommandRow = CommandRow {
     about: "Check by a certificate that a new table changes nobody's typing",
     after_help: "With --fresh, a certificate whose fresh keysyms are not all among KEYS is answered no. With --files, names are those of keysymdef.h, unless --names gives others.\nExit status: 0 yes, 1 no, 2 input refused, 3 out of memory\nExample: composecheck check old.manifest new.manifest repertoire certificate",
     options: &[VERBOSE, NAMES, FILES, FRESH],
-    options_of_files: &[OVERLAP, SYSTEMS, LOCALE, ROOTS],
+    options_of_files: &[OVERLAP, SYSTEM, LOCALE, ROOTS],
     arguments: &[OLD, NEW, REPERTOIRE, CERTIFICATE],
 };
 
@@ -324,8 +316,7 @@ static DIFF: CommandRow = CommandRow {
             help: "Colour the lines: on a terminal unless NO_COLOR is set (auto), always, or never",
         },
         SKIP_FAULTY,
-        STRICT,
-        SYSTEMS,
+        SYSTEM,
         LOCALE,
         ROOTS,
     ],
@@ -478,7 +469,7 @@ static EXPLAIN: CommandRow = CommandRow {
             help: "Print every shortest difference, and count them",
         },
     ],
-    options_of_files: &[OVERLAP, SYSTEMS, LOCALE, ROOTS],
+    options_of_files: &[OVERLAP, SYSTEM, LOCALE, ROOTS],
     arguments: &[OLD, NEW],
 };
 
@@ -563,7 +554,7 @@ static MAKE: CommandRow = CommandRow {
             help: "Write the certificate to FILE, whole or not at all",
         },
     ],
-    options_of_files: &[OVERLAP, SYSTEMS, LOCALE, ROOTS],
+    options_of_files: &[OVERLAP, SYSTEM, LOCALE, ROOTS],
     arguments: &[OLD, NEW, REPERTOIRE],
 };
 

@@ -7,8 +7,8 @@ use clap::ArgMatches;
 pub struct DiffArguments<'a> {
     /// The old and the new Compose file.
     pub files: FilePair<'a>,
-    /// Which faulty lines are left out.
-    pub left_out: FaultyLines,
+    /// Whether faulty lines are skipped.
+    pub skip_faulty: bool,
     /// The path of the list of intended changes.
     pub accept: Option<&'a str>,
     /// Whether only those changes are printed whose old text no sequence of the new table produces.
@@ -17,17 +17,6 @@ pub struct DiffArguments<'a> {
     pub form: DiffForm,
     /// When they are printed in colours.
     pub color: DiffColor,
-}
-
-/// Which faulty lines of its tables `diff` leaves out.
-#[derive(Clone, Copy, Debug, PartialEq, Eq)]
-pub enum FaultyLines {
-    /// None: a faulty line refuses its table.
-    Nothing,
-    /// Those with a name that no keysym has, unless a line of either table has another fault.
-    UnknownNames,
-    /// All.
-    Faulty,
 }
 
 /// How `diff` prints changes.
@@ -62,21 +51,12 @@ pub enum DiffColor {
 pub fn diff_arguments<'a>(given: &ArgMatches<'a>) -> Option<DiffArguments<'a>> {
     Some(DiffArguments {
         files: file_pair(given)?,
-        left_out: left_out_of(given),
+        skip_faulty: given.get_flag("skip-faulty"),
         accept: given.get_str("accept"),
         lost: given.get_flag("lost"),
         form: form_of(given),
         color: color_of(given),
     })
-}
-
-/// Returns which faulty lines are to be left out.
-fn left_out_of(given: &ArgMatches<'_>) -> FaultyLines {
-    match (given.get_flag("strict"), given.get_flag("skip-faulty")) {
-        (true, _) => FaultyLines::Nothing,
-        (false, true) => FaultyLines::Faulty,
-        (false, false) => FaultyLines::UnknownNames,
-    }
 }
 
 /// Returns how the changes are to be printed.

@@ -38,12 +38,10 @@ pub struct FilePair<'a> {
     pub new: &'a str,
     /// Whether the longest of overlapping sequences is taken; if not, they are refused.
     pub longest: bool,
+    /// The folder of the system's tables.
+    pub system: Option<&'a str>,
     /// The name of a locale.
     pub locale: Option<&'a str>,
-    /// The folder of the system's tables for the old table.
-    pub old_system: Option<&'a str>,
-    /// The same for the new table.
-    pub new_system: Option<&'a str>,
     /// The folder below which an include's absolute path is looked for first, if a file of the old
     /// table includes it.
     pub old_root: Option<&'a str>,
@@ -84,23 +82,19 @@ pub fn both_tables<'a>(given: &ArgMatches<'a>) -> Option<BothTables<'a>> {
 
 /// Returns the Compose files of the old and the new table, if they are given.
 pub fn file_pair<'a>(given: &ArgMatches<'a>) -> Option<FilePair<'a>> {
-    let (old_system, new_system) = folders_of(given, "system");
-    let (old_root, new_root) = folders_of(given, "root");
+    let (old_root, new_root) = roots_of(given.get_strs("root").unwrap_or(&[]));
     Some(FilePair {
         old: given.get_str("OLD")?,
         new: given.get_str("NEW")?,
         longest: given.get_str("overlap") == Some("longest"),
+        system: given.get_str("system"),
         locale: given.get_str("locale"),
-        old_system,
-        new_system,
         old_root,
         new_root,
     })
 }
 
-/// Returns the folders of this option for the old and the new table: the first and the last of those
-/// that are given.
-fn folders_of<'a>(given: &ArgMatches<'a>, option: &str) -> (Option<&'a str>, Option<&'a str>) {
-    let folders = given.get_strs(option).unwrap_or(&[]);
-    (folders.first().copied(), folders.last().copied())
+/// Returns the roots of the old and the new table: the first and the last of those that are given.
+fn roots_of<'a>(roots: &[&'a str]) -> (Option<&'a str>, Option<&'a str>) {
+    (roots.first().copied(), roots.last().copied())
 }

@@ -32,7 +32,7 @@ mod table_arguments;
 mod update_arguments;
 
 pub use client_arguments::{LoadArguments, SessionArguments};
-pub use diff_arguments::{DiffArguments, DiffColor, DiffForm, FaultyLines};
+pub use diff_arguments::{DiffArguments, DiffColor, DiffForm};
 pub use given_tables::{BothTables, FilePair, TablePaths, TypeTable};
 pub use how_arguments::HowArguments;
 pub use lint_arguments::LintArguments;

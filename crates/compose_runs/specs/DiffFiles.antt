@@ -1,6 +1,7 @@
 -- The Compose files of an old and a new table, and the files of their comparison (defined by this
 -- project).
-use Rattle.std.specs.Prelude.{◌≡◌, ◌&&◌, ◌||◌, ℕ, Bool, true, false, List, [], ◌∷◌, Option, Some, None, bytes_eq, is_some, option_copied, codes}
+use Rattle.std.specs.Prelude.{◌≡◌, ℕ, Bool, true, false, List, [], ◌∷◌, Option, Some, None, option_copied, codes}
+use Rattle.std.proofs.Common.{Bor}
 use Rattle.compose_folder.specs.Content.{Entry, File, IsHeld}
 use Rattle.compose_model.specs.declared.Rule.{Rule}
 use Rattle.compose_model.specs.declared.Rule.TheVariants.{Refuse, Longest}
@@ -25,40 +26,21 @@ abbrev pub rule_by : Bool → Rule
 rule_by true = Longest
 rule_by false = Refuse
 
--- both options have the same value, or both have none
-abbrev pub are_same : Option (List ℕ) → Option (List ℕ) → Bool
-are_same (Some first) (Some second) = bytes_eq first second
-are_same None None = true
-are_same first second = false
+-- the arguments that say where the tables lie, with the root for one of them
+abbrev pub place_arguments : FilePair → Option (Bor (List ℕ)) → PlaceArguments
+place_arguments pair root = record { system = pair.system; locale = pair.locale; root = root }
 
--- both tables are one file that is read from the same folders, some of which are given
-abbrev pub is_itself : FilePair → Bool
-is_itself pair =
-    (is_some pair.new_system || is_some pair.new_root)
-    && bytes_eq pair.old.now pair.new.now
-    && are_same (option_copied pair.old_system) (option_copied pair.new_system)
-    && are_same (option_copied pair.old_root) (option_copied pair.new_root)
-
--- the arguments that say where the files of each table lie
-abbrev pub old_places : FilePair → PlaceArguments
-old_places pair = record { system = pair.old_system; locale = pair.locale; root = pair.old_root }
-
-abbrev pub new_places : FilePair → PlaceArguments
-new_places pair = record { system = pair.new_system; locale = pair.locale; root = pair.new_root }
-
--- the table of the Compose file at this path as it is on the system, in these places and with the
--- rule of the arguments
-pub record IsFoundTable (folder : Option (List Entry)) (environment : Environment) (arguments : PlaceArguments) (longest : Bool) (path : List ℕ) (table : TableFiles) : Type 0 where
+-- the table of the Compose file at this path as it is on the system, with the rule of the arguments
+pub record IsFoundTable (folder : Option (List Entry)) (environment : Environment) (pair : FilePair) (root : Option (Bor (List ℕ))) (path : List ℕ) (table : TableFiles) : Type 0 where
   pub places : Places
-  pub are_places : IsPlaced environment arguments places
-  pub is : IsFoundOnSystem folder places path (rule_by longest) table
+  pub are_places : IsPlaced environment (place_arguments pair root) places
+  pub is : IsFoundOnSystem folder places path (rule_by pair.longest) table
 
--- the given names, or the built-in ones, and both tables, which are not one with itself
+-- the given names, or the built-in ones, and both tables
 pub record AreFoundFiles (folder : Option (List Entry)) (environment : Environment) (names : List (List ℕ)) (pair : FilePair) (files : MigrationFiles) : Type 0 where
-  pub differ : is_itself pair ≡ false
   pub are_names : AreNames folder (names_or_builtin names) files.names
-  pub is_old : IsFoundTable folder environment (old_places pair) pair.longest pair.old.now files.old
-  pub is_new : IsFoundTable folder environment (new_places pair) pair.longest pair.new.now files.new
+  pub is_old : IsFoundTable folder environment pair pair.old_root pair.old.now files.old
+  pub is_new : IsFoundTable folder environment pair pair.new_root pair.new.now files.new
 
 -- the list of intended changes; an empty one if none is given
 abbrev pub IsAccepted : Option (List Entry) → Option (List ℕ) → List ℕ → Type 0

@@ -10,8 +10,6 @@ use Rattle.compose_arguments.specs.declared.diff_arguments.DiffArguments.{DiffAr
 use Rattle.compose_arguments.specs.declared.diff_arguments.DiffForm.{DiffForm}
 use Rattle.compose_arguments.specs.declared.diff_arguments.DiffForm.TheVariants as forms
 use Rattle.compose_arguments.specs.declared.diff_arguments.DiffColor.{DiffColor}
-use Rattle.compose_arguments.specs.declared.diff_arguments.FaultyLines.{FaultyLines}
-use Rattle.compose_arguments.specs.declared.diff_arguments.FaultyLines.TheVariants.{Faulty}
 use Rattle.compose_arguments.specs.declared.diff_arguments.DiffColor.TheVariants.{Auto, Always, Never}
 use Rattle.compose_diff.specs.Colors.{colored_lines}
 use Rattle.compose_diff.specs.declared.accepted.AcceptFault.{AcceptFault}
@@ -32,7 +30,7 @@ use Rattle.compose_runs.specs.Variables.{Decoded}
 use Rattle.compose_runs.specs.DiffFiles.{AreDiffFiles}
 use Rattle.compose_runs.specs.Files.{migration_given, notes_of}
 use Rattle.compose_runs.specs.Losing.{lost_notes}
-use Rattle.compose_runs.specs.Skipping.{IsFollowed, SkipsPair, leaves_unknown, skip_hint}
+use Rattle.compose_runs.specs.Skipping.{IsFollowed, IsKeptPair}
 use Rattle.compose_runs.specs.declared.differing.DiffFiles.{DiffFiles}
 use Rattle.compose_runs.specs.declared.files.MigrationFiles.{MigrationFiles}
 use Rattle.compose_runs.specs.declared.skipping.KeptPair.{KeptPair}
@@ -107,12 +105,6 @@ pub record IsRefusalOutcome (numbered : Bool) (files : DiffFiles) (fresh : List 
   pub parts : IsGiven (parts_of files.both.names fresh (files.both.old ∷ files.both.new ∷ [])) given
   pub is : IsWorded numbered true given (Err refusal) outcome
 
--- the same, followed by a hint
-pub record IsHintedRefusal (numbered : Bool) (files : DiffFiles) (fresh : List (List ℕ)) (refusal : Refusal) (hint : List ℕ) (outcome : Outcome) : Type 0 where
-  pub refused : Outcome
-  pub is : IsRefusalOutcome numbered files fresh refusal refused
-  pub followed : IsFollowed hint refused outcome
-
 -- the refused line of the list of intended changes, and the reason (code 10 ends it)
 abbrev pub accept_details : List ℕ → AcceptFault → List ℕ
 accept_details path (Stale n) = message_at path n (codes "no change of these tables is named by the line") ++ 10 ∷ []
@@ -126,7 +118,7 @@ IsAcceptRefusal numbered path fault outcome =
     (own : List ℕ) × PrintsErrors (reported_text numbered (codes "refused: accept: " ++ (own ++ 10 ∷ [])) (accept_details (unwrap_or path []) fault)) Refused outcome
 
 abbrev pub IsFaultPrinted : DiffFiles → DiffArguments → List (List ℕ) → DiffFault → Outcome → Type 0
-IsFaultPrinted files arguments fresh (Input refusal) outcome = IsHintedRefusal (is_numbered arguments.form) files fresh refusal (skip_hint arguments.left_out refusal) outcome
+IsFaultPrinted files arguments fresh (Input refusal) outcome = IsRefusalOutcome (is_numbered arguments.form) files fresh refusal outcome
 IsFaultPrinted files arguments fresh (Accept fault) outcome = IsAcceptRefusal (is_numbered arguments.form) (option_copied arguments.accept) fault outcome
 
 abbrev pub IsDiffPrinted : DiffFiles → DiffArguments → List (List ℕ) → Bool → Result Answer DiffFault → Outcome → Type 0
@@ -137,47 +129,23 @@ IsDiffPrinted files arguments fresh colored (Err fault) outcome = IsFaultPrinted
 abbrev pub lost_of : MigrationFiles → List ℕ
 lost_of both = lost_notes both.old both.new
 
--- this answer on these files, after the notes on where they lie and on the lines that other readers
+-- the answer on these files, after the notes on where they lie and on the lines that other readers
 -- lose
-pub record IsAnsweredDiff (files : DiffFiles) (arguments : DiffArguments) (fresh : List (List ℕ)) (colored : Bool) (lost : List ℕ) (answered : Result Answer DiffFault) (outcome : Outcome) : Type 0 where
+pub record IsDiffOutcome (files : DiffFiles) (arguments : DiffArguments) (fresh : List (List ℕ)) (colored : Bool) (lost : List ℕ) (outcome : Outcome) : Type 0 where
+  pub answered : Result Answer DiffFault
+  pub is : AnswersDiff (diff_asked files arguments fresh) answered
   pub printed : Outcome
   pub is_printed : IsDiffPrinted files arguments fresh colored answered printed
   pub noted : IsNoted (notes_of files.both ++ lost) printed outcome
 
--- the answer on these files
-pub record IsDiffOutcome (files : DiffFiles) (arguments : DiffArguments) (fresh : List (List ℕ)) (colored : Bool) (lost : List ℕ) (outcome : Outcome) : Type 0 where
-  pub answered : Result Answer DiffFault
-  pub is : AnswersDiff (diff_asked files arguments fresh) answered
-  pub shown : IsAnsweredDiff files arguments fresh colored lost answered outcome
-
--- the same on the files that were read, without their faulty lines; the report of these lines comes
--- last
-pub record IsLeftOutDiff (found : DiffFiles) (arguments : DiffArguments) (fresh : List (List ℕ)) (colored : Bool) (lost : List ℕ) (outcome : Outcome) : Type 0 where
+-- the same on the files that were read, without their faulty lines if these are skipped; the report
+-- of the skipped lines comes last
+pub record IsKeptDiff (found : DiffFiles) (arguments : DiffArguments) (fresh : List (List ℕ)) (colored : Bool) (outcome : Outcome) : Type 0 where
   pub kept : KeptPair
-  pub is_kept : SkipsPair found kept
+  pub is_kept : IsKeptPair arguments.skip_faulty found kept
   pub printed : Outcome
-  pub is : IsDiffOutcome kept.files arguments fresh colored lost printed
+  pub is : IsDiffOutcome kept.files arguments fresh colored (lost_of found.both) printed
   pub followed : IsFollowed (string_bytes kept.skipped) printed outcome
-
--- the answer on all lines; or without the faulty ones, if it is a refusal that these would spare and
--- they are left out
-abbrev pub IsFirstBy : Bool → DiffFiles → DiffArguments → List (List ℕ) → Bool → List ℕ → Result Answer DiffFault → Outcome → Type 0
-IsFirstBy true found arguments fresh colored lost first outcome = IsLeftOutDiff found arguments fresh colored lost outcome
-IsFirstBy false found arguments fresh colored lost first outcome = IsAnsweredDiff found arguments fresh colored lost first outcome
-
-pub record IsFirstDiff (found : DiffFiles) (arguments : DiffArguments) (fresh : List (List ℕ)) (colored : Bool) (lost : List ℕ) (outcome : Outcome) : Type 0 where
-  pub first : Result Answer DiffFault
-  pub is_first : AnswersDiff (diff_asked found arguments fresh) first
-  pub is : IsFirstBy (leaves_unknown arguments.left_out found.both first) found arguments fresh colored lost first outcome
-
--- the same, or without the faulty lines in any case
-abbrev pub IsKeptBy : FaultyLines → DiffFiles → DiffArguments → List (List ℕ) → Bool → List ℕ → Outcome → Type 0
-IsKeptBy Faulty found arguments fresh colored lost outcome = IsLeftOutDiff found arguments fresh colored lost outcome
-IsKeptBy left_out found arguments fresh colored lost outcome = IsFirstDiff found arguments fresh colored lost outcome
-
--- with the notes on the lines that other readers lose of all lines
-abbrev pub IsKeptDiff : DiffFiles → DiffArguments → List (List ℕ) → Bool → Outcome → Type 0
-IsKeptDiff found arguments fresh colored outcome = IsKeptBy arguments.left_out found arguments fresh colored (lost_of found.both) outcome
 
 -- the same on the files in the folder, in this environment
 pub record IsDiffRun (folder : Option (List Entry)) (environment : Environment) (names : List (List ℕ)) (arguments : DiffArguments) (fresh : List (List ℕ)) (outcome : Outcome) : Type 0 where

@@ -1,7 +1,8 @@
 -- Why the files of a command can't be read: the fault is that of the first one that is refused, and
 -- those before it are read (this project's profile). Memory may run out at any time; then nothing
 -- more is known.
-use Rattle.std.specs.Prelude.{◌≡◌, ◌⊎◌, ℕ, Bool, List, [], ◌∷◌, ◌++◌, Option, Some, None, Err, IsTrue, IsUtf8, option_copied, string_bytes, codes}
+use Rattle.std.specs.Prelude.{◌≡◌, ◌⊎◌, ℕ, List, [], ◌∷◌, ◌++◌, Option, Some, None, Err, IsUtf8, option_copied, string_bytes, codes}
+use Rattle.std.proofs.Common.{Bor}
 use Rattle.compose_folder.specs.Content.{Entry, File, IsHeld}
 use Rattle.compose_model.specs.declared.Rule.TheVariants.{Longest}
 use Rattle.compose_arguments.specs.declared.diff_arguments.DiffArguments.{DiffArguments}
@@ -21,7 +22,7 @@ use Rattle.compose_input.specs.declared.fault.Fault.TheVariants.{Word, NoMemory}
 use Rattle.compose_input.specs.declared.names.NameFiles.{NameFiles}
 use Rattle.compose_input.specs.declared.places.Places.{Places}
 use Rattle.compose_input.specs.declared.tables.TableFiles.{TableFiles}
-use Rattle.compose_runs.specs.DiffFiles.{AreFoundFiles, IsFoundTable, is_itself, names_or_builtin, old_places, new_places}
+use Rattle.compose_runs.specs.DiffFiles.{AreFoundFiles, IsFoundTable, names_or_builtin, place_arguments}
 use Rattle.compose_runs.specs.Differing.{is_colored}
 use Rattle.compose_runs.specs.Environment.{IsPlaced, ReturnsColor, places_of}
 use Rattle.compose_runs.specs.Files.{AreMigrationFiles}
@@ -57,8 +58,8 @@ HasFile folder path = (bytes : List ℕ) × IsHeld folder path (File bytes)
 abbrev pub HasMigration : Option (List Entry) → List (List ℕ) → List ℕ → List ℕ → Type 0
 HasMigration folder names old new = (files : MigrationFiles) × AreMigrationFiles folder names old new files
 
-abbrev pub HasFound : Option (List Entry) → Environment → PlaceArguments → Bool → List ℕ → Type 0
-HasFound folder environment arguments longest path = (table : TableFiles) × IsFoundTable folder environment arguments longest path table
+abbrev pub HasFound : Option (List Entry) → Environment → FilePair → Option (Bor (List ℕ)) → List ℕ → Type 0
+HasFound folder environment pair root path = (table : TableFiles) × IsFoundTable folder environment pair root path table
 
 abbrev pub HasPair : Option (List Entry) → Environment → List (List ℕ) → FilePair → Type 0
 HasPair folder environment names pair = (files : MigrationFiles) × AreFoundFiles folder environment names pair files
@@ -91,22 +92,13 @@ abbrev pub FailsTable : Option (List Entry) → Environment → PlaceArguments �
 FailsTable folder environment arguments path fault =
     ((places_of environment ≡ Err tt) × (fault ≡ Word)) ⊎ ((places : Places) × IsPlaced environment arguments places × FailsFound folder places path fault)
 
--- the fault that a table is compared with itself, unless memory runs out for it
-abbrev pub IsItselfFault : Fault → Type 0
-IsItselfFault (faults.Refused part why) =
-    (part.now ≡ codes "new")
-    × (string_bytes why ≡ codes "OLD and NEW are one file in the same folders; --system and --root may be given twice, first for OLD and then for NEW")
-IsItselfFault faults.NoMemory = Unit {0}
-IsItselfFault fault = ⊥
-
--- for two Compose files: they are one in the same folders; the names, the old table, the new one
+-- for two Compose files: the names, the old table, the new one
 abbrev pub FailsPair : Option (List Entry) → Environment → List (List ℕ) → FilePair → Fault → Type 0
 FailsPair folder environment names pair fault =
-    OrMemory (λ f. (IsTrue (is_itself pair) × IsItselfFault f)
-    ⊎ FailNames folder (names_or_builtin names) f
+    OrMemory (λ f. FailNames folder (names_or_builtin names) f
     ⊎ (HasNames folder (names_or_builtin names)
-    × (FailsTable folder environment (old_places pair) pair.old.now f
-    ⊎ (HasFound folder environment (old_places pair) pair.longest pair.old.now × FailsTable folder environment (new_places pair) pair.new.now f)))) fault
+    × (FailsTable folder environment (place_arguments pair pair.old_root) pair.old.now f
+    ⊎ (HasFound folder environment pair pair.old_root pair.old.now × FailsTable folder environment (place_arguments pair pair.new_root) pair.new.now f)))) fault
 
 -- for `make` on Compose files: these, and the repertoire
 abbrev pub FailsMakeFiles : Option (List Entry) → Environment → List (List ℕ) → FilePair → List ℕ → Fault → Type 0

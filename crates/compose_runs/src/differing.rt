@@ -6,7 +6,7 @@ ghost use Rattle.compose_input.specs.Names.{AreNames};
 ghost use Rattle.compose_report.specs.Outcomes.{reported_text};
 ghost use Rattle.compose_runs.specs.DiffFiles.{IsAccepted, names_or_builtin};
 ghost use Rattle.compose_runs.specs.Differing as words;
-ghost use Rattle.compose_runs.specs.Differing.{IsAcceptRefusal, IsAnsweredDiff, IsDiffOutcome, IsDiffPrinted, IsDiffRun, IsFaultPrinted, IsFirstDiff, IsHintedRefusal, IsKeptDiff, IsLeftOutDiff, IsRefusalOutcome, ShowsAnswer, diff_asked};
+ghost use Rattle.compose_runs.specs.Differing.{IsAcceptRefusal, IsDiffOutcome, IsDiffPrinted, IsDiffRun, IsFaultPrinted, IsKeptDiff, IsRefusalOutcome, ShowsAnswer, diff_asked};
 ghost use Rattle.compose_runs.specs.Environment.{ReturnsColor};
 ghost use Rattle.compose_runs.specs.Faults.{FailsAccepted, FailsDiff, FailsDiffRun};
 ghost use Rattle.compose_runs.specs.Files.{notes_of};
@@ -15,9 +15,9 @@ use crate::environment::Environment;
 use crate::files::MigrationFiles;
 use crate::losing::lost_notes;
 use crate::one_table::joined;
-use crate::skipping::{KeptPair, followed, leaves_unknown, skip_hint};
+use crate::skipping::{KeptPair, followed};
 use compose_answer::{Answer, Ended, Refusal};
-use compose_arguments::{DiffArguments, DiffColor, DiffForm, FaultyLines};
+use compose_arguments::{DiffArguments, DiffColor, DiffForm};
 use compose_details::{Given, GivenTable};
 use compose_diff::{AcceptFault, colored_text};
 use compose_diff_rows::{DiffFault, DiffInput, Form, diff_migration};
@@ -57,7 +57,7 @@ pub fn run_diff<T: BuildTable, F: Folder>(
 }
 
 /// Returns the outcome of `diff`, once the files are read; without the faulty lines of both tables,
-/// if these are left out.
+/// if these are skipped.
 fn kept_outcome<T: BuildTable>(
     alloc: Global,
     files: DiffFiles<'_>,
@@ -70,50 +70,8 @@ fn kept_outcome<T: BuildTable>(
         colored outcome) }
 {
     let lost = lost_of(alloc, &files.both)?;
-    match arguments.left_out {
-        FaultyLines::Faulty => left_out_outcome::<T>(alloc, files, arguments, fresh, colored, lost),
-        FaultyLines::UnknownNames | FaultyLines::Nothing => {
-            first_outcome::<T>(alloc, files, arguments, fresh, colored, lost)
-        }
-    }
-}
-
-/// Returns the outcome of `diff` on all lines, or without the faulty ones if each of these has a
-/// name that no keysym has, and they are left out.
-fn first_outcome<T: BuildTable>(
-    alloc: Global,
-    files: DiffFiles<'_>,
-    arguments: &DiffArguments<'_>,
-    fresh: &[&str],
-    colored: bool,
-    lost: String,
-) -> Result<Outcome, AllocError>
-    ensures { IfOk result
-        (λ outcome. IsFirstDiff files.entry arguments.now (map (λ name. name.now) fresh.now)
-        colored (string_bytes lost) outcome) }
-{
-    let answered = diff_answer::<T>(alloc, &files, arguments, fresh);
-    if leaves_unknown(alloc, arguments.left_out, &files.both, &answered)? {
-        return left_out_outcome::<T>(alloc, files, arguments, fresh, colored, lost);
-    }
-    answered_outcome(alloc, &files, arguments, fresh, colored, answered, lost)
-}
-
-/// Returns the outcome of `diff` without the faulty lines of both tables, followed by the report of
-/// these.
-fn left_out_outcome<T: BuildTable>(
-    alloc: Global,
-    files: DiffFiles<'_>,
-    arguments: &DiffArguments<'_>,
-    fresh: &[&str],
-    colored: bool,
-    lost: String,
-) -> Result<Outcome, AllocError>
-    ensures { IfOk result
-        (λ outcome. IsLeftOutDiff files.entry arguments.now (map (λ name. name.now) fresh.now)
-        colored (string_bytes lost) outcome) }
-{
-    let KeptPair { files, skipped } = KeptPair::of(alloc, files)?;
+    let kept = KeptPair::of(alloc, arguments.skip_faulty, files)?;
+    let KeptPair { files, skipped } = kept;
     let printed = diff_outcome::<T>(alloc, &files, arguments, fresh, colored, lost)?;
     followed(printed, &skipped)
 }
@@ -243,24 +201,6 @@ fn diff_outcome<T: BuildTable>(
         colored (string_bytes lost) outcome) }
 {
     let answered = diff_answer::<T>(alloc, files, arguments, fresh);
-    answered_outcome(alloc, files, arguments, fresh, colored, answered, lost)
-}
-
-/// Returns the outcome of this answer or fault on these files, with notes on the lines that other
-/// readers of Compose files lose.
-fn answered_outcome(
-    alloc: Global,
-    files: &DiffFiles<'_>,
-    arguments: &DiffArguments<'_>,
-    fresh: &[&str],
-    colored: bool,
-    answered: Result<Answer, DiffFault>,
-    lost: String,
-) -> Result<Outcome, AllocError>
-    ensures { IfOk result
-        (λ outcome. IsAnsweredDiff files.now arguments.now (map (λ name. name.now) fresh.now)
-        colored (string_bytes lost) answered outcome) }
-{
     let printed = printed_outcome(alloc, files, arguments, fresh, colored, answered)?;
     let notes = diff_notes(alloc, &files.both, lost)?;
     Ok(printed.with_notes(notes))
@@ -315,10 +255,7 @@ fn fault_outcome(
 {
     let numbered = is_numbered(arguments.form);
     match fault {
-        DiffFault::Input(refusal) => {
-            let hint = skip_hint(arguments.left_out, &refusal);
-            hinted_refusal(alloc, numbered, files, fresh, refusal, hint)
-        }
+        DiffFault::Input(refusal) => refusal_outcome(alloc, numbered, files, fresh, refusal),
         DiffFault::Accept(fault) => accept_outcome(alloc, numbered, arguments.accept, &fault),
     }
 }
@@ -387,23 +324,6 @@ fn in_colors(alloc: Global, answer: Answer) -> Result<Answer, AllocError>
         Answer::No(text) => Ok(Answer::No(colored_text(alloc, &text)?)),
         answer => Ok(answer),
     }
-}
-
-/// Returns the outcome of a refusal of the tables, followed by this hint.
-fn hinted_refusal(
-    alloc: Global,
-    numbered: bool,
-    files: &DiffFiles<'_>,
-    fresh: &[&str],
-    refusal: Refusal,
-    hint: &str,
-) -> Result<Outcome, AllocError>
-    ensures { IfOk result
-        (λ outcome. IsHintedRefusal numbered files.now (map (λ name. name.now) fresh.now) refusal
-        hint.now outcome) }
-{
-    let refused = refusal_outcome(alloc, numbered, files, fresh, refusal)?;
-    followed(refused, hint)
 }
 
 /// Returns the outcome of a refusal of the tables, with each faulty line of the input; for people

@@ -1,9 +1,8 @@
 //! The files of an old and a new table.
-ghost use Rattle.std.specs.Prelude.{◌≡◌, ◌++◌, map, false, IfOk, IfErr, IsTrue, option_copied, string_bytes};
+ghost use Rattle.std.specs.Prelude.{◌≡◌, ◌++◌, map, IfOk, IfErr, string_bytes};
 ghost use Rattle.compose_migration.specs.Values.{given_of};
-ghost use Rattle.compose_runs.specs.DiffFiles.{IsFoundTable, rule_by};
-ghost use Rattle.compose_runs.specs.DiffFiles as words;
-ghost use Rattle.compose_runs.specs.Faults.{FailsTable, IsItselfFault};
+ghost use Rattle.compose_runs.specs.DiffFiles.{IsFoundTable, place_arguments, rule_by};
+ghost use Rattle.compose_runs.specs.Faults.{FailsTable};
 
 use crate::differing::read_names;
 use crate::environment::{Environment, PlaceArguments};
@@ -14,10 +13,6 @@ use compose_input::{Fault, NameFiles, TableFiles};
 use compose_migration::MigrationInput;
 use compose_model::Rule;
 use std::alloc::{AllocError, Global};
-
-/// Why a table is not compared with itself.
-const ITSELF: &str =
-    "OLD and NEW are one file in the same folders; --system and --root may be given twice, first for OLD and then for NEW";
 
 /// The files of names, and those of an old and a new table.
 #[derive(Drop)]
@@ -53,8 +48,7 @@ impl<'n> MigrationFiles<'n> {
         Ok(MigrationFiles { names, old, new })
     }
 
-    /// Reads the files of names, and both Compose files as they are on the system. If both are one
-    /// file, and an option for folders that is given for both too, that is refused.
+    /// Reads the files of names, and both Compose files as they are on the system.
     pub(crate) fn found<F: Folder>(
         files: &mut ReadOnce<F>,
         alloc: Global,
@@ -70,34 +64,10 @@ impl<'n> MigrationFiles<'n> {
             (λ fault. FailsPair files.old.holds environment.now
             (map (λ name. name.now) names.now) pair.now fault) }
     {
-        check_sides(alloc, pair)?;
-        let old_places = PlaceArguments {
-            system: pair.old_system,
-            locale: pair.locale,
-            root: pair.old_root,
-        };
-        let new_places = PlaceArguments {
-            system: pair.new_system,
-            locale: pair.locale,
-            root: pair.new_root,
-        };
+        let (old_root, new_root) = (pair.old_root, pair.new_root);
         let names = read_names(files, alloc, names)?;
-        let old = read_table(
-            files,
-            alloc,
-            environment,
-            old_places,
-            pair.longest,
-            pair.old,
-        )?;
-        let new = read_table(
-            files,
-            alloc,
-            environment,
-            new_places,
-            pair.longest,
-            pair.new,
-        )?;
+        let old = read_table(files, alloc, environment, pair, old_root, pair.old)?;
+        let new = read_table(files, alloc, environment, pair, new_root, pair.new)?;
         Ok(MigrationFiles { names, old, new })
     }
 
@@ -122,66 +92,29 @@ impl<'n> MigrationFiles<'n> {
     }
 }
 
-/// Refuses a comparison of a table with itself, for which folders are given.
-fn check_sides(alloc: Global, pair: &FilePair<'_>) -> Result<(), Fault>
-    ensures differ { IfOk result (λ _. words.is_itself pair.now ≡ false) }
-    ensures fault { IfErr result
-        (λ fault. IsTrue (words.is_itself pair.now) × IsItselfFault fault) }
-{
-    if is_itself(pair) {
-        return Err(itself_fault(alloc));
-    }
-    Ok(())
-}
-
-/// Returns the fault that a table is compared with itself.
-fn itself_fault(alloc: Global) -> Fault
-    ensures { IsItselfFault result }
-{
-    Fault::refused("new", String::from_str(alloc, ITSELF))
-}
-
-/// Returns whether both tables are one file that is read from the same folders, some of which are
-/// given. Such a comparison finds nothing, whatever was meant with the folders.
-fn is_itself(pair: &FilePair<'_>) -> bool
-    ensures { result ≡ words.is_itself pair.now }
-{
-    let are_given = pair.new_system.is_some() || pair.new_root.is_some();
-    are_given
-        && pair.old == pair.new
-        && are_same(pair.old_system, pair.new_system)
-        && are_same(pair.old_root, pair.new_root)
-}
-
-/// Returns whether both options have the same value, or both have none.
-fn are_same(first: Option<&str>, second: Option<&str>) -> bool
-    ensures { result ≡ words.are_same (option_copied first.entry) (option_copied second.entry) }
-{
-    match (first, second) {
-        (Some(first), Some(second)) => first == second,
-        (None, None) => true,
-        _ => false,
-    }
-}
-
-/// Reads the table at this path as it is on the system, in these places.
+/// Reads the table at this path as it is on the system; an include's absolute path is looked for
+/// below the root first.
 fn read_table<F: Folder>(
     files: &mut ReadOnce<F>,
     alloc: Global,
     environment: &Environment,
-    arguments: PlaceArguments<'_>,
-    longest: bool,
+    pair: &FilePair<'_>,
+    root: Option<&str>,
     path: &str,
 ) -> Result<TableFiles, Fault>
     ensures kept { files.new.holds ≡ files.old.holds }
     ensures read { IfOk result
-        (λ table. IsFoundTable files.old.holds environment.now arguments.entry longest path.now
-        table) }
+        (λ table. IsFoundTable files.old.holds environment.now pair.now root.entry path.now table) }
     ensures fault { IfErr result
-        (λ fault. FailsTable files.old.holds environment.now arguments.entry path.now fault) }
+        (λ fault. FailsTable files.old.holds environment.now (place_arguments pair.now root.entry)
+        path.now fault) }
 {
-    let places = environment.places(arguments)?;
-    TableFiles::found(files, alloc, places, path, rule_of(longest))
+    let places = environment.places(PlaceArguments {
+        system: pair.system,
+        locale: pair.locale,
+        root,
+    })?;
+    TableFiles::found(files, alloc, places, path, rule_of(pair.longest))
 }
 
 /// Returns the rule for overlapping sequences.

@@ -1,14 +1,12 @@
-use Rattle.std.proofs.Common.{map}
-use Rattle.compose_report.proofs.Results.{ok_map}
-use Rattle.compose_runs.specs.Differing.{IsAnsweredDiff, IsDiffOutcome}
+use Rattle.std.proofs.Common.{subst}
+use Rattle.compose_report.specs.Outcomes.{IsNoted}
 use Rattle.compose_runs.proofs.differing.diff_outcome.Goals as goal
 
 pub returns : goal.returns
-returns g c =
-    let fresh = map (λ name. name.now) c.args.fresh.now in let answered = c.diff_answer-answered.result in
-    ok_map (IsAnsweredDiff c.args.files.now c.args.arguments.now fresh c.args.colored c.args.lost answered) (IsDiffOutcome c.args.files.now c.args.arguments.now fresh c.args.colored c.args.lost) c.answered_outcome.result
-    (λ outcome shown. record {
-      answered = answered;
-      is = c.diff_answer-answered.ensures;
-      shown = shown;
-    }) c.answered_outcome.ensures
+returns g c = record {
+  answered = c.diff_answer-answered.result;
+  is = c.diff_answer-answered.ensures;
+  printed = c.in_ok-printed.printed;
+  is_printed = c.in_ok-printed.ensures;
+  noted = subst (λ notes. IsNoted notes c.in_ok-printed.printed c.with_notes.result) c.in_ok-notes.ensures c.with_notes.ensures;
+}
