@@ -12,7 +12,7 @@
 # make dist           packs the proved program for others into packages/, as an archive
 # make deb            the same, as a Debian package, and one each for the engine of IBus and the addon of fcitx5, and three for the C libraries
 # make test-packages  looks at what the packages hold
-# make desk           types into windows through IBus and fcitx5, on displays that nobody sees (docs/TYPING.md)
+# make desk           types into windows through IBus and fcitx5, also in GNOME Shell and KWin, on displays that nobody sees (docs/TYPING.md)
 # make names          writes the built-in names anew from HEADERS (those in packaging/xorgproto), and prints what changed
 # make compose_trials proves and builds ./compose_trials, which `make real` and `make bench` need too
 # make real           runs the program on the tables that Debian ships, its newest ones too, and types in other readers of Compose files beside it
@@ -137,7 +137,7 @@ without-ibus:
 
 # (an engine of IBus has settings, whose schemas are compiled where they are installed)
 install-ibus install-fcitx5: install-%: composecheck install-client lib-client
-	cmake -S $* -B packages/$* -DCMAKE_BUILD_TYPE=Release -DCOMPOSECHECK_CLIENT_FOLDER=$(CURDIR)/build/lib -DCMAKE_INSTALL_PREFIX=$(PREFIX) -DCOMPOSECHECK_VERSION=$$(./composecheck --version | cut -d ' ' -f 2)
+	cmake -S $* -B packages/$* -DCMAKE_BUILD_TYPE=Release -DCOMPOSECHECK_CLIENT_FOLDER=$(CURDIR)/build/lib -DCMAKE_INSTALL_PREFIX=$(PREFIX) -DCOMPOSECHECK_VERSION=$$(./composecheck --version | sed -n '1s/.* //p')
 	cmake --build packages/$*
 	cmake --install packages/$* --strip
 	$(if $(DESTDIR)$(filter fcitx5,$*),,-glib-compile-schemas $(SCHEMAS))

@@ -25,6 +25,7 @@ SKIPPED = 77
 SERVICE, SOCKET = "composecheck.service", "composecheck.socket"
 
 SOURCES = ("org.gnome.desktop.input-sources", "sources")
+TAKEN_BACK = (0, "composecheck is not used any more. `use.sh` takes a Compose file into use again.\n", "")
 FIRST = '<Multi_key> <apostrophe> <e> : "ⓔ"\n'
 SECOND = FIRST + '<Multi_key> <apostrophe> <a> : "ⓐ"\n'
 THIRD = SECOND + '<Multi_key> <apostrophe> <o> : "ⓞ"\n'
@@ -232,11 +233,11 @@ def check_use(user, results):
     results.expect("a file that changes typing is refused", (status, out.splitlines()[:1], err.startswith("use.sh: the table in use stays")), (1, ["keys Multi_key apostrophe e"], True))
     check_other_file(user, watch, results)
     check_sources(user, path, results)
-    results.expect("all is taken back", user.script("unuse.sh")[0], 0)
+    results.expect("all is taken back", user.script("unuse.sh"), TAKEN_BACK)
     results.expect("no unit is left", [user.systemctl("is-enabled", it)[1] for it in (*units, SERVICE)], ["disabled\n"] * 3)
     results.expect("nothing runs", [user.shown(it, "ActiveState") for it in (*units, SERVICE)], ["inactive"] * 3)
     results.expect("no table is left", (os.path.exists(user.state), os.path.exists(user.socket)), (False, False))
-    results.expect("it can be taken back again", user.script("unuse.sh")[0], 0)
+    results.expect("it can be taken back again", user.script("unuse.sh"), TAKEN_BACK)
     os.remove(user.path(".XCompose"))
 
 
@@ -261,7 +262,7 @@ def check_machine(user, results):
     results.expect("a table that is stored is enough", user.types("apostrophe", "a"), "ⓐ")
     shutil.rmtree(user.path(f".config/systemd/user/{SERVICE}.d"))
     user.systemctl("daemon-reload")
-    results.expect("all is taken back again", user.script("unuse.sh")[0], 0)
+    results.expect("all is taken back again", user.script("unuse.sh"), TAKEN_BACK)
 
 
 def check_other_file(user, watch, results):
@@ -286,7 +287,7 @@ def check_sources(user, path, results):
     command = re.search(r"gsettings set .*", out)
     results.expect("the engines of the layouts are named", (status, command is not None and engines in command[0]), (0, True))
     results.expect("the command sets them", (user.run("env", "GSETTINGS_BACKEND=keyfile", "sh", "-c", command[0])[0], user.sources()), (0, engines))
-    results.expect("unuse.sh", user.script("unuse.sh", **given)[0], 0)
+    results.expect("unuse.sh", user.script("unuse.sh", **given), TAKEN_BACK)
     results.expect("the layouts are there again", user.sources(), chosen)
 
 

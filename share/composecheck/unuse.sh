@@ -18,15 +18,16 @@ change() {
     [ "$before" = "$after" ] || gsettings set "$1" "$2" "$after" || status=1
 }
 
+# (a job that another one takes the place of is a fault of systemctl; what counts is what is there at the end)
 for it in "$wants"/composecheck-update@*.path; do
-    [ ! -L "$it" ] || systemctl --user --quiet disable --now "${it##*/}" || status=1
+    [ ! -L "$it" ] || systemctl --user --quiet disable --now "${it##*/}"
 done
-systemctl --user --quiet stop 'composecheck-update@*' || status=1
-systemctl --user --quiet disable --now composecheck.socket composecheck.service || status=1
-for it in table previous next shown lock; do
-    rm -f "$state/$it" || status=1
+systemctl --user --quiet disable --now composecheck.socket composecheck.service
+systemctl --user --quiet stop 'composecheck-update@*'
+for it in composecheck.socket composecheck.service; do
+    ! systemctl --user --quiet is-active "$it" && ! systemctl --user --quiet is-enabled "$it" 2> /dev/null || status=1
 done
-[ ! -d "$state" ] || rmdir "$state" || status=1
+rm -rf "$state" || status=1
 
 # (the last two leave no comma where an engine without a layout was)
 for it in sources mru-sources; do

@@ -1,5 +1,6 @@
 #!/usr/bin/env python3
-"""run.py PROGRAM: all trials that need a desktop, on displays that nobody sees: IBus and fcitx5 on X11, fcitx5 on Wayland, and what a key takes.
+"""run.py PROGRAM: all trials that need a desktop, on displays that nobody sees: IBus and fcitx5 on X11 and Wayland, GNOME Shell, KWin, browsers, and
+what a key takes.
 What they need of Debian is installed by apt-get where root runs this; else the command is printed. Pictures of what is pending are put into
 packages/pictures. The last line is `N passed, M failed`."""
 import os
@@ -12,12 +13,15 @@ HERE = os.path.dirname(os.path.realpath(__file__))
 TOP = os.path.dirname(os.path.dirname(HERE))
 PICTURES = os.path.join(TOP, "packages", "pictures")
 NEEDED = (
-    "cmake", "dbus-daemon", "fcitx5", "fcitx5-frontend-gtk3", "fcitx5-frontend-gtk4", "fonts-dejavu-core", "g++", "gir1.2-gtk-3.0", "gir1.2-gtk-4.0",
-    "gir1.2-ibus-1.0", "grim", "ibus", "ibus-gtk3", "ibus-gtk4", "imagemagick", "libfcitx5core-dev", "libglib2.0-bin", "libibus-1.0-dev", "pkg-config",
-    "python3-gi", "sway", "wtype", "x11-xkb-utils", "xdotool", "xvfb",
+    "chromium", "cmake", "dbus-daemon", "fcitx5", "fcitx5-frontend-gtk3", "fcitx5-frontend-gtk4", "firefox-esr", "fonts-dejavu-core", "g++",
+    "gir1.2-gtk-3.0", "gir1.2-gtk-4.0", "gir1.2-ibus-1.0", "gnome-shell", "grim", "ibus", "ibus-gtk3", "ibus-gtk4", "imagemagick", "kwin-wayland",
+    "libfcitx5core-dev", "libglib2.0-bin", "libibus-1.0-dev", "pkg-config", "python3-gi", "sway", "wtype", "x11-xkb-utils", "xdotool", "xvfb",
 )
 SHOWN = ("--pictures", PICTURES)
-TRIALS = (("trial.py", *SHOWN), ("trial.py", "--fcitx5", *SHOWN), ("trial.py", "--fcitx5", "--sway", *SHOWN), ("measure.py",))
+TRIALS = (
+    ("trial.py", *SHOWN), ("trial.py", "--fcitx5", *SHOWN), ("trial.py", "--sway", *SHOWN), ("trial.py", "--fcitx5", "--sway", *SHOWN),
+    ("gnome.py",), ("kde.py",), ("browsers.py",), ("measure.py",),
+)
 
 
 def missing():
