@@ -122,7 +122,7 @@ install: composecheck install-lib $(if $(IBUS_LACKS),without-ibus,install-ibus)
 	install -D -m 644 docs/composecheck.1 $(DESTDIR)$(PREFIX)/share/man/man1/composecheck.1
 	install -D -m 644 docs/composecheck.5 $(DESTDIR)$(PREFIX)/share/man/man5/composecheck.5
 	install -D -m 644 -t $(DESTDIR)$(PREFIX)/share/composecheck $(wildcard share/composecheck/*.*)
-	chmod 755 $(DESTDIR)$(PREFIX)/share/composecheck/ci.sh $(DESTDIR)$(PREFIX)/share/composecheck/update.sh
+	chmod 755 $(DESTDIR)$(PREFIX)/share/composecheck/*.sh
 	install -D -m 644 -t $(DESTDIR)$(PREFIX)/share/composecheck/repertoires $(wildcard share/composecheck/repertoires/*)
 	install -D -m 644 -t $(DESTDIR)$(PREFIX)/share/composecheck/ci $(wildcard share/composecheck/ci/*)
 	install -D -m 644 -t $(DESTDIR)$(PREFIX)/lib/systemd/user $(addprefix share/composecheck/,$(UNITS))
@@ -140,13 +140,19 @@ install-ibus install-fcitx5: install-%: composecheck install-client lib-client
 	cmake -S $* -B packages/$* -DCMAKE_BUILD_TYPE=Release -DCOMPOSECHECK_CLIENT_FOLDER=$(CURDIR)/build/lib -DCMAKE_INSTALL_PREFIX=$(PREFIX) -DCOMPOSECHECK_VERSION=$$(./composecheck --version | cut -d ' ' -f 2)
 	cmake --build packages/$*
 	cmake --install packages/$* --strip
-	$(if $(DESTDIR)$(filter fcitx5,$*),,-glib-compile-schemas $(PREFIX)/share/glib-2.0/schemas)
+	$(if $(DESTDIR)$(filter fcitx5,$*),,-glib-compile-schemas $(SCHEMAS))
 
+SCHEMAS = $(DESTDIR)$(PREFIX)/share/glib-2.0/schemas
+
+# (cmake puts the addon of fcitx5 into the system's own folder of libraries. Schemas that are left are compiled anew)
 uninstall:
 	rm -rf $(DESTDIR)$(PREFIX)/share/composecheck $(DESTDIR)$(PREFIX)/share/ibus-composecheck
 	rm -f $(DESTDIR)$(PREFIX)/libexec/ibus-engine-composecheck $(DESTDIR)$(PREFIX)/libexec/ibus-setup-composecheck
 	rm -f $(DESTDIR)$(PREFIX)/share/ibus/component/composecheck.xml $(DESTDIR)$(PREFIX)/share/icons/hicolor/scalable/apps/ibus-composecheck.svg
-	rm -f $(DESTDIR)$(PREFIX)/share/glib-2.0/schemas/$(IBUS_ID).gschema.xml $(DESTDIR)$(PREFIX)/share/metainfo/$(IBUS_ID).metainfo.xml
+	rm -f $(SCHEMAS)/$(IBUS_ID).gschema.xml $(DESTDIR)$(PREFIX)/share/metainfo/$(IBUS_ID).metainfo.xml
+	$(if $(DESTDIR),,-if ls $(SCHEMAS)/*.xml > /dev/null 2>&1; then glib-compile-schemas $(SCHEMAS); else rm -f $(SCHEMAS)/gschemas.compiled; fi)
+	rm -f $(DESTDIR)$(PREFIX)/lib*/fcitx5/composecheck.so $(DESTDIR)$(PREFIX)/lib/*/fcitx5/composecheck.so
+	rm -f $(DESTDIR)$(PREFIX)/share/fcitx5/addon/composecheck.conf
 	$(if $(MODULES),rm -f $(addprefix $(DESTDIR)$(MODULES)/,$(notdir $(MODULE_FILES))))
 	rm -f $(DESTDIR)$(PREFIX)/bin/composecheck $(DESTDIR)$(PREFIX)/share/man/man1/composecheck.1 $(DESTDIR)$(PREFIX)/share/man/man5/composecheck.5
 	rm -f $(addprefix $(DESTDIR)$(PREFIX)/lib/systemd/user/,$(UNITS))

@@ -5,6 +5,7 @@ Each table, with its certificate where it has one, fits the greatest payload of 
 service, which answers nobody else until it is done. A case that takes more than SECONDS (60 if none are given) is stopped.
 
 At the end it types on a service while clients send dear loads without a pause: how long a key waits, beside none, one and eight of them.
+And it types while a connection with 4,095 sessions ends that end with it, beside a load of 5,000 sequences.
 
 With `write FOLDER` in place of PROGRAM the files of all cases are written there, each with its command in `command`."""
 import multiprocessing
@@ -245,6 +246,58 @@ def type_beside_loads(program):
             service.kill()
 
 
+# ---- the end of a connection with many sessions
+
+# As many sessions as may be open beside one, opened in batches of this number; and this number of keys are timed while they are closed.
+SESSIONS, BATCH, KEYS_AT_END = 4_095, 585, 20
+
+
+def open_sessions(connection):
+    """Opens as many sessions on the connection as may be open beside the session 0."""
+    for first in range(1, SESSIONS, BATCH):
+        connection.sendall(b"".join(frame(1, number) for number in range(first, first + BATCH)))
+        for _ in range(BATCH):
+            assert read_exactly(connection, 9)[0] == 0x81
+
+
+def read_exactly(connection, count):
+    got = b""
+    while len(got) < count:
+        got += connection.recv(count - len(got))
+    return got
+
+
+def seconds_of(connection, request):
+    """How long a request takes to be answered."""
+    start = time.perf_counter()
+    connection.sendall(request)
+    read_reply(connection)
+    return time.perf_counter() - start
+
+
+def end_beside_keys(program):
+    """Prints how long a key waits at most while a connection with 4,095 sessions ends, and how long a load of 5,000 sequences takes then."""
+    text = "".join(f'<U{0x1000 + index // 64:04X}><U{0x3000 + index % 64:04X}>:"x"\n' for index in range(5_000))
+    with tempfile.TemporaryDirectory() as folder:
+        write(folder, table(root=text) | {"repertoire": b""})
+        made = subprocess.run([program, "make", "-o", "certificate", "table", "table", "repertoire"], cwd=folder, capture_output=True)
+        assert made.returncode == 0, made.stderr
+        with open(os.path.join(folder, "certificate"), "rb") as file:
+            load = frame(5, 0, bundle({"root": text}, file.read()))
+        words = [program, "serve", "--at-once", "2", "--own-sessions", "table", "repertoire", "certificate", "socket", "2"]
+        with subprocess.Popen(words, cwd=folder, stdout=subprocess.PIPE) as service:
+            assert service.stdout.readline() == b"listening\n"
+            path, key = os.path.join(folder, "socket"), frame(2, 0, struct.pack(">I", 0x62))
+            with connected(path) as typing, connected(path) as many:
+                seconds_of(typing, frame(1, 0))
+                open_sessions(many)
+                loading = seconds_of(typing, load)
+                many.close()
+                waiting = max(seconds_of(typing, key) for _ in range(KEYS_AT_END))
+            service.kill()
+    print(f"a key while a connection with {SESSIONS:,} sessions ends: {1000 * waiting:.3f} ms at most; a load of 5,000 sequences: {1000 * loading:.3f} ms", flush=True)
+
+
 def write(folder, files):
     os.makedirs(folder, exist_ok=True)
     for name, content in files.items():
@@ -281,6 +334,7 @@ def main():
         took = f"{seconds:8.2f} s" if seconds is not None else f" more than {most:.0f} s"
         print(f"{case.__name__:32} {size:9,} bytes {took}  {printed.decode(errors='replace').strip()}", flush=True)
     type_beside_loads(program)
+    end_beside_keys(program)
 
 
 if __name__ == "__main__":

@@ -42,7 +42,7 @@ UNITS = ("composecheck.service", "composecheck.socket", "composecheck-update@.pa
 SCRIPTS = ("postinst", "prerm")
 # Which files of the C library programs are built with; the others are needed where they run.
 DEVELOPMENT = (".a", ".h", ".pc", "/libcomposecheck.so", "/libcomposecheck-client.so")
-PROGRAMS = ("bin/composecheck", "/ci.sh", "/update.sh", "/ibus-engine-composecheck", "/ibus-setup-composecheck")
+PROGRAMS = ("bin/composecheck", ".sh", "/ibus-engine-composecheck", "/ibus-setup-composecheck")
 
 
 # What is built with the headers of an input method, by the folder of its sources: the name that pkg-config has for these, and the package of Debian.

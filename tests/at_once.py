@@ -399,6 +399,23 @@ def check_idle(program, results):
         results.expect("what is printed of them", lines, ["connection 1: idle", "connection 2: idle", "connection 3: ended", "listening"])
 
 
+def check_stopped(program, results):
+    """A service that is stopped for longer than a connection may be idle reads what came in the meantime before it ends anybody."""
+    with Serving(program, connections=2, options=at_once(2, "--idle", "1")) as service:
+        with Peer(service) as typing, Peer(service) as silent:
+            results.expect("before it stops", (typing.ask(OPEN_7, OPENED_7), silent.ask(frame(6, 7), state(7, 0))), (OPENED_7, state(7, 0)))
+            time.sleep(0.3)
+            os.kill(service.process.pid, signal.SIGSTOP)
+            time.sleep(0.5)
+            typing.send(key(7, GRAVE))
+            time.sleep(1.5)
+            os.kill(service.process.pid, signal.SIGCONT)
+            results.expect("the key that came while it was stopped", typing.read(len(fed(7, 1))), fed(7, 1))
+            results.expect("who sent nothing is ended", silent.read(1), b"")
+            results.expect("and so is the other one, later", typing.read(1), b"")
+        results.expect("what is printed after a stop", sorted(service.ended()[0].splitlines()), ["connection 1: idle", "connection 2: idle", "listening"])
+
+
 def check_idle_one_by_one(program, results):
     """Without --at-once a client waits until the one before it was idle for so long."""
     with Serving(program, connections=2, options=("--idle", "1")) as service:
@@ -488,6 +505,7 @@ def main():
         check_unread_output(program, results, options)
         check_closed_output(program, results, options)
     check_idle(program, results)
+    check_stopped(program, results)
     check_idle_one_by_one(program, results)
     check_killed(program, results)
     check_whose(program, results)

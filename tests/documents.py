@@ -2,7 +2,7 @@
 """documents.py [FOLDER]: what the documents of the repository, or of a copy of it in FOLDER, name is there:
 
   - links lead to a file, and to a heading of it,
-  - each function, clause and definition that docs/PROVED.md and docs/DEFINITIONS.md name in backquotes is in the sources of its crate, and each
+  - each function, clause and definition that docs/PROVED.md, docs/DEFINITIONS.md and docs/PROMISE.md name in backquotes is in the sources of its crate, and each
     crate has its row in docs/ARCHITECTURE.md, its section in docs/PROVED.md, and, if it has specs, one in docs/DEFINITIONS.md,
   - each crate, file, target of make and option that a document names exists, and so does each fault of FORMATS, PROTOCOL and the manual,
     under its number, and each limit among the numbers of the crates' sources,
@@ -307,7 +307,7 @@ def check_words(results, texts):
 def main():
     results, texts, crates = Results(), documents(), Crates()
     check_links(results, texts)
-    for document in ("docs/PROVED.md", "docs/DEFINITIONS.md"):
+    for document in ("docs/PROVED.md", "docs/DEFINITIONS.md", "docs/PROMISE.md"):
         check_sections(results, document, texts[document], crates)
     for document, text in texts.items():
         check_laws(results, document, text, crates)

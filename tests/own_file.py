@@ -101,11 +101,12 @@ def main():
         prepare(folder)
         results.expect("how ≠ is typed", answer(program, folder, "how", "≠"), (0, NOT_EQUAL, [NOTE, *LEFT_OUT]))
         results.expect("that × is typed by no sequence", answer(program, folder, "how", "×"), (1, [], [NOTE, "no sequence gives ×", *LEFT_OUT]))
-        results.expect("what begins with Multi_key minus", answer(program, folder, "list", "--prefix", "Multi_key,minus"), (0, AFTER_MINUS, [NOTE, *LEFT_OUT]))
+        for keys in ("Multi_key,minus", "Multi_key minus", "<Multi_key><minus>", "<Multi_key> <minus>", "Multi_key, minus"):
+            results.expect(f"what begins with {keys}", answer(program, folder, "list", "--prefix", keys), (0, AFTER_MINUS, [NOTE, *LEFT_OUT]))
         results.expect("what is wrong in the file", answer(program, folder, "lint", "--skip-faulty"), (1, FOUND, [NOTE, *LEFT_OUT]))
-        keys = ["Multi_key", ":", "h", "i"]
         typed = ['composing ""'] * 3 + ['composed "👋"']
-        results.expect("what keys type", answer(program, folder, "type", "-f", OWN, *keys), (0, typed, LEFT_OUT))
+        for keys in (["Multi_key", ":", "h", "i"], ["Multi_key : h i"], ["Multi_key,colon", "h,i"], ["<Multi_key><colon><h><i>"]):
+            results.expect(f"what the keys {keys} type", answer(program, folder, "type", "-f", OWN, *keys), (0, typed, LEFT_OUT))
         status, printed, said = answer(program, folder, "how", "--strict", "≠")
         # (a hint may follow)
         results.expect("a refusal with --strict", (status, printed, said[: len(FAULTY) + 1]), (2, [], [NOTE, *faults_of(FAULTY)]))

@@ -388,6 +388,46 @@ def check_handed_over(program, results):
         handed_over.stdout.close()
 
 
+def check_handed_over_wrong(program, results):
+    """What is handed over, but doesn't listen or is no Unix socket, is refused in words, and nothing is served in its place."""
+    words = "refused: socket: descriptor 3, which LISTEN_FDS hands over, is no Unix socket that listens\n"
+    with Serving(program) as service, contextlib.ExitStack() as kept:
+        service.process.kill()
+        service.process.wait()
+        os.unlink(service.path)
+
+        def made(family, kind):
+            return kept.enter_context(socket.socket(family, kind))
+
+        bound, datagram = made(socket.AF_UNIX, socket.SOCK_STREAM), made(socket.AF_UNIX, socket.SOCK_DGRAM)
+        bound.bind(os.path.join(service.folder, "bound"))
+        datagram.bind(os.path.join(service.folder, "datagram"))
+        over_tcp = made(socket.AF_INET, socket.SOCK_STREAM)
+        over_tcp.bind(("127.0.0.1", 0))
+        over_tcp.listen()
+        one_end, other_end = (kept.enter_context(it) for it in socket.socketpair())
+        reading, writing = os.pipe()
+        kept.callback(os.close, reading)
+        kept.callback(os.close, writing)
+        table = os.open(os.path.join(service.folder, "table.manifest"), os.O_RDONLY)
+        kept.callback(os.close, table)
+        handed = {
+            "a socket that doesn't listen": f"3<&{bound.fileno()}",
+            "a socket of datagrams": f"3<&{datagram.fileno()}",
+            "a socket that is connected": f"3<&{one_end.fileno()}",
+            "a socket that listens on TCP": f"3<&{over_tcp.fileno()}",
+            "a pipe that is read": f"3<&{reading}",
+            "a pipe that is written": f"3<&{writing}",
+            "a file": f"3<&{table}",
+            "a descriptor that is closed": "3<&-",
+        }
+        passed = [bound.fileno(), datagram.fileno(), one_end.fileno(), over_tcp.fileno(), reading, writing, table]
+        for what, redirected in handed.items():
+            command = f"exec {redirected}; LISTEN_PID=$$ LISTEN_FDS=1 exec {program} serve table.manifest repertoire certificate socket 1"
+            ran = subprocess.run(["bash", "-c", command], cwd=service.folder, capture_output=True, text=True, pass_fds=passed, timeout=30)
+            results.expect(f"{what} is handed over", (ran.stdout, ran.stderr, ran.returncode, os.path.exists(service.path)), ("", words, 2, False))
+
+
 # ---- the client in Python, at services that hold it up
 
 class Interrupt(BaseException):
@@ -591,7 +631,7 @@ def check_compose_files(program, results):
 
 def main():
     program, results = os.path.abspath(sys.argv[1]), Results()
-    for check in (check_worked, check_cuts, check_greatest_load, check_overlaps, check_allowed_fresh, check_start, check_clients, check_socket_file, check_replaced, check_modes, check_signal, check_handed_over, check_late_replies,
+    for check in (check_worked, check_cuts, check_greatest_load, check_overlaps, check_allowed_fresh, check_start, check_clients, check_socket_file, check_replaced, check_modes, check_signal, check_handed_over, check_handed_over_wrong, check_late_replies,
                   check_client_commands, check_sessions, check_names_and_rules, check_compose_files):
         check(program, results)
     print(f"{results.passed} passed, {results.failed} failed")

@@ -668,6 +668,21 @@ def try_hanging(program, tell):
         got = room.update("table")
         tell.expect("an update after it", (got[0], bool(STORED.fullmatch(got[1])), room.kept()), (0, True, [follower]))
     with Room(program) as room:
+        room.next_table()
+        room.update("table")
+        room.start()
+        room.grown()
+        clients = [room.client() for _ in range(16)]
+        for number, client in enumerate(clients):
+            client.open(number)
+        room.next_table()
+        got, seconds = timed(room.update, "table", "--timeout", "1")
+        tell.expect("a service all of whose connections are taken", (got, seconds < LATE), ((2, "", "refused: connection: no reply in 1 seconds\n"), True))
+        for client in clients:
+            client.disconnect()
+        tell.expect("once they are free", room.waited_for(lambda: room.update("table")[0] == 0), True)
+        tell.expect("a table that follows then", room.grown(), True)
+    with Room(program) as room:
         room.update("old")
         before = room.all_bytes()
         with open(room.path("state", "lock"), "ab") as file:
@@ -826,6 +841,18 @@ def try_status(program, tell):
         tell.expect("status changes nothing", room.all_bytes(), before)
 
 
+def try_script(program, tell):
+    """update.sh looks at the file once more if it changes while `update` runs, as the unit of its path doesn't see that."""
+    with Room(program) as room:
+        room.write("slow", f'#!/bin/sh\necho >> runs\n{program} "$@"\ntest -e changed || echo "# changed" >> table\ntouch changed\n')
+        os.chmod(room.path("slow"), 0o755)
+        room.write("table", OLD)
+        words = ["sh", os.path.join(TOP, "share", "composecheck", "update.sh"), "table", "--state", "state"]
+        ran = subprocess.run(words, cwd=room.folder, env={"PATH": os.environ["PATH"], "COMPOSECHECK": "./slow"}, capture_output=True, text=True, timeout=120)
+        tell.expect("it has run twice", (ran.returncode, read(room.path("runs"))), (0, b"\n\n"))
+        tell.expect("what came last is kept", room.kept(), [f"{OLD}# changed\n"])
+
+
 # ---- cuts, and a full disk
 
 def try_cuts(program, tell):
@@ -963,6 +990,13 @@ def try_full_disk(program, tell):
         for call in ("open", "write", "fsync", "rename"):
             with Room(program) as room:
                 given = {"LD_PRELOAD": library, "FAIL": call, "FULL": room.path("full")}
+                if call != "fsync":
+                    room.write("full", "")
+                    room.write("none", "")
+                    made = room.run("make", "-f", "-o", "certificate", "old", "follows", "none", **given)
+                    tell.expect(f"a certificate that can't be written: {call}", made, (2, "", "composecheck: certificate: can't be written: no space left\n"))
+                    tell.expect(f"no part of it is left: {call}", [it for it in os.listdir(room.folder) if it.startswith("certificate")], [])
+                    os.unlink(room.path("full"))
                 room.next_table()
                 room.update("table")
                 room.start("--fresh", "", **given)

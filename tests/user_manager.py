@@ -1,5 +1,5 @@
 #!/usr/bin/env python3
-"""user_manager.py PROGRAM: the units of systemd as a user runs them, under a real `systemd --user` (user_manager.sh).
+"""user_manager.py PROGRAM: the units of systemd as a user runs them, under a real `systemd --user` (user_manager.sh), and use.sh and unuse.sh.
 
 The shipped units are installed for PROGRAM. The service starts, is confined as its unit says, types, takes tables, and is back after a kill; so it
 is where systemd makes the socket. A Compose file that changes is taken into use, also one that another one includes, and one that changed while
@@ -19,10 +19,12 @@ from harness import COUNTS, TOP, Results, write
 
 MANAGER = os.path.join(TOP, "tests", "user_manager.sh")
 SHARED = os.path.join(TOP, "share", "composecheck")
+SCRIPTS = ("update.sh", "use.sh", "unuse.sh")
 UNITS = re.compile(r"composecheck.*\.(service|socket|path|timer)")
 SKIPPED = 77
 SERVICE, SOCKET = "composecheck.service", "composecheck.socket"
 
+SOURCES = ("org.gnome.desktop.input-sources", "sources")
 FIRST = '<Multi_key> <apostrophe> <e> : "ⓔ"\n'
 SECOND = FIRST + '<Multi_key> <apostrophe> <a> : "ⓐ"\n'
 THIRD = SECOND + '<Multi_key> <apostrophe> <o> : "ⓞ"\n'
@@ -55,9 +57,10 @@ class User:
         for it in (os.path.dirname(self.program), shared):
             os.makedirs(it)
         shutil.copy(program, self.program)
-        shutil.copy(os.path.join(SHARED, "update.sh"), shared)
         write(self.home, {"bin/notify-send": NOTIFY})
-        for it in (self.program, os.path.join(shared, "update.sh"), self.path("bin/notify-send")):
+        for it in SCRIPTS:
+            shutil.copy(os.path.join(SHARED, it), shared)
+        for it in (self.program, *(os.path.join(shared, it) for it in SCRIPTS), self.path("bin/notify-send")):
             os.chmod(it, 0o755)
         for it in filter(UNITS.fullmatch, os.listdir(SHARED)):
             with open(os.path.join(SHARED, it), encoding="utf-8") as file:
@@ -96,6 +99,15 @@ class User:
         """What an update of the table prints, if it has the status 0."""
         status, out, err = self.run(self.program, "update", self.path("tables/Compose"))
         return out if status == 0 else (status, out, err)
+
+    def script(self, name, *words, **settings):
+        """Runs an installed script as the user, with these settings, and returns its status, and what it prints."""
+        given = [f"{it}={value}" for it, value in {"COMPOSECHECK": self.program, **settings}.items()]
+        return self.run("env", *given, os.path.join(self.prefix, "share", "composecheck", name), *words)
+
+    def sources(self):
+        """The input sources of GNOME."""
+        return self.run("env", "GSETTINGS_BACKEND=keyfile", "gsettings", "get", *SOURCES)[1].strip()
 
     def types(self, *keys):
         """The text of the last key, typed in a session of its own; or what is refused."""
@@ -203,6 +215,81 @@ def self_or_above(mounts, path):
     return path
 
 
+def check_use(user, results):
+    """A Compose file is taken into use by one command, and back by another, on each desktop."""
+    path, watch = user.path("tables/Compose"), user.unit("path")
+    user.write("tables/Compose", FIRST)
+    status, out, err = user.script("use.sh", "tables/Compose")
+    results.expect("it is stored, and one sequence of it is typed", (status, out.splitlines()[:2], err), (0, ["stored", "typed: Multi_key apostrophe e -> ⓔ"], ""))
+    results.expect("without an input method it says what to install", "No input method runs. " in out, True)
+    units = (SOCKET, watch)
+    results.expect("at later logins too", [user.systemctl("is-enabled", it)[1] for it in units], ["enabled\n"] * 2)
+    results.expect("it runs", [user.shown(it, "ActiveState") for it in (*units, SERVICE)], ["active"] * 3)
+    status, out, _ = user.script("use.sh", path)
+    results.expect("it is in use already", (status, out.splitlines()[:2]), (0, ["unchanged", "typed: Multi_key apostrophe e -> ⓔ"]))
+    user.write("tables/Other", OTHER)
+    status, out, err = user.script("use.sh", user.path("tables/Other"))
+    results.expect("a file that changes typing is refused", (status, out.splitlines()[:1], err.startswith("use.sh: the table in use stays")), (1, ["keys Multi_key apostrophe e"], True))
+    check_other_file(user, watch, results)
+    check_sources(user, path, results)
+    results.expect("all is taken back", user.script("unuse.sh")[0], 0)
+    results.expect("no unit is left", [user.systemctl("is-enabled", it)[1] for it in (*units, SERVICE)], ["disabled\n"] * 3)
+    results.expect("nothing runs", [user.shown(it, "ActiveState") for it in (*units, SERVICE)], ["inactive"] * 3)
+    results.expect("no table is left", (os.path.exists(user.state), os.path.exists(user.socket)), (False, False))
+    results.expect("it can be taken back again", user.script("unuse.sh")[0], 0)
+    os.remove(user.path(".XCompose"))
+
+
+def check_machine(user, results):
+    """What docs/MACHINES.md has an administrator give to all users of a machine, but for one user: who types with the table of the machine from the
+    first key on, and takes its changes."""
+    with open(os.path.join(TOP, "docs", "MACHINES.md"), encoding="utf-8") as file:
+        settings = re.search(r"^\[Service\]\nExecStartPre=.*\n", file.read(), re.M)[0]
+    user.write("tables/Compose", FIRST)
+    given = settings.replace("/usr/share/example-compose/Compose", user.path("tables/Compose")).replace(" composecheck update", f" {user.program} update")
+    user.write(f".config/systemd/user/{SERVICE}.d/table.conf", given)
+    user.systemctl("daemon-reload")
+    updated = lambda: user.shown(user.unit("service"), "InactiveEnterTimestampMonotonic")
+    before = updated()
+    results.expect("the machine's units", user.systemctl("enable", "--now", SOCKET, user.unit("path"))[0], 0)
+    results.expect("a new user types with the machine's table", user.types("apostrophe", "e"), "ⓔ")
+    until(lambda: updated() != before, True)
+    user.write("tables/Compose", SECOND)
+    results.expect("an upgrade of the machine's table", until(lambda: user.types("apostrophe", "a"), "ⓐ"), "ⓐ")
+    user.systemctl("stop", SERVICE, user.unit("path"))
+    os.rename(user.path("tables/Compose"), user.path("tables/gone"))
+    results.expect("a table that is stored is enough", user.types("apostrophe", "a"), "ⓐ")
+    shutil.rmtree(user.path(f".config/systemd/user/{SERVICE}.d"))
+    user.systemctl("daemon-reload")
+    results.expect("all is taken back again", user.script("unuse.sh")[0], 0)
+
+
+def check_other_file(user, watch, results):
+    """Without a file it is the user's own, which is watched in the place of the other one."""
+    user.write(".XCompose", SECOND)
+    status, out, _ = user.script("use.sh")
+    results.expect("the user's own file", (status, out.splitlines()[:2]), (0, ["loaded 1", "stored"]))
+    own = watch.replace("tables-Compose", ".XCompose")
+    results.expect("one file is watched", [user.shown(it, "ActiveState") for it in (watch, own)], ["inactive", "active"])
+
+
+def check_sources(user, path, results):
+    """In GNOME the engines of the layouts that somebody has are named, and the layouts are there again afterwards."""
+    if user.run("gsettings", "writable", *SOURCES)[1] != "true\n":
+        print("no input sources of GNOME here: they are not tried")
+        return
+    user.write("tables/Compose", SECOND)
+    given = {"GSETTINGS_BACKEND": "keyfile", "XDG_CURRENT_DESKTOP": "ubuntu:GNOME"}
+    chosen, engines = "[('xkb', 'de'), ('xkb', 'us+intl')]", "[('ibus', 'composecheck:de'), ('ibus', 'composecheck:us:intl')]"
+    user.run("env", "GSETTINGS_BACKEND=keyfile", "gsettings", "set", *SOURCES, chosen)
+    status, out, _ = user.script("use.sh", path, **given)
+    command = re.search(r"gsettings set .*", out)
+    results.expect("the engines of the layouts are named", (status, command is not None and engines in command[0]), (0, True))
+    results.expect("the command sets them", (user.run("env", "GSETTINGS_BACKEND=keyfile", "sh", "-c", command[0])[0], user.sources()), (0, engines))
+    results.expect("unuse.sh", user.script("unuse.sh", **given)[0], 0)
+    results.expect("the layouts are there again", user.sources(), chosen)
+
+
 def check_socket(user, results):
     """systemd makes the socket, and a connection starts the service."""
     results.expect("the service is disabled", user.systemctl("disable", "--now", SERVICE)[0], 0)
@@ -302,7 +389,7 @@ def check_login(user, results):
     results.expect("a file that is included has changed overnight", until(lambda: user.types("equal"), "≡"), "≡")
 
 
-LOGINS = {"first": (check_refused, check_service, check_socket, check_update, check_state_home, check_package, prepare_a_night), "second": (check_login,)}
+LOGINS = {"first": (check_refused, check_use, check_machine, check_service, check_socket, check_update, check_state_home, check_package, prepare_a_night), "second": (check_login,)}
 
 
 def run_beside(program, folder, login):

@@ -12,8 +12,17 @@ for it; do
     before=$it
 done
 
-printed=$("${COMPOSECHECK:-composecheck}" update "$@" -- "$file" 2>&1)
-status=$?
+# The path unit doesn't see a change that comes while this runs, so it is looked for here.
+stamp() {
+    stat -L -c '%d %i %s %Z' -- "$file" 2> /dev/null
+}
+
+for _ in 1 2 3 4 5; do
+    before=$(stamp)
+    printed=$("${COMPOSECHECK:-composecheck}" update "$@" -- "$file" 2>&1)
+    status=$?
+    test "$(stamp)" = "$before" && break
+done
 printf '%s\n' "$printed"
 case $status in
 0) rm -f "$shown" ;;

@@ -114,24 +114,38 @@ class Desk:
         self.is_wayland = True
 
     def start_bus(self):
+        self.environment["DBUS_SESSION_BUS_ADDRESS"] = self.start_another_bus()
+
+    def start_another_bus(self):
+        """Starts a message bus, and returns its address."""
         bus = self.start("dbus-daemon", "--session", "--nofork", "--print-address=1", stdout=subprocess.PIPE)
-        self.environment["DBUS_SESSION_BUS_ADDRESS"] = bus.stdout.readline().decode().strip()
+        return bus.stdout.readline().decode().strip()
 
     # ---- input methods
 
-    def start_ibus(self, engine="composecheck"):
-        """Starts ibus-daemon with the engine and ibus' own ones, and chooses one of them."""
+    def install_engine(self):
+        """Installs the engine of IBus, beside ibus' own ones."""
         self.install("install-ibus")
         shutil.copy(f"{self.prefix}/share/ibus/component/composecheck.xml", self.path("component"))
         for name in ("simple.xml", "gtkpanel.xml"):
             shutil.copy(f"/usr/share/ibus/component/{name}", self.path("component"))
+
+    def start_daemon(self, *options):
+        """Starts ibus-daemon."""
+        self.start("ibus-daemon", "--config", "disable", "--emoji-extension", "disable", "--cache", "none", "--verbose", *options)
+        wait_for("ibus-daemon", lambda: self.told("ibus", "address").startswith("unix:"))
+
+    def start_ibus(self, engine="composecheck"):
+        """Starts ibus-daemon with the engine and ibus' own ones, and chooses one of them."""
+        self.install_engine()
         self.environment["GTK_IM_MODULE"] = "ibus"
         # (the panel chooses the first of these as it starts, also after somebody else has chosen; without any, that of the keyboard's layout)
         self.run("gsettings", "set", "org.freedesktop.ibus.general", "preload-engines", f"['{engine}']")
-        self.start("ibus-daemon", "--config", "disable", "--emoji-extension", "disable", "--cache", "none", "--verbose")
-        wait_for("ibus-daemon", lambda: self.told("ibus", "address").startswith("unix:"))
-        # (as it comes, it ends what is pending)
-        wait_for("the panel", lambda: self.told(PYTHON, "-c", HAS_PANEL) == "True")
+        # (the panel of IBus runs under X11 alone)
+        self.start_daemon(*["--panel", "disable"] * self.is_wayland)
+        if not self.is_wayland:
+            # (as it comes, it ends what is pending)
+            wait_for("the panel", lambda: self.told(PYTHON, "-c", HAS_PANEL) == "True")
         self.choose(engine)
 
     def choose(self, engine):
@@ -142,13 +156,28 @@ class Desk:
 
         wait_for(f"the engine {engine}", chosen)
 
+    def engine_processes(self):
+        """The processes of the engine of IBus: one that keeps another one running, and that."""
+        return [int(it) for it in self.told("pgrep", "-f", f"^{self.prefix}/libexec/ibus-engine-composecheck --ibus").split()]
+
+    def kill_engine(self):
+        """Kills the process of the engine, and waits until there is another one that types."""
+        before = self.engine_processes()
+        os.kill(max(before), signal.SIGKILL)
+        wait_for("another engine", lambda: len(set(self.engine_processes()) - set(before)) == 1)
+        # (it has to tell the daemon that it is there)
+        time.sleep(2)
+
     def set(self, key, value):
         """Changes a setting of the engine of IBus, and waits until its process may know."""
         self.run("gsettings", "set", SCHEMA, key, value)
         time.sleep(0.5)
 
-    def start_fcitx5(self, layout="us-intl"):
-        """Starts fcitx5 with the addon, on one keyboard layout."""
+    # How fcitx5 is started.
+    FCITX5 = ("--disable", "notificationitem,notifications,kimpanel", "--verbose", "default=4")
+
+    def prepare_fcitx5(self, layout):
+        """Installs the addon, and has fcitx5 use one keyboard layout."""
         self.install("install-fcitx5")
         os.makedirs(self.path("config/fcitx5/conf"))
         # (the layout of the display stays, with its option for Multi_key)
@@ -158,11 +187,18 @@ class Desk:
         self.write("config/fcitx5/profile", group)
         addons = self.told("pkg-config", "--variable=libdir", "Fcitx5Core") + "/fcitx5"
         self.environment["FCITX_ADDON_DIRS"] = f"{self.prefix}/lib/fcitx5:{addons}"
-        if not self.is_wayland:
-            self.environment["GTK_IM_MODULE"] = "fcitx"
         # (an application under X11 may show lists by itself, as listed.py does)
         self.environment["FCITX_X11_USE_CLIENT_SIDE_UI"] = "True"
-        self.start("fcitx5", "--disable", "notificationitem,notifications,kimpanel", "--verbose", "default=4")
+
+    def start_fcitx5(self, layout="us-intl"):
+        """Starts fcitx5 with the addon, on one keyboard layout."""
+        self.prepare_fcitx5(layout)
+        if not self.is_wayland:
+            self.environment["GTK_IM_MODULE"] = "fcitx"
+        self.start("fcitx5", *self.FCITX5)
+        self.wait_for_fcitx5()
+
+    def wait_for_fcitx5(self):
         # (fcitx5-remote would have the bus start another fcitx5, without the addon)
         wait_for("fcitx5", lambda: "true" in self.told(
             "dbus-send", "--print-reply", "--dest=org.freedesktop.DBus", "/", "org.freedesktop.DBus.NameHasOwner", "string:org.fcitx.Fcitx5"))

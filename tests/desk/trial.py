@@ -2,8 +2,10 @@
 """trial.py [--fcitx5] [--sway] [--pictures FOLDER] PROGRAM: types into entries of GTK 3 and 4 through IBus, or fcitx5, and a composecheck service,
 on a display that nobody sees: Xvfb, or sway, a compositor of Wayland. It prints a line for each trial, and last `N passed, M failed`."""
 import argparse
+import contextlib
 import json
 import os
+import subprocess
 import sys
 import threading
 import time
@@ -14,6 +16,10 @@ MULTI, ACUTE, APOSTROPHE, F1, PAGE_DOWN = 0xFF20, 0xFE51, 0x27, 0xFFBE, 0xFF56
 # What is printed of what is logged: where the service isn't reached, where it is again, where there is no list, and where a script fails, which counts
 # as a trial that did.
 TOLD = ("no reply", "nobody listens", "composecheck.socket answers", "not listed", "Traceback")
+
+
+# So many seconds without a change are an end.
+STILL = 20.0
 
 
 class Trials:
@@ -27,9 +33,15 @@ class Trials:
         return {"text": entry["texts"][0], "pending": entry["pending"][0], "texts": entry["texts"], "focus": entry["focus"]}
 
     def expect(self, what, **wanted):
-        """Waits until the window shows what is wanted: `text`, `pending` (both of the first entry), `texts` or `focus`."""
+        """Waits until the window shows what is wanted: `text`, `pending` (both of the first entry), `texts` or `focus`. It gives up where nothing has
+        changed for a while: on a busy machine an application may be far behind the keys, and loses none."""
+        changed, last = time.monotonic(), None
+
         def is_so():
+            nonlocal changed, last
             got = self.got()
+            if got != last:
+                changed, last = time.monotonic(), got
             return all(got[name] == value for name, value in wanted.items())
 
         def stays():
@@ -41,7 +53,8 @@ class Trials:
 
         began, good = time.monotonic(), True
         try:
-            wait_for(what, stays)
+            wait_for(what, lambda: stays() or time.monotonic() - changed > STILL, 300)
+            good = is_so()
         except TimeoutError:
             good = False
         self.count(f"{what} ({time.monotonic() - began:.1f} s)", good or self.got(), good or wanted)
@@ -170,6 +183,37 @@ def try_quick(trials):
     trials.clear()
 
 
+@contextlib.contextmanager
+def busy(count):
+    """Keeps the machine busy meanwhile, with so many processes that never rest."""
+    running = [subprocess.Popen([sys.executable, "-c", "while True: pass"]) for _ in range(count)]
+    yield
+    for it in running:
+        it.kill()
+        it.wait()
+
+
+def try_busy(trials):
+    """More keys than an application can take, on a machine that has five times as much to do as it can: all of them are typed, in order."""
+    sequence = ["Multi_key", "apostrophe", "e", "x", "dead_acute", "e"]
+    with busy(5 * os.cpu_count()):
+        began = time.monotonic()
+        trials.desk.type(*"abcdefghij" * 12, *sequence * 20, delay=3)
+        trials.expect(f"240 keys, pressed in {time.monotonic() - began:.1f} s on a busy machine", text="abcdefghij" * 12 + "ⓔxé" * 20, pending="")
+    trials.clear()
+
+
+def try_killed(trials):
+    """The engine of IBus that is killed is there again, and types."""
+    desk = trials.desk
+    desk.type("dead_acute")
+    trials.expect("pending before the engine is killed", pending="´")
+    desk.kill_engine()
+    desk.type("x", "dead_acute", "e")
+    trials.expect("an engine that was killed types again, without what was pending", text="xé", pending="")
+    trials.clear()
+
+
 def try_restart(trials):
     type_keys, expect, service = trials.desk.type, trials.expect, trials.desk.service
     type_keys("dead_acute")
@@ -246,11 +290,12 @@ def try_list(trials, is_fcitx5):
 
 
 def try_x11(trials, is_fcitx5):
-    for trial in (try_typing, try_cancelling, try_focus, try_load, try_quick, try_restart, try_hanging, try_upgrade):
+    for trial in (try_typing, try_cancelling, try_focus, try_load, try_quick, try_busy, try_restart, try_hanging, try_upgrade):
         trial(trials)
     try_list(trials, is_fcitx5)
     if not is_fcitx5:
         try_settings(trials)
+        try_killed(trials)
 
 
 def try_wayland(trials):
@@ -268,7 +313,7 @@ def try_wayland(trials):
 def main():
     arguments = argparse.ArgumentParser(description=__doc__, formatter_class=argparse.RawDescriptionHelpFormatter)
     arguments.add_argument("--fcitx5", action="store_true", help="the addon of fcitx5 in the place of the engine of IBus")
-    arguments.add_argument("--sway", action="store_true", help="with --fcitx5: under Wayland, where the entries use its protocol for texts")
+    arguments.add_argument("--sway", action="store_true", help="under Wayland; with --fcitx5 the entries use its protocol for texts, else the module of IBus")
     arguments.add_argument("--pictures", metavar="FOLDER", help="where pictures of entries with a pending sequence are put")
     arguments.add_argument("program", help="composecheck")
     given = arguments.parse_args()
@@ -278,6 +323,9 @@ def main():
         desk.start_sway() if given.sway else desk.start_display()
         desk.service.start("old")
         desk.start_fcitx5() if given.fcitx5 else desk.start_ibus()
+        if given.sway and not given.fcitx5:
+            # (no window has the focus before there is a keyboard; fcitx5 has one)
+            desk.start_typing("Shift_L")
         for version in "34":
             trials = Trials(desk, f"{'sway, ' if given.sway else ''}{'fcitx5' if given.fcitx5 else 'ibus'}, GTK {version}", given.pictures)
             desk.service.start("old")

@@ -1,1 +1,1 @@
-pub mod Commas
+pub mod Written

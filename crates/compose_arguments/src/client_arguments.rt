@@ -1,5 +1,6 @@
 //! The arguments of `load` and `session`.
 use crate::given_tables::{TypeTable, table_named};
+use crate::name_lists::argument_keys;
 use clap::ArgMatches;
 use std::alloc::{AllocError, Global};
 
@@ -19,7 +20,7 @@ pub struct LoadArguments<'a> {
 pub struct SessionArguments<'a> {
     /// The path of the service's socket.
     pub socket: &'a str,
-    /// Whether a key may be written as its character; the names are then the built-in ones, unless
+    /// Whether keys are written as for Compose files; the names are then the built-in ones, unless
     /// others are given.
     pub files: bool,
     /// The number of the session.
@@ -28,7 +29,7 @@ pub struct SessionArguments<'a> {
     pub open: bool,
     /// Whether its compose state is reset before the keys.
     pub reset: bool,
-    /// The names of the keysyms, or their characters.
+    /// The names of the keysyms, or with `files` the keys as they are written.
     pub keys: Vec<&'a str>,
     /// Whether its state is asked for after the keys.
     pub ask: bool,
@@ -55,13 +56,11 @@ pub fn session_arguments<'a>(
     else {
         return Ok(None);
     };
-    let keys = match given.get_strs("KEY") {
-        Some(keys) => Vec::from_slice(alloc, keys)?,
-        None => Vec::new(alloc),
-    };
+    let files = given.get_flag("files");
+    let keys = argument_keys(alloc, files, given.get_strs("KEY").unwrap_or(&[]))?;
     Ok(Some(SessionArguments {
         socket,
-        files: given.get_flag("files"),
+        files,
         session,
         open: given.get_flag("open"),
         reset: given.get_flag("reset"),

@@ -93,7 +93,7 @@ const FRESH: OptionRow = OptionRow {
     name: "fresh",
     letter: None,
     takes: Takes::Value("KEYS"),
-    help: "Keysyms that no sequence of the old table has, joined by commas",
+    help: "Keys that no sequence of the old table has, joined by commas",
 };
 
 /// `--system`: the folder of the system's tables.
@@ -230,7 +230,7 @@ const SERVICE_SOCKET: OptionRow = OptionRow {
 static TYPE: CommandRow = CommandRow {
     name: "type",
     about: "Type keys with a table, and print what happens at each",
-    after_help: "With --files, names are those of keysymdef.h, unless --names gives others, and a key may be written as its character; without a KEY each line of standard input is a list of keys, and an empty line follows what is printed of each.\nExit status: 0 typed, 2 input refused, 3 out of memory\nExample: composecheck type -f ~/.XCompose Multi_key \"'\" e",
+    after_help: "With --files, names are those of keysymdef.h, unless --names gives others, and keys may be written by name or character, one or more in an argument: \"Multi_key - >\", Multi_key,minus,greater or \"<Multi_key><minus><greater>\"; without a KEY each line of standard input is a list of keys, and an empty line follows what is printed of each.\nExit status: 0 typed, 2 input refused, 3 out of memory\nExample: composecheck type -f ~/.XCompose Multi_key \"'\" e",
     options: &[VERBOSE, NAMES, FILES],
     options_of_files: &[
         SKIP_FAULTY_BY_DEFAULT,
@@ -421,7 +421,7 @@ static LIST: CommandRow = CommandRow {
             name: "prefix",
             letter: None,
             takes: Takes::Value("KEYS"),
-            help: "Print only sequences that begin with KEYS, joined by commas",
+            help: "Print only sequences that begin with KEYS, as Multi_key,minus,greater or \"<Multi_key> <minus>\"",
         },
         OptionRow {
             name: "text",

@@ -1,5 +1,5 @@
 //! The arguments of `list`.
-use crate::name_lists::names_of_option;
+use crate::name_lists::keys_of_option;
 use crate::table_arguments::{TableArguments, table_arguments};
 use clap::ArgMatches;
 use std::alloc::{AllocError, Global};
@@ -9,8 +9,7 @@ use std::alloc::{AllocError, Global};
 pub struct ListArguments<'a> {
     /// The table.
     pub table: TableArguments<'a>,
-    /// The names of the keys with which the sequences begin: those in `--prefix`, separated by
-    /// commas.
+    /// The keys with which the sequences begin, as `--prefix` writes them.
     pub prefix: Vec<&'a str>,
     /// The text that the sequences produce, if one is given.
     pub text: Option<&'a str>,
@@ -41,7 +40,7 @@ pub fn list_arguments<'a>(
 ) -> Result<ListArguments<'a>, AllocError> {
     Ok(ListArguments {
         table: table_arguments(given, given.get_str("FILE"), !given.get_flag("strict")),
-        prefix: names_of_option(alloc, given, "prefix")?,
+        prefix: keys_of_option(alloc, given, "prefix")?,
         text: given.get_str("text"),
         next: given.get_flag("next"),
         sort: sort_of(given),

@@ -5,7 +5,7 @@ use crate::how_arguments::{HowArguments, how_arguments};
 use crate::lint_arguments::{LintArguments, lint_arguments};
 use crate::list_arguments::{ListArguments, list_arguments};
 use crate::manifest_arguments::{ManifestArguments, manifest_arguments};
-use crate::name_lists::{fresh_names, given_fresh_names};
+use crate::name_lists::{argument_keys, fresh_names, given_fresh_names};
 use clap::ArgMatches;
 use std::alloc::{AllocError, Global};
 
@@ -17,14 +17,15 @@ pub enum Question<'a> {
     Keys {
         /// The table.
         table: TypeTable<'a>,
-        /// The names of the keysyms; for a Compose file, none if they are on standard input.
+        /// The names of the keysyms; for a Compose file the keys as they are written, none if they
+        /// are on standard input.
         keys: Vec<&'a str>,
     },
     /// `check`: whether a certificate is valid.
     Check {
         /// The old and the new table.
         tables: BothTables<'a>,
-        /// The names in `--fresh`, separated by commas, if it is given.
+        /// The keys in `--fresh`, if it is given.
         fresh: Option<Vec<&'a str>>,
         /// The path of the repertoire.
         repertoire: &'a str,
@@ -35,7 +36,7 @@ pub enum Question<'a> {
     Explain {
         /// The old and the new table.
         tables: BothTables<'a>,
-        /// The names in `--fresh`, separated by commas.
+        /// The keys in `--fresh`.
         fresh: Vec<&'a str>,
         /// Whether all differences are printed.
         all: bool,
@@ -44,7 +45,7 @@ pub enum Question<'a> {
     Diff {
         /// The other arguments.
         arguments: DiffArguments<'a>,
-        /// The names in `--fresh`, separated by commas.
+        /// The keys in `--fresh`.
         fresh: Vec<&'a str>,
     },
     /// `how`: how texts are typed.
@@ -62,7 +63,7 @@ pub enum Question<'a> {
     Make {
         /// The old and the new table.
         tables: BothTables<'a>,
-        /// The names in `--fresh`, separated by commas.
+        /// The keys in `--fresh`.
         fresh: Vec<&'a str>,
         /// Whether all characters that can't be typed are printed.
         all: bool,
@@ -103,9 +104,10 @@ fn type_question<'a>(
     let Some(table) = type_table(given) else {
         return Ok(None);
     };
+    let words = given.get_strs("KEY").unwrap_or(&[]);
     Ok(Some(Question::Keys {
         table,
-        keys: Vec::from_slice(alloc, given.get_strs("KEY").unwrap_or(&[]))?,
+        keys: argument_keys(alloc, given.get_flag("files"), words)?,
     }))
 }
 
@@ -119,7 +121,7 @@ fn check_question<'a>(
     };
     Ok(Some(Question::Check {
         tables,
-        fresh: given_fresh_names(alloc, given)?,
+        fresh: given_fresh_names(alloc, given, given.get_flag("files"))?,
         repertoire,
         certificate,
     }))
@@ -144,7 +146,7 @@ fn explain_question<'a>(
     };
     Ok(Some(Question::Explain {
         tables,
-        fresh: fresh_names(alloc, given)?,
+        fresh: fresh_names(alloc, given, given.get_flag("files"))?,
         all: given.get_flag("all"),
     }))
 }
@@ -159,7 +161,7 @@ fn diff_question<'a>(
     };
     Ok(Some(Question::Diff {
         arguments,
-        fresh: fresh_names(alloc, given)?,
+        fresh: fresh_names(alloc, given, true)?,
     }))
 }
 
@@ -187,7 +189,7 @@ fn make_question<'a>(
     };
     Ok(Some(Question::Make {
         tables,
-        fresh: fresh_names(alloc, given)?,
+        fresh: fresh_names(alloc, given, given.get_flag("files"))?,
         all: given.get_flag("all"),
         repertoire,
         output: given.get_str("output"),

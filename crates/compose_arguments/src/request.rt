@@ -21,7 +21,7 @@ pub enum CommandRequest<'a> {
     Update {
         /// The other arguments.
         arguments: UpdateArguments<'a>,
-        /// The names in `--fresh`, separated by commas.
+        /// The keys in `--fresh`.
         fresh: Vec<&'a str>,
     },
     /// `update --back`: takes the table before the last change into use.
@@ -32,7 +32,7 @@ pub enum CommandRequest<'a> {
     Serve {
         /// The other arguments.
         arguments: ServeArguments<'a>,
-        /// The names in `--fresh`, separated by commas, if it is given.
+        /// The keys in `--fresh`, if it is given.
         fresh: Option<Vec<&'a str>>,
     },
     /// `load`: loads a table into a running service.
@@ -134,8 +134,14 @@ fn serve_request<'a>(
     };
     Ok(Some(CommandRequest::Serve {
         arguments,
-        fresh: given_fresh_names(alloc, given)?,
+        fresh: given_fresh_names(alloc, given, serves_files(given))?,
     }))
+}
+
+/// Returns whether the table that `serve` begins with is of Compose files: one that is given with
+/// `--files`, or that of `--state`.
+fn serves_files(given: &ArgMatches<'_>) -> bool {
+    given.get_flag("files") || given.get_str("state").is_some()
 }
 
 /// Returns the request of `session`.
@@ -159,6 +165,6 @@ fn update_request<'a>(
     };
     Ok(Some(CommandRequest::Update {
         arguments,
-        fresh: fresh_names(alloc, given)?,
+        fresh: fresh_names(alloc, given, true)?,
     }))
 }

@@ -85,7 +85,8 @@ pub fn unlinked(rt: &impl Files, arguments: &ServeArguments<'_>, ended: Ended) -
 
 /// Returns the listener that systemd passes, or otherwise one on a new socket file, and prints that
 /// a client can connect.
-/// Errors: a fault of the socket if it can't be bound; `NoMemory` if memory runs out.
+/// Errors: a refusal of `socket` if systemd passes something that does not listen; a fault of the
+/// socket if it can't be bound; `NoMemory` if memory runs out.
 pub fn listen(
     rt: &(impl Env + Files + Net + Print + AllocGlobal),
     process_id: u32,
@@ -97,13 +98,17 @@ pub fn listen(
 }
 
 /// Returns the listener that systemd passes, or otherwise one on a new socket file.
+/// Errors: a refusal of `socket` if systemd passes something that does not listen; a fault of the
+/// socket if it can't be bound; `NoMemory` if memory runs out.
 fn bind(
     rt: &(impl Env + Files + Net + AllocGlobal),
     process_id: u32,
     arguments: &ServeArguments<'_>,
 ) -> Result<UnixListener, Fault> {
-    if let Some(listener) = listener_of_systemd(rt, process_id) {
-        return Ok(listener);
+    match listener_of_systemd(rt, process_id) {
+        Ok(Some(listener)) => return Ok(listener),
+        Ok(None) => {}
+        Err(fault) => return Err(socket_fault(rt.alloc(), arguments, fault)),
     }
     let file = SocketFile {
         path: arguments.socket,
@@ -112,11 +117,20 @@ fn bind(
     };
     match file.bind(rt, process_id) {
         Ok(listener) => Ok(listener),
-        Err(SocketFault::NoMemory) => Err(Fault::NoMemory),
-        Err(SocketFault::Taken) => {
-            Err(refused_socket(rt.alloc(), arguments, ErrorKind::AlreadyExists))
+        Err(fault) => Err(socket_fault(rt.alloc(), arguments, fault)),
+    }
+}
+
+/// Returns the fault that there is no socket to serve on, and why.
+fn socket_fault(alloc: Global, arguments: &ServeArguments<'_>, fault: SocketFault) -> Fault {
+    match fault {
+        SocketFault::NoMemory => Fault::NoMemory,
+        SocketFault::Taken => refused_socket(alloc, arguments, ErrorKind::AlreadyExists),
+        SocketFault::System(kind) => refused_socket(alloc, arguments, kind),
+        SocketFault::NoListener => {
+            let words = "descriptor 3, which LISTEN_FDS hands over, is no Unix socket that listens";
+            Fault::refused("socket", String::from_str(alloc, words))
         }
-        Err(SocketFault::System(kind)) => Err(refused_socket(rt.alloc(), arguments, kind)),
     }
 }
 

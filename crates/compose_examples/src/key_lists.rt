@@ -6,19 +6,28 @@ use std::alloc::{AllocError, Global};
 use std::fmt::Write;
 use std::process::Abort;
 
-/// A text, and what is printed for it: its words, and after a bar the number of words in each line.
+/// A text, and what is printed for it: its keys, and after a bar the number of keys in each line.
 struct ListsRow {
     text: &'static str,
     prints: &'static str,
 }
 
 #[rattlefmt::skip]
-static LISTS: [ListsRow; 5] = [
+static LISTS: [ListsRow; 14] = [
     ListsRow { text: "", prints: "| " },
     ListsRow { text: "\n", prints: "| 0 " },
     ListsRow { text: "Multi_key e '\n\nx\ty", prints: "Multi_key e ' x y | 3 0 2 " },
     ListsRow { text: " \t a  b\r\n", prints: "a b | 2 " },
     ListsRow { text: "é", prints: "é | 1 " },
+    ListsRow { text: "Multi_key - >\nMulti_key,minus,greater", prints: "Multi_key - > Multi_key minus greater | 3 3 " },
+    ListsRow { text: "<Multi_key><minus><greater>", prints: "Multi_key minus greater | 3 " },
+    ListsRow { text: "<Multi_key> <minus>, <greater>,", prints: "Multi_key minus greater | 3 " },
+    ListsRow { text: "<a><b>,c,<d>", prints: "a b c d | 4 " },
+    ListsRow { text: ", < > <", prints: ", < > < | 4 " },
+    ListsRow { text: "a,,b", prints: "a  b | 3 " },
+    ListsRow { text: ",,", prints: "  | 2 " },
+    ListsRow { text: "<a <b>c <> <<>", prints: "<a <b>c  < | 4 " },
+    ListsRow { text: "<a>b<c>", prints: "a b<c | 2 " },
 ];
 
 fn push_words(text: &mut String, words: &[&str]) -> Result<(), AllocError> {
@@ -40,7 +49,7 @@ fn push_counts(text: &mut String, counts: &[usize]) -> Result<(), AllocError> {
 fn expect_lists(rt: &impl Abort, alloc: Global, row: &ListsRow) -> Result<(), AllocError> {
     let lists = key_lists(alloc, row.text)?;
     let mut text = String::new(alloc);
-    push_words(&mut text, &lists.words)?;
+    push_words(&mut text, &lists.keys)?;
     push_counts(&mut text, &lists.counts)?;
     expect_text(rt, row.text, &text, row.prints);
     Ok(())

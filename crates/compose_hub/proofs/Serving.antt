@@ -2,7 +2,7 @@
 use Rattle.std.proofs.Common.{◌≡◌, ◌≢◌, ℕ, ◌+◌, ◌-◌, ◌<◌, ◌≤◌, List, [], ◌∷◌, ◌++◌, Bool, true, false, cond, length, get_or, set, max, refl, sym, ◌∙◌, ap, subst, inl, inr, eq-eqb, eqb-true, append_assoc, append-nil, length-append, arith}
 use Rattle.std.proofs.lemmas.Bool.{eqb-false, leb-true}
 use Rattle.std.proofs.lemmas.List.{get_or_default, set-get_or}
-use Rattle.std.specs.Prelude.{◌==◌, ◌&&◌, ◌⊎◌, map, Option, Some, None, Ok, Err, filter, nat_le, IsSome}
+use Rattle.std.specs.Prelude.{◌==◌, ◌&&◌, ◌⊎◌, map, Option, Some, None, Result, Ok, Err, filter, nat_le, IsSome}
 use Rattle.std.specs.List.{AllByRecursion, list_all}
 use Rattle.std.specs.Option.{is_none}
 use Rattle.std.specs.Io.KnownBytes.{Consumes, Appends}
@@ -18,7 +18,7 @@ use Rattle.compose_many.specs.Turns.{IsTurn}
 use Rattle.compose_many.specs.Numbered.{StreamState}
 use Rattle.compose_many.proofs.Happening.{filter-both}
 use Rattle.compose_many.proofs.OneOfMany.{turns_are_streamed, streamed_one_after_another}
-use Rattle.compose_hub.specs.Sockets.{AllStay, BytesStay, KeepsBytes}
+use Rattle.compose_hub.specs.Sockets.{AllStay, BytesStay, KeepsBytes, StaysFailed}
 use Rattle.compose_hub.specs.Ends.{ReportedEnd, reported_more, HasEnded, times_reported, max_held, ReportsEnd}
 use Rattle.compose_many.specs.Streams.{is_failed}
 use Rattle.compose_many.specs.declared.turn.Turn.{Turn}
@@ -30,6 +30,10 @@ use Rattle.compose_hub.specs.Slots.{uses_room, patience, is_stalled, is_idle}
 use Rattle.compose_hub.specs.declared.client.Client.{Client}
 use Rattle.compose_hub.specs.declared.client.Limits.{Limits}
 use Rattle.compose_many.specs.Ends.{EndsAs}
+use Rattle.compose_serve.specs.declared.ends.StreamEnd.{StreamEnd}
+use Rattle.compose_serve.specs.declared.ends.StreamEnd.TheVariants.{InputEnd, Malformed}
+use Rattle.compose_serve.specs.declared.ends.ServeFault.{ServeFault}
+use Rattle.compose_serve.specs.declared.ends.ServeFault.TheVariants.{Read, Write, Cut, TooManyFrames, NoMemory}
 use Rattle.compose_hub.specs.declared.ends.ConnectionEnd.{ConnectionEnd}
 use Rattle.compose_hub.specs.declared.ends.ConnectionEnd.TheVariants.{Served, Stalled, Idle}
 use Rattle.compose_hub.proofs.Turns.{closed, are_both, are_closed}
@@ -85,18 +89,33 @@ pub differ : (m n : ℕ) (b : Bool) → m == n ≡ b → (m ≡ n → ⊥) → m
 differ m n true e f = absurd (f (eqb-true m n e))
 differ m n false e f = e
 
--- whether a connection has ended this way depends only on the bytes that are left of its stream
-pub has_ended_on : (limits : Limits) (how : ConnectionEnd) (a b : StreamState) (state : ConnectionState) → b.left ≡ a.left → HasEnded limits how a state → HasEnded limits how b state
-has_ended_on limits (Served end) a b state e h = (h.0, h.1, subst (λ (l : Option (List ℕ)). EndsAs end l h.0 h.1 state) (sym e) h.2)
-has_ended_on limits Stalled a b state e h = h
-has_ended_on limits Idle a b state e h = h
+-- whether a connection has ended this way depends only on the bytes that are left of its stream, and on whether that
+-- has failed
+ends_on : (end : Result StreamEnd ServeFault) (left : Option (List ℕ)) (r w r' w' : Bool) (state : ConnectionState) → (r ≡ true → r' ≡ true) → (w ≡ true → w' ≡ true) → EndsAs end left r w state → EndsAs end left r' w' state
+ends_on (Ok InputEnd) left r w r' w' state f g h = h
+ends_on (Ok Malformed) left r w r' w' state f g h = h
+ends_on (Err Cut) left r w r' w' state f g h = h
+ends_on (Err Read) left r w r' w' state f g h = (f h.0, h.1, h.2)
+ends_on (Err Write) left r w r' w' state f g h = (g h.0, h.1)
+ends_on (Err TooManyFrames) left r w r' w' state f g h = h
+ends_on (Err NoMemory) left r w r' w' state f g h = h
+
+has_ended_on : (end : Result StreamEnd ServeFault) (a b : StreamState) (state : ConnectionState) → b.left ≡ a.left → StaysFailed a b → EndsAs end a.left (is_failed a.read_mark) (is_failed a.write_mark) state
+    → EndsAs end b.left (is_failed b.read_mark) (is_failed b.write_mark) state
+has_ended_on end a b state e stays h =
+    subst (λ (l : Option (List ℕ)). EndsAs end l (is_failed b.read_mark) (is_failed b.write_mark) state) (sym e)
+    (ends_on end a.left (is_failed a.read_mark) (is_failed a.write_mark) (is_failed b.read_mark) (is_failed b.write_mark) state stays.read stays.write h)
 
 -- ---- when nothing happens
 
 module _ (limits : Limits) (reading : Reading) (first : World) (state : OwnedService) (streams streams' : ℕ → StreamState) (reported : Option (List ReportedEnd)) (stay : BytesStay streams streams') where
-  -- if all streams stay, what happened so far is as before
-  abbrev pub serves_stay : ServesMany limits reading first (world state.service streams reported) → ServesMany limits reading first (world state.service streams' reported)
-  serves_stay s = record {
+  -- the reported ends, on the streams as they are now
+  abbrev pub EndsStay : ServesMany limits reading first (world state.service streams reported) → Type 0
+  EndsStay s = AllByRecursion (λ (e : ReportedEnd). HasEnded limits e.how (streams' e.number) (s.after e.number)) s.ends
+
+  -- if the bytes of all streams stay, what happened so far is as before
+  abbrev serves_still : (s : ServesMany limits reading first (world state.service streams reported)) → EndsStay s → ServesMany limits reading first (world state.service streams' reported)
+  serves_still s ended = record {
     all = s.all;
     after = s.after;
     streamed = record {
@@ -107,9 +126,7 @@ module _ (limits : Limits) (reading : Reading) (first : World) (state : OwnedSer
     numbered = s.numbered;
     ends = s.ends;
     reported = s.reported;
-    ended =
-        all_map (λ (e : ReportedEnd). HasEnded limits e.how (streams e.number) (s.after e.number)) (λ (e : ReportedEnd). HasEnded limits e.how (streams' e.number) (s.after e.number))
-        (λ e h. has_ended_on limits e.how (streams e.number) (streams' e.number) (s.after e.number) (stay e.number).0 h) s.ends s.ended;
+    ended = ended;
     closed = s.closed;
     others = s.others;
   }
@@ -122,9 +139,9 @@ module _ (limits : Limits) (reading : Reading) (first : World) (state : OwnedSer
     served_forth n h = let p = still_forth (get_or slots h.0 None) (get_or now h.0 None) h.1 (still h.0) h.2 in (h.0, p.0, p.1, p.2.0 ∙ h.3)
 
     -- and if also no further connection is accepted and all clients are unchanged, what was true stays true
-    pub still_so_far : ServedSoFar limits reading first (at_now state streams reported) accepted slots → ServedSoFar limits reading first (at_now state streams' reported) accepted' now
-    still_so_far s = record {
-      so_far = serves_stay s.so_far;
+    so_far_still : (s : ServedSoFar limits reading first (at_now state streams reported) accepted slots) → EndsStay s.so_far → ServedSoFar limits reading first (at_now state streams' reported) accepted' now
+    so_far_still s ended = record {
+      so_far = serves_still s.so_far ended;
       within = (let within = s.within in omega arith);
       few =
           λ key d h. let p = still_back (get_or slots key None) (get_or now key None) d (still key) h in
@@ -140,6 +157,47 @@ module _ (limits : Limits) (reading : Reading) (first : World) (state : OwnedSer
       owners = s.owners;
       none_closed = s.none_closed;
     }
+
+pub stays : (streams streams' : ℕ → StreamState) → AllStay streams streams' → BytesStay streams streams'
+stays streams streams' h c = (ap (λ (t : StreamState). t.left) (h c), ap (λ (t : StreamState). t.written) (h c))
+
+pub keeps : (number : ℕ) (streams streams' : ℕ → StreamState) → KeepsBytes number streams streams' → BytesStay streams streams'
+keeps number streams streams' h c = elim (same_or c number (c == number) refl) [
+  | inl e ↦ subst (λ (n : ℕ). ((streams' n).left ≡ (streams n).left) × ((streams' n).written ≡ (streams n).written)) (sym e) (h.left, h.written)
+  | inr ne ↦ (ap (λ (t : StreamState). t.left) (h.others c ne), ap (λ (t : StreamState). t.written) (h.others c ne))
+]
+
+module _ (limits : Limits) (reading : Reading) (first : World) (state : OwnedService) (streams streams' : ℕ → StreamState) (reported : Option (List ReportedEnd)) where
+  -- if all streams stay, so do the reported ends,
+  ends_stay : AllStay streams streams' → (s : ServesMany limits reading first (world state.service streams reported))
+      → AllByRecursion (λ (e : ReportedEnd). HasEnded limits e.how (streams' e.number) (s.after e.number)) s.ends
+  ends_stay stay s =
+      all_map (λ (e : ReportedEnd). HasEnded limits e.how (streams e.number) (s.after e.number)) (λ (e : ReportedEnd). HasEnded limits e.how (streams' e.number) (s.after e.number))
+      (λ e h. subst (λ (t : StreamState). HasEnded limits e.how t (s.after e.number)) (sym (stay e.number)) h) s.ends s.ended
+
+  -- and also if all stay but one on which no connection has ended
+  ends_keep : (number : ℕ) → KeepsBytes number streams streams' → (s : ServesMany limits reading first (world state.service streams reported)) → times_reported number s.ends ≡ 0
+      → AllByRecursion (λ (e : ReportedEnd). HasEnded limits e.how (streams' e.number) (s.after e.number)) s.ends
+  ends_keep number keep s none =
+      others_ended (λ (e : ReportedEnd). HasEnded limits e.how (streams e.number) (s.after e.number)) (λ (e : ReportedEnd). HasEnded limits e.how (streams' e.number) (s.after e.number)) number
+      (λ e ne h. subst (λ (t : StreamState). HasEnded limits e.how t (s.after e.number)) (sym (keep.others e.number (eqb-false e.number number ne))) h) s.ends none s.ended
+
+  -- if all streams stay, what happened so far is as before
+  pub serves_stay : AllStay streams streams' → ServesMany limits reading first (world state.service streams reported) → ServesMany limits reading first (world state.service streams' reported)
+  serves_stay stay s = serves_still limits reading first state streams streams' reported (stays streams streams' stay) s (ends_stay stay s)
+
+  -- and if also no further connection is accepted and all clients are unchanged, what was true stays true
+  pub still_so_far : AllStay streams streams' → (accepted accepted' : ℕ) (slots now : List (Option Client)) → accepted' ≡ accepted → AllAreStill slots now
+      → ServedSoFar limits reading first (at_now state streams reported) accepted slots → ServedSoFar limits reading first (at_now state streams' reported) accepted' now
+  still_so_far stay accepted accepted' slots now same still s =
+      so_far_still limits reading first state streams streams' reported (stays streams streams' stay) accepted accepted' slots now same still s (ends_stay stay s.so_far)
+
+  -- before a connection is accepted, its stream is not yet one on which a connection has ended
+  so_far_accepting : (accepted : ℕ) (slots : List (Option Client)) → KeepsBytes (accepted + 1) streams streams' → ServedSoFar limits reading first (at_now state streams reported) accepted slots
+      → ServedSoFar limits reading first (at_now state streams' reported) accepted slots
+  so_far_accepting accepted slots keep s =
+      so_far_still limits reading first state streams streams' reported (keeps (accepted + 1) streams streams' keep) accepted accepted slots slots refl (still_at_first slots) s
+      (ends_keep (accepted + 1) keep s.so_far (s.unreported (accepted + 1) (omega arith)))
 
 -- ---- the turns of a client
 
@@ -356,15 +414,6 @@ both_hold false b h = absurd (cc)
 
 -- ---- a slot once its connection had its turns, or none
 
-pub stays : (streams streams' : ℕ → StreamState) → AllStay streams streams' → BytesStay streams streams'
-stays streams streams' h c = (ap (λ (t : StreamState). t.left) (h c), ap (λ (t : StreamState). t.written) (h c))
-
-pub keeps : (number : ℕ) (streams streams' : ℕ → StreamState) → KeepsBytes number streams streams' → BytesStay streams streams'
-keeps number streams streams' h c = elim (same_or c number (c == number) refl) [
-  | inl e ↦ subst (λ (n : ℕ). ((streams' n).left ≡ (streams n).left) × ((streams' n).written ≡ (streams n).written)) (sym e) (h.left, h.written)
-  | inr ne ↦ (ap (λ (t : StreamState). t.left) (h.others c ne), ap (λ (t : StreamState). t.written) (h.others c ne))
-]
-
 stays_keep : (number : ℕ) (streams streams' : ℕ → StreamState) → AllStay streams streams' → KeepsBytes number streams streams'
 stays_keep number streams streams' h = record { left = ap (λ (t : StreamState). t.left) (h number); written = ap (λ (t : StreamState). t.written) (h number); others = λ c ne. h c }
 
@@ -373,7 +422,18 @@ keeps_of GoesOn number streams streams' h = stays_keep number streams streams' h
 keeps_of Loaded number streams streams' h = stays_keep number streams streams' h
 keeps_of Waits number streams streams' h = stays_keep number streams streams' h
 keeps_of NeedsRoom number streams streams' h = stays_keep number streams streams' h
-keeps_of (Ends how) number streams streams' h = h
+keeps_of (Ends how) number streams streams' h = h.0
+
+-- a stream that failed stays so
+stays_failed : (a b : StreamState) → b ≡ a → StaysFailed a b
+stays_failed a b e = record { read = λ h. ap (λ (t : StreamState). is_failed t.read_mark) e ∙ h; write = λ h. ap (λ (t : StreamState). is_failed t.write_mark) e ∙ h }
+
+failed_of : (turn : Turn) (number : ℕ) (streams streams' : ℕ → StreamState) → ClosesAs turn number streams streams' → StaysFailed (streams number) (streams' number)
+failed_of GoesOn number streams streams' h = stays_failed (streams number) (streams' number) (h number)
+failed_of Loaded number streams streams' h = stays_failed (streams number) (streams' number) (h number)
+failed_of Waits number streams streams' h = stays_failed (streams number) (streams' number) (h number)
+failed_of NeedsRoom number streams streams' h = stays_failed (streams number) (streams' number) (h number)
+failed_of (Ends how) number streams streams' h = h.1
 
 goes_on_as : (limits : Limits) (c : Client) (after state : ConnectionState) (stream : StreamState) (now : Option Client) (ended : Option (ℕ × ConnectionEnd)) → state ≡ after → ended ≡ None → StandsAs c.number state now
     → GoesOnOrEnds limits c after stream now ended
@@ -382,15 +442,15 @@ goes_on_as limits c after state stream now ended same none stands =
     (subst (λ (s : ConnectionState). StandsAs c.number s now) same stands)
 
 -- after turns, a slot goes on with its connection as they left it, or its connection ended
-slot_follows : (limits : Limits) (turn : Turn) (time : ℕ) (c : Client) (after state : ConnectionState) (stream stream' : StreamState) (now : Option Client) (ended : Option (ℕ × ConnectionEnd)) → stream'.left ≡ stream.left
+slot_follows : (limits : Limits) (turn : Turn) (time : ℕ) (c : Client) (after state : ConnectionState) (stream stream' : StreamState) (now : Option Client) (ended : Option (ℕ × ConnectionEnd)) → stream'.left ≡ stream.left → StaysFailed stream stream'
     → LeavesAs turn after state stream → SlotFollows turn time c state now ended → GoesOnOrEnds limits c after stream' now ended
-slot_follows limits GoesOn time c after state stream stream' now ended same leaves h = goes_on_as limits c after state stream' now ended leaves h.0 h.1
-slot_follows limits Loaded time c after state stream stream' now ended same leaves h = goes_on_as limits c after state stream' now ended leaves h.0 h.1
-slot_follows limits Waits time c after state stream stream' now ended same leaves h = goes_on_as limits c after state stream' now ended leaves h.0 h.1
-slot_follows limits NeedsRoom time c after state stream stream' now ended same leaves h = goes_on_as limits c after state stream' now ended leaves h.0 h.1
-slot_follows limits (Ends how) time c after state stream stream' now ended same leaves h =
+slot_follows limits GoesOn time c after state stream stream' now ended same failed leaves h = goes_on_as limits c after state stream' now ended leaves h.0 h.1
+slot_follows limits Loaded time c after state stream stream' now ended same failed leaves h = goes_on_as limits c after state stream' now ended leaves h.0 h.1
+slot_follows limits Waits time c after state stream stream' now ended same failed leaves h = goes_on_as limits c after state stream' now ended leaves h.0 h.1
+slot_follows limits NeedsRoom time c after state stream stream' now ended same failed leaves h = goes_on_as limits c after state stream' now ended leaves h.0 h.1
+slot_follows limits (Ends how) time c after state stream stream' now ended same failed leaves h =
     subst (λ (e : Option (ℕ × ConnectionEnd)). GoesOnOrEnds limits c after stream' now e) (sym h.1)
-    (h.0, refl, has_ended_on limits (Served how) stream stream' after same (is_failed stream.read_mark, is_failed stream.write_mark, leaves))
+    (h.0, refl, has_ended_on how stream stream' after same failed leaves)
 
 -- if sessions don't end with their connection, no session is closed without a request
 none_last : (ended : Option (ℕ × ConnectionEnd)) (number : ℕ) (owners : List Owner) (events : List Event) → closings events ≡ [] → ClosesLast ended false number owners events
@@ -412,7 +472,7 @@ slot_turns limits time reading old new streams streams' before now ended (inr p)
       t.0,
       t.1,
       are_closed limits.unsent reading old.service new.service c.number streams between streams' c.connection t.1 t.0 t.2 kept,
-      slot_follows limits p.3 time c t.1 p.4 (between c.number) (streams' c.number) now ended kept.left t.5 p.8,
+      slot_follows limits p.3 time c t.1 p.4 (between c.number) (streams' c.number) now ended kept.left (failed_of p.3 c.number between streams' p.7) t.5 p.8,
       t.8,
       none_last ended c.number old.owners t.0 t.7,
     )
@@ -536,7 +596,7 @@ module _ (limits : Limits) (reading : Reading) (first : World) (old new : OwnedS
       subst (λ (now : List (Option Client)). ServedSoFar limits reading first (at_now new streams' reported') accepted now) (sym (ap (λ (o : Option Client). set slots key o) same ∙ set-get_or slots key None))
       (subst (λ (state : OwnedService). ServedSoFar limits reading first (at_now state streams' reported') accepted slots) (sym e)
       (subst (λ (r : Option (List ReportedEnd)). ServedSoFar limits reading first (at_now old streams' r) accepted slots) (sym t)
-      (still_so_far limits reading first old streams streams' reported (stays streams streams' stay) accepted accepted slots slots refl (still_at_first slots) s)))
+      (still_so_far limits reading first old streams streams' reported stay accepted accepted slots slots refl (still_at_first slots) s)))
 
   -- no session was closed for a connection that is served
   none_own : (c : Client) → IsIn slots key c → ClosedNone c.number s.so_far.all
@@ -634,12 +694,12 @@ module _ (limits : Limits) (reading : Reading) (first : World) (now : Now) (acce
 
 module _ (limits : Limits) (reading : Reading) (first : World) (state : OwnedService) (streams streams' : ℕ → StreamState) (reported : Option (List ReportedEnd)) (accepted accepted' : ℕ) (slots : List (Option Client))
     (key : ℕ) (slot x : Option Client) (lt : key < length slots) (s : ServedSoFar limits reading first (at_now state streams reported) accepted slots) (below : accepted < limits.connections) (free : slot ≡ None)
-    (here : slot ≡ get_or slots key slot) (stay : BytesStay streams streams') where
+    (here : slot ≡ get_or slots key slot) (keep : KeepsBytes (accepted + 1) streams streams') where
   at_key : get_or slots key None ≡ slot
   at_key = sym (here ∙ get_or_default slots key slot None lt)
 
   before : ServedSoFar limits reading first (at_now state streams' reported) accepted slots
-  before = still_so_far limits reading first state streams streams' reported stay accepted accepted slots slots refl (still_at_first slots) s
+  before = so_far_accepting limits reading first state streams streams' reported accepted slots keep s
 
   -- after an attempt to accept a connection into a free slot
   pub slot_accepted : AcceptsAs accepted accepted' slot x → ServedSoFar limits reading first (at_now state streams' reported) accepted' (set slots key x)

@@ -4,4 +4,5 @@ pub mod Slots
 pub mod Turns
 pub mod Serving
 pub mod Rounds
+pub mod Round
 pub mod Polled

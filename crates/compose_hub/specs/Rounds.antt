@@ -4,7 +4,7 @@ use Rattle.std.specs.List.{list_any, list_all}
 use Rattle.std.specs.Option.{is_none}
 use Rattle.compose_many.specs.Numbered.{StreamState}
 use Rattle.compose_hub.specs.Sockets.{AllStay, KeepsBytes}
-use Rattle.compose_hub.specs.Slots.{slot_has_turn, slot_waits_for_room, slot_has_room, slot_is_fair, slot_idle_in, waits_since, is_stalled, is_idle, given_turn}
+use Rattle.compose_hub.specs.Slots.{slot_has_turn, slot_waits_for_room, slot_has_room, slot_uses_room, slot_is_fair, slot_idle_in, waits_since, is_stalled, is_idle, given_turn}
 use Rattle.compose_hub.specs.declared.client.Client.{Client}
 use Rattle.compose_hub.specs.declared.client.Limits.{Limits}
 use Rattle.compose_hub.specs.declared.server.Queue.{Queue}
@@ -101,15 +101,15 @@ wait_for_work queue slot turns waits = if turns || (is_waits queue && slot) then
 
 -- ---- who is ended
 
--- why a connection is ended, if it is: it is stalled while others wait for room, or it is idle
+-- why a connection is ended, if it is: it is stalled while room is short, or it is idle
 abbrev pub why_ended : Option ℕ → Bool → ℕ → Client → Option ConnectionEnd
-why_ended idle others time c = if others && is_stalled time c then Some Stalled else if is_idle idle time c then Some Idle else None
+why_ended idle short time c = if short && is_stalled time c then Some Stalled else if is_idle idle time c then Some Idle else None
 
 -- the connection in a slot is ended if there is a cause, and otherwise nothing happened
 abbrev pub SlotGivesUp : Option ℕ → Bool → ℕ → (ℕ → StreamState) → (ℕ → StreamState) → Option Client → Option Client → Option (ℕ × ConnectionEnd) → Type 0
-SlotGivesUp idle others time streams streams' before now None = AllStay streams streams' × (now ≡ before) × ((c : Client) → before ≡ Some c → why_ended idle others time c ≡ None)
-SlotGivesUp idle others time streams streams' before now (Some e) =
-    (c : Client) × (before ≡ Some c) × (why_ended idle others time c ≡ Some e.1) × (now ≡ None) × (e.0 ≡ c.number) × KeepsBytes c.number streams streams'
+SlotGivesUp idle short time streams streams' before now None = AllStay streams streams' × (now ≡ before) × ((c : Client) → before ≡ Some c → why_ended idle short time c ≡ None)
+SlotGivesUp idle short time streams streams' before now (Some e) =
+    (c : Client) × (before ≡ Some c) × (why_ended idle short time c ≡ Some e.1) × (now ≡ None) × (e.0 ≡ c.number) × KeepsBytes c.number streams streams'
 
 -- ---- what is ready
 
@@ -134,6 +134,10 @@ MarksReady ready before now = (key : ℕ) → get_or now key None ≡ (let slot 
 -- the maximum number of connections that have room for more than their share
 abbrev pub max_rooms : ℕ
 max_rooms = 8
+
+-- room is short: a connection waits for room, and none is free
+abbrev pub is_room_short : List (Option Client) → Bool
+is_room_short slots = waits_for_room slots && nat_le max_rooms (count_by slot_uses_room slots)
 
 -- at most eight connections have room, and each other one holds no more than its share
 pub record AreWithinRooms (slots : List (Option Client)) : Type 0 where

@@ -1,5 +1,5 @@
 -- The connections in the slots of a server, and what happened on all connections since the first.
-use Rattle.std.specs.Prelude.{◌≡◌, ◌≢◌, ◌⊎◌, ℕ, ◌+◌, ◌<◌, ◌≤◌, Bool, true, false, if◌then◌else◌, max, List, [], ◌∷◌, ◌++◌, map, flat_map, get_or, Option, Some, None}
+use Rattle.std.specs.Prelude.{◌≡◌, ◌≢◌, ◌⊎◌, ℕ, ◌+◌, ◌<◌, ◌≤◌, Bool, true, false, max, List, [], ◌∷◌, ◌++◌, map, get_or, Option, Some, None}
 use Rattle.std.specs.List.{AllByRecursion}
 use Rattle.compose_machine.specs.Machine.{ServiceState, Reading}
 use Rattle.compose_machine.specs.Laws.{Exchange}
@@ -10,10 +10,10 @@ use Rattle.compose_many.specs.Service.{NumberedEvent}
 use Rattle.compose_many.specs.Numbered.{StreamState, AllStreamed}
 use Rattle.compose_many.specs.declared.turn.Turn.{Turn}
 use Rattle.compose_many.specs.declared.turn.Turn.TheVariants.{Waits, NeedsRoom, Ends}
-use Rattle.compose_hub.specs.Sockets.{AllStay, KeepsBytes}
+use Rattle.compose_hub.specs.Sockets.{AllStay, KeepsBytes, StaysFailed}
 use Rattle.compose_hub.specs.Ends.{ReportedEnd, reported_more, HasEnded, times_reported}
 use Rattle.compose_hub.specs.Turns.{OwnedService, max_turns, TurnsAs, AreTurns}
-use Rattle.compose_hub.specs.Slots.{slot_has_turn, clients_in}
+use Rattle.compose_hub.specs.Slots.{slot_has_turn}
 use Rattle.compose_hub.specs.declared.client.Client.{Client}
 use Rattle.compose_hub.specs.declared.client.Limits.{Limits}
 use Rattle.compose_hub.specs.declared.client.WaitsFor.{WaitsFor}
@@ -130,9 +130,10 @@ abbrev pub SlotFollows : Turn → ℕ → Client → ConnectionState → Option 
 SlotFollows (Ends end) time c state now ended = (now ≡ None) × (ended ≡ Some (c.number, Served end))
 SlotFollows turn time c state now ended = (ended ≡ None) × StandsAs c.number state now × WaitsSince (waits_after turn) time now
 
--- the stream of a connection is closed if the connection ended; otherwise all streams stay
+-- the stream of a connection is closed if the connection ended, and is then still marked as failed if it was; otherwise
+-- all streams stay
 abbrev pub ClosesAs : Turn → ℕ → (ℕ → StreamState) → (ℕ → StreamState) → Type 0
-ClosesAs (Ends end) number streams streams' = KeepsBytes number streams streams'
+ClosesAs (Ends end) number streams streams' = KeepsBytes number streams streams' × StaysFailed (streams number) (streams' number)
 ClosesAs _ number streams streams' = AllStay streams streams'
 
 -- the client in a slot has had its turns, if its turn was next, and otherwise nothing happened; this is the time then
@@ -142,25 +143,7 @@ SlotTurnsAs unsent time reading old new streams streams' before now ended =
     ⊎ ((c : Client) × (before ≡ Some c) × (slot_has_turn before ≡ true) × (turn : Turn) × (state : ConnectionState) × (between : ℕ → StreamState)
     × TurnsAs max_turns unsent reading turn old new c.number streams between c.connection state × ClosesAs turn c.number between streams' × SlotFollows turn time c state now ended)
 
--- ---- a round
-
--- the clients whose turn is next, in the order of their slots
-abbrev pub with_turn : List (Option Client) → List Client
-with_turn slots = flat_map (λ slot. if slot_has_turn slot then clients_in slot else []) slots
-
--- how a connection ended by its last turn, if it did
-abbrev pub end_of : ℕ → Turn → Option (ℕ × ConnectionEnd)
-end_of number (Ends end) = Some (number, Served end)
-end_of number _ = None
-
--- each of these clients has its turns, one after another; if its connection ended, its stream is closed, and its
--- sessions too if they end with it; nothing else happens
-abbrev pub AreRound : Bool → ℕ → Reading → OwnedService → OwnedService → (ℕ → StreamState) → (ℕ → StreamState) → List Client → Type 0
-AreRound own unsent reading old new streams streams' [] = (new ≡ old) × AllStay streams streams'
-AreRound own unsent reading old new streams streams' (c ∷ clients) =
-    (turn : Turn) × (state : ConnectionState) × (mid : OwnedService) × (between : ℕ → StreamState) × (closed : ℕ → StreamState)
-    × TurnsAs max_turns unsent reading turn old mid c.number streams between c.connection state × ClosesAs turn c.number between closed
-    × (last : OwnedService) × ClosesAfter (end_of c.number turn) own reading mid last × AreRound own unsent reading last new closed streams' clients
+-- ---- everything so far
 
 -- this client is in this slot
 abbrev pub IsIn : List (Option Client) → ℕ → Client → Type 0

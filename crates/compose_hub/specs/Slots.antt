@@ -67,10 +67,6 @@ woken other = other
 
 -- ---- a slot
 
-abbrev pub clients_in : Option Client → List Client
-clients_in None = []
-clients_in (Some c) = c ∷ []
-
 abbrev pub slot_has_room : Option Client → Bool
 slot_has_room None = false
 slot_has_room (Some c) = c.has_room
@@ -108,3 +104,8 @@ given_turn (Some c) = Some (record c { waits_for = woken c.waits_for })
 abbrev pub given_room : ℕ → Option Client → Option Client
 given_room time None = None
 given_room time (Some c) = Some (record c { waits_for = Turn; has_room = true; since = time })
+
+-- what is left of its room once rooms that are not used were taken back
+abbrev pub kept_room : Option Client → Option Client
+kept_room None = None
+kept_room (Some c) = Some (record c { has_room = uses_room c })

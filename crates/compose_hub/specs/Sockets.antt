@@ -1,6 +1,7 @@
 -- What accepting, waiting and closing change of the streams.
-use Rattle.std.specs.Prelude.{◌≡◌, ℕ, ◌+◌, ◌<◌, Option, Some, None}
+use Rattle.std.specs.Prelude.{◌≡◌, ℕ, ◌+◌, ◌<◌, true, Option, Some, None}
 use Rattle.compose_many.specs.Numbered.{StreamState, OthersStay}
+use Rattle.compose_many.specs.Streams.{is_failed}
 
 -- every stream is as before
 abbrev pub AllStay : (ℕ → StreamState) → (ℕ → StreamState) → Type 0
@@ -15,6 +16,11 @@ pub record KeepsBytes (number : ℕ) (before now : ℕ → StreamState) : Type 0
   pub left : (now number).left ≡ (before number).left
   pub written : (now number).written ≡ (before number).written
   pub others : OthersStay number before now
+
+-- a stream that failed to read or to write is still marked as failed
+pub record StaysFailed (before now : StreamState) : Type 0 where
+  pub read : is_failed before.read_mark ≡ true → is_failed now.read_mark ≡ true
+  pub write : is_failed before.write_mark ≡ true → is_failed now.write_mark ≡ true
 
 -- ---- attempts to accept, if they are counted
 

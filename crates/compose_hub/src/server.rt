@@ -5,9 +5,10 @@ ghost use Rattle.compose_many.specs.Connection.{new_connection};
 ghost use Rattle.compose_hub.specs.Sockets.{KeepsBytes, one_more, IsMore};
 ghost use Rattle.compose_hub.specs.Ends.{ReportedEnd};
 ghost use Rattle.compose_hub.specs.Turns.{OwnedService, owned};
-ghost use Rattle.compose_hub.specs.Serving.{world, at_now, ServesMany, ServesAll, HasServed, GoesOnServing, AcceptsAs, WaitsSince, AllAreStill, HasNone, SlotIsStill, SlotTurnsAs, ClosesAfter, AreRound, with_turn};
-ghost use Rattle.compose_hub.specs.Rounds.{queue_after, retried, is_waits, is_wanted, is_done, has_turns, waits_for_room, has_slot, later, wait_for_work, sooner, IsNextIdle, why_ended, SlotGivesUp, queue_with, MarksReady, KeepsRooms, KeepsRoom};
-ghost use Rattle.compose_hub.specs.Slots.{slot_uses_room, slot_has_room, given_turn, given_room};
+ghost use Rattle.compose_hub.specs.Serving.{world, at_now, ServesMany, ServesAll, HasServed, GoesOnServing, AcceptsAs, WaitsSince, AllAreStill, HasNone, SlotIsStill, SlotTurnsAs, ClosesAfter};
+ghost use Rattle.compose_hub.specs.Round.{EachSlot, TakesTurns, GivesUp, SharesRoom, AllAreKept, IsRound};
+ghost use Rattle.compose_hub.specs.Rounds.{queue_after, retried, is_waits, is_wanted, is_done, has_turns, waits_for_room, has_slot, later, wait_for_work, sooner, IsNextIdle, why_ended, SlotGivesUp, queue_with, MarksReady, KeepsRooms, KeepsRoom, is_room_short};
+ghost use Rattle.compose_hub.specs.Slots.{slot_uses_room, slot_has_room, given_turn, given_room, kept_room};
 ghost use Rattle.compose_hub.specs.Sockets.{AllStay};
 ghost use Rattle.std.specs.Option.{option_map, is_none};
 ghost use Rattle.std.specs.List.{list_any, list_all};
@@ -96,12 +97,8 @@ pub fn serve_at_once<N: Sockets, A: Responder, E: EndReport>(
             return Ok(());
         }
         sockets.poll(server.longest_wait(limits, behind), &mut ready)?;
-        server.count_time(sockets.passed());
-        let time = server.time;
-        server.mark_ready(&ready);
-        server.take_turns(sockets, service, alloc, limits, report)?;
-        server.share_room();
-        server.give_up(sockets, service, alloc, limits, report, time)?;
+        let passed = sockets.passed();
+        server.round(sockets, service, alloc, limits, report, &ready, passed)?;
     }
     Err(io::Error::from(io::ErrorKind::TimedOut))
 }
@@ -184,6 +181,13 @@ impl Server {
         })
     }
 
+    /// Returns whether a connection waits for room and none is free. O(slots).
+    fn is_room_short(&self) -> bool
+        ensures { result ≡ is_room_short self.now.slots.items }
+    {
+        self.waits_for_room() && rooms_used(&self.slots) >= ROOMS
+    }
+
     /// Returns whether a further connection can be served.
     fn has_slot(&self, limits: Limits) -> bool
         ensures { result ≡ has_slot limits self.now.accepted self.now.slots.items }
@@ -196,6 +200,56 @@ impl Server {
         ensures { result ≡ list_any is_none self.now.slots.items }
     {
         self.slots.iter().any(|slot| slot.is_none())
+    }
+
+    /// Takes a round, after a wait that reported these sources as ready, while this much time
+    /// passed.
+    ///
+    /// Each connection that was reported and waited for its stream has its turns, and so has each
+    /// whose turn was next. Then those are ended that hold up others, or that were idle for as long
+    /// as they may be when the wait began: had anything come by then, the wait would have reported
+    /// it. So nothing that came is lost because the process itself was stopped. At last the free
+    /// rooms are given to connections that wait for room.
+    ///
+    /// Errors: an I/O error of the report; then the round is not taken to its end. O(slots), and
+    /// what the turns cost.
+    fn round<N: Sockets, A: Responder, E: EndReport>(
+        &mut self,
+        sockets: &mut N,
+        service: &mut A,
+        alloc: Global,
+        limits: Limits,
+        report: &mut E,
+        ready: &[Ready],
+        passed: Duration,
+    ) -> io::Result<()>
+        ensures happened { HasServed limits A.reading
+            (at_now (owned (A.state service.old) self.old.owners.items) (N.stream sockets.old)
+            (E.reported report.old))
+            (world (A.state service.new) (N.stream sockets.new) (E.reported report.new))
+            self.old.accepted self.old.slots.items }
+        ensures goes_on { OnOk result (GoesOnServing limits A.reading
+            (at_now (owned (A.state service.old) self.old.owners.items) (N.stream sockets.old)
+            (E.reported report.old))
+            (at_now (owned (A.state service.new) self.new.owners.items) (N.stream sockets.new)
+            (E.reported report.new))
+            self.old.accepted self.new.accepted self.old.slots.items self.new.slots.items) }
+        ensures round { OnOk result (IsRound limits A.reading ready.now (as_nanos passed)
+            (at_now (owned (A.state service.old) self.old.owners.items) (N.stream sockets.old)
+            (E.reported report.old))
+            (at_now (owned (A.state service.new) self.new.owners.items) (N.stream sockets.new)
+            (E.reported report.new))
+            self.old.time self.new.time self.old.slots.items self.new.slots.items) }
+        ensures queue { OnOk result (self.new.queue ≡ queue_with ready.now self.old.queue) }
+        ensures rooms { KeepsRooms self.old.slots.items self.new.slots.items }
+    {
+        let began = self.time;
+        self.count_time(passed);
+        self.mark_ready(ready);
+        self.take_turns(sockets, service, alloc, limits, report)?;
+        self.give_up(sockets, service, alloc, limits, report, began)?;
+        self.share_room();
+        Ok(())
     }
 
     /// Adds the time that has passed.
@@ -233,6 +287,7 @@ impl Server {
         ensures still { (self.new.accepted ≡ self.old.accepted)
             × AllAreStill self.old.slots.items self.new.slots.items }
         ensures owners { self.new.owners.items ≡ self.old.owners.items }
+        ensures time { self.new.time ≡ self.old.time }
         ensures queue { self.new.queue ≡ queue_with ready.now self.old.queue }
         ensures marks { MarksReady ready.now self.old.slots.items self.new.slots.items }
         ensures rooms { KeepsRooms self.old.slots.items self.new.slots.items }
@@ -248,6 +303,7 @@ impl Server {
         ensures still { (self.new.accepted ≡ self.old.accepted)
             × AllAreStill self.old.slots.items self.new.slots.items }
         ensures owners { self.new.owners.items ≡ self.old.owners.items }
+        ensures time { self.new.time ≡ self.old.time }
         ensures queue { self.new.queue ≡ queue_with (source ∷ []) self.old.queue }
         ensures marks { MarksReady (source ∷ []) self.old.slots.items self.new.slots.items }
         ensures rooms { KeepsRooms self.old.slots.items self.new.slots.items }
@@ -281,10 +337,14 @@ impl Server {
             (at_now (owned (A.state service.new) self.new.owners.items) (N.stream sockets.new)
             (E.reported report.new))
             self.old.accepted self.new.accepted self.old.slots.items self.new.slots.items) }
-        ensures round { OnOk result (AreRound limits.own_sessions limits.unsent A.reading
-            (owned (A.state service.old) self.old.owners.items)
-            (owned (A.state service.new) self.new.owners.items) (N.stream sockets.old) (N.stream sockets.new)
-            (with_turn self.old.slots.items)) }
+        ensures turns { OnOk result (EachSlot (TakesTurns limits A.reading self.old.time)
+            (at_now (owned (A.state service.old) self.old.owners.items) (N.stream sockets.old)
+            (E.reported report.old))
+            (at_now (owned (A.state service.new) self.new.owners.items) (N.stream sockets.new)
+            (E.reported report.new))
+            self.old.slots.items self.new.slots.items) }
+        ensures later { self.old.time ≤ self.new.time }
+        ensures queue { self.new.queue ≡ self.old.queue }
         ensures rooms { KeepsRooms self.old.slots.items self.new.slots.items }
     {
         'slots: for slot in self.slots.iter_mut() {
@@ -303,15 +363,32 @@ impl Server {
         Ok(())
     }
 
+    /// Takes back the rooms that are not used. O(slots).
+    fn give_back_rooms(&mut self)
+        ensures accepted { self.new.accepted ≡ self.old.accepted }
+        ensures still { AllAreStill self.old.slots.items self.new.slots.items }
+        ensures owners { self.new.owners.items ≡ self.old.owners.items }
+        ensures time { (self.new.time ≡ self.old.time) × (self.new.queue ≡ self.old.queue) }
+        ensures rooms { KeepsRooms self.old.slots.items self.new.slots.items }
+        ensures used { count_by slot_has_room self.new.slots.items ≡ count_by slot_uses_room self.new.slots.items }
+        ensures kept { AllAreKept self.old.slots.items self.new.slots.items }
+    {
+        'slots: for slot in self.slots.iter_mut() {
+            give_back_room(slot);
+        }
+    }
+
     /// Takes back room that is not used, and gives what is free to the connections that have waited
-    /// longest for it, so that at most 8 have some.
+    /// longest for it, so that at most 8 have some. O(slots).
     fn share_room(&mut self)
         ensures still { (self.new.accepted ≡ self.old.accepted)
             × AllAreStill self.old.slots.items self.new.slots.items }
         ensures owners { self.new.owners.items ≡ self.old.owners.items }
+        ensures time { (self.new.time ≡ self.old.time) × (self.new.queue ≡ self.old.queue) }
+        ensures shared { SharesRoom self.old.time self.old.slots.items self.new.slots.items }
         ensures rooms { KeepsRooms self.old.slots.items self.new.slots.items }
     {
-        give_back_rooms(&mut self.slots);
+        self.give_back_rooms();
         let used = rooms_used(&self.slots);
         'rooms: for _ in 0..ROOMS.saturating_sub(used) {
             match waits_longest(&self.slots) {
@@ -327,6 +404,7 @@ impl Server {
         ensures still { (self.new.accepted ≡ self.old.accepted)
             × AllAreStill self.old.slots.items self.new.slots.items }
         ensures owners { self.new.owners.items ≡ self.old.owners.items }
+        ensures time { (self.new.time ≡ self.old.time) × (self.new.queue ≡ self.old.queue) }
         ensures given { self.new.slots.items ≡ slice_set self.old.slots.items key
             (given_room self.old.time (get_or self.old.slots.items key None)) }
     {
@@ -334,10 +412,10 @@ impl Server {
     }
 
     /// Ends the connections that hold up others, and those that are idle for longer than they may
-    /// be. A connection holds up others if it uses its room, others wait for room, and nothing of
-    /// its load came for ten seconds.
+    /// be. A connection holds up others if it uses its room, others wait for room and none is free,
+    /// and nothing of its load came for ten seconds.
     ///
-    /// `time` is the time of the last wait: what came since then is not known.
+    /// `time` is when the last wait began: what came since then is not known.
     fn give_up<N: Sockets, A: Responder, E: EndReport>(
         &mut self,
         sockets: &mut N,
@@ -358,11 +436,18 @@ impl Server {
             (at_now (owned (A.state service.new) self.new.owners.items) (N.stream sockets.new)
             (E.reported report.new))
             self.old.accepted self.new.accepted self.old.slots.items self.new.slots.items) }
+        ensures ends { OnOk result (EachSlot (GivesUp limits (is_room_short self.old.slots.items) time A.reading)
+            (at_now (owned (A.state service.old) self.old.owners.items) (N.stream sockets.old)
+            (E.reported report.old))
+            (at_now (owned (A.state service.new) self.new.owners.items) (N.stream sockets.new)
+            (E.reported report.new))
+            self.old.slots.items self.new.slots.items) }
+        ensures time { (self.new.time ≡ self.old.time) × (self.new.queue ≡ self.old.queue) }
         ensures rooms { KeepsRooms self.old.slots.items self.new.slots.items }
     {
-        let others = self.waits_for_room();
+        let short = self.is_room_short();
         'slots: for slot in self.slots.iter_mut() {
-            let ended = give_up(slot, sockets, limits.idle, others, time);
+            let ended = give_up(slot, sockets, limits.idle, short, time);
             close_sessions(ended, limits.own_sessions, service, &mut self.owners, alloc);
             tell(report, ended)?;
         }
@@ -423,22 +508,12 @@ fn give_room(slot: &mut Option<Client>, time: u64)
     }
 }
 
-/// Takes back the rooms that are not used. O(slots).
-fn give_back_rooms(slots: &mut [Option<Client>])
-    ensures still { AllAreStill slots.old slots.new }
-    ensures rooms { KeepsRooms slots.old slots.new }
-    ensures used { count_by slot_has_room slots.new ≡ count_by slot_uses_room slots.new }
-{
-    'slots: for slot in slots.iter_mut() {
-        give_back_room(slot);
-    }
-}
-
 /// Takes back the room of the connection in this slot, unless it uses it.
 fn give_back_room(slot: &mut Option<Client>)
     ensures still { SlotIsStill slot.old slot.new }
     ensures room { KeepsRoom slot.old slot.new }
     ensures used { slot_has_room slot.new ≡ slot_uses_room slot.new }
+    ensures kept { slot.new ≡ kept_room slot.old }
 {
     if let Some(client) = slot {
         client.give_back_room();
@@ -577,12 +652,12 @@ fn pause<N: Sockets>(
     None
 }
 
-/// Returns why the connection of this client is ended, if it is: it is stalled while others wait
-/// for room, or it is idle.
-fn why_ended(client: &Client, idle: Option<u32>, others: bool, time: u64) -> Option<ConnectionEnd>
-    ensures { result ≡ why_ended idle others time client.now }
+/// Returns why the connection of this client is ended, if it is: it is stalled while room is short,
+/// or it is idle.
+fn why_ended(client: &Client, idle: Option<u32>, short: bool, time: u64) -> Option<ConnectionEnd>
+    ensures { result ≡ why_ended idle short time client.now }
 {
-    if others && client.is_stalled(time) {
+    if short && client.is_stalled(time) {
         return Some(ConnectionEnd::Stalled);
     }
     if client.is_idle(idle, time) {
@@ -596,16 +671,16 @@ fn give_up<N: Sockets>(
     slot: &mut Option<Client>,
     sockets: &mut N,
     idle: Option<u32>,
-    others: bool,
+    short: bool,
     time: u64,
 ) -> Option<(u32, ConnectionEnd)>
-    ensures gives_up { SlotGivesUp idle others time (N.stream sockets.old) (N.stream sockets.new) slot.old slot.new result }
+    ensures gives_up { SlotGivesUp idle short time (N.stream sockets.old) (N.stream sockets.new) slot.old slot.new result }
     ensures room { KeepsRoom slot.old slot.new }
 {
     let Some(client) = slot else {
         return None;
     };
-    let Some(why) = why_ended(client, idle, others, time) else {
+    let Some(why) = why_ended(client, idle, short, time) else {
         return None;
     };
     let number = client.number();

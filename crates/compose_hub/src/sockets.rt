@@ -1,6 +1,6 @@
 //! The sockets of a service: a source of connections, and their streams.
 ghost use Rattle.std.specs.Prelude.{◌≡◌, ℕ, Option};
-ghost use Rattle.compose_hub.specs.Sockets.{AllStay, KeepsBytes, one_more};
+ghost use Rattle.compose_hub.specs.Sockets.{AllStay, KeepsBytes, StaysFailed, one_more};
 
 use compose_many::Streams;
 use std::io;
@@ -55,7 +55,9 @@ pub trait Sockets: Streams {
     fn passed(&mut self) -> Duration
         ensures { AllStay (Self.stream self.old) (Self.stream self.new) };
 
-    /// Closes the connection with this number, which is not reported from then on.
+    /// Closes the connection with this number, which is not reported from then on. A stream that
+    /// has failed stays so.
     fn close(&mut self, number: u64)
-        ensures { KeepsBytes number (Self.stream self.old) (Self.stream self.new) };
+        ensures bytes { KeepsBytes number (Self.stream self.old) (Self.stream self.new) }
+        ensures failed { StaysFailed (Self.stream self.old number) (Self.stream self.new number) };
 }

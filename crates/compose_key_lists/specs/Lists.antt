@@ -1,22 +1,9 @@
--- Lists of keys as written on the lines of standard input (this project's profile).
-use Rattle.std.specs.Prelude.{ℕ, Bool, true, false, ◌+◌, ◌-◌, ◌==◌, nat_lt, if◌then◌else◌, List, [], ◌∷◌, ◌++◌, filter, flat_map, Result, Ok, Err, codes}
-use Rattle.std.specs.List.{slice_split}
+-- The line of standard input that has a refused key (this project's profile).
+use Rattle.std.specs.Prelude.{ℕ, ◌+◌, ◌-◌, nat_lt, if◌then◌else◌, List, [], ◌∷◌, ◌++◌, Result, Err, codes}
 use Rattle.std.specs.Fmt.{decimal}
 use Rattle.compose_answer.specs.declared.answer.Answer.{Answer}
 use Rattle.compose_migration.specs.declared.refusal.Refusal.{Refusal}
 use Rattle.compose_migration.specs.declared.refusal.Refusal.TheVariants.{Key}
-
-abbrev pub is_word : List ℕ → Bool
-is_word [] = false
-is_word (b ∷ word) = true
-
--- the words between tabs (code 9)
-abbrev pub words_between : List ℕ → List (List ℕ)
-words_between part = filter is_word (slice_split (λ b. b == 9) part)
-
--- the words of a line, between spaces (code 32) and tabs
-abbrev pub words_in : List ℕ → List (List ℕ)
-words_in line = flat_map words_between (slice_split (λ b. b == 32) line)
 
 -- the number of the line that has the key with this index, by the number of keys in each line
 abbrev pub line_from : ℕ → List ℕ → ℕ → ℕ

@@ -1,4 +1,4 @@
-//! Lists of keys as written on lines: a list for each line, its keys separated by blanks.
+//! Lists of keys as written on lines: a list for each line.
 #![tactic(auto)]
 
 mod lists;

@@ -17,7 +17,8 @@ use Rattle.compose_report.specs.Outcomes.{IsReported}
 use Rattle.compose_report.specs.declared.outcome.Outcome.{Outcome}
 use Rattle.keysym_core.specs.Header.{names_of}
 use Rattle.compose_arguments.specs.declared.table_arguments.TableArguments.{TableArguments}
-use Rattle.compose_key_lists.specs.Lists.{refused_line, words_in}
+use Rattle.compose_keys.specs.Keys.{keys_in}
+use Rattle.compose_key_lists.specs.Lists.{refused_line}
 use Rattle.compose_runs.specs.OneTable.{IsTableRead, IsTableOutcome}
 use Rattle.compose_runs.specs.Skipping.{IsFollowed, IsKeptRead}
 use Rattle.compose_runs.specs.WrittenKeys.{AreWritten}
@@ -62,12 +63,12 @@ AreGivenLines folder (word ∷ words) lines = lines ≡ None
 -- has it
 pub record IsTypeLinesOutcome (read : TableRead) (text : List ℕ) (outcome : Outcome) : Type 0 where
   pub keys : List (List ℕ)
-  pub are_keys : AreWritten (names_of read.names.lines.items) (flat_map words_in (lines text)) keys
+  pub are_keys : AreWritten (names_of read.names.lines.items) (flat_map keys_in (lines text)) keys
   pub answered : Result Answer Refusal
-  pub is : Returns (AreListsTyped (map (λ line. length (words_in line)) (lines text))) answered (type_parts read.names.lines.items keys (sources_of read.table))
+  pub is : Returns (AreListsTyped (map (λ line. length (keys_in line)) (lines text))) answered (type_parts read.names.lines.items keys (sources_of read.table))
   pub printed : Outcome
   pub reported : IsTableOutcome false read keys [] [] answered printed
-  pub followed : IsFollowed (refused_line (map (λ line. length (words_in line)) (lines text)) answered) printed outcome
+  pub followed : IsFollowed (refused_line (map (λ line. length (keys_in line)) (lines text)) answered) printed outcome
 
 -- the answer for the lines if they are given, or otherwise for the words
 abbrev pub IsTypedFile : TableRead → List (List ℕ) → Option (List ℕ) → Outcome → Type 0

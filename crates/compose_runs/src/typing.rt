@@ -191,7 +191,7 @@ fn type_lines_outcome<T: BuildTable>(
     ensures { IfOk result (λ outcome. IsTypeLinesOutcome read.entry lines.now outcome) }
 {
     let lists = key_lists(alloc, lines)?;
-    let written = written_keys(alloc, &read.names.lines, &lists.words)?;
+    let written = written_keys(alloc, &read.names.lines, &lists.keys)?;
     let keys = borrowed(alloc, &written)?;
     let table = read.table.input();
     let answered = type_lists::<T>(alloc, &read.names.lines, &keys, &lists.counts, &table);

@@ -21,6 +21,9 @@ pub enum SocketFault {
     /// Memory ran out.
     #[error("3 NoMemory")]
     NoMemory,
+    /// The descriptor that was handed over is no Unix socket that listens.
+    #[error("4 NoListener")]
+    NoListener,
 }
 
 impl From<io::Error> for SocketFault {

@@ -1,13 +1,14 @@
 use Rattle.std.proofs.Common.{◌≡◌, ◌∙◌, ℕ, List, Option, refl, sym, ap, subst}
 use Rattle.compose_hub.specs.Turns.{OwnedService, owned}
-use Rattle.compose_hub.specs.Serving.{World, world, at_now, ServedSoFar, AllAreStill}
+use Rattle.compose_hub.specs.Serving.{World, world, at_now, ServedSoFar}
 use Rattle.compose_machine.specs.Machine.{Reading}
 use Rattle.compose_many.specs.declared.owners.Owner.{Owner}
 use Rattle.compose_many.specs.Numbered.{StreamState}
 use Rattle.compose_hub.specs.Ends.{ReportedEnd}
 use Rattle.compose_hub.specs.declared.client.Limits.{Limits}
 use Rattle.compose_hub.specs.declared.client.Client.{Client}
-use Rattle.compose_hub.proofs.Serving.{nothing_happened, none_served, serves_stay, still_so_far, stays, all_reported}
+use Rattle.compose_hub.proofs.Serving.{nothing_happened, none_served, serves_stay, still_so_far, all_reported}
+use Rattle.compose_hub.proofs.Slots.{still_at_first}
 use Rattle.compose_hub.specs.Rounds.{AreWithinRooms}
 use Rattle.compose_hub.proofs.Rooms.{no_rooms}
 use Rattle.compose_hub.proofs.server.serve_at_once.Goals as goal
@@ -54,53 +55,21 @@ returns-in_err-poll-clause-serves g c =
     let state = owned (g.A.Responder.state c.rounds.service) c.rounds.server.owners.items in
     let reported = g.E.EndReport.reported c.catch_up-behind.new.self in
     let accepted = c.accept_all.ensures.goes_on g.A.Responder.reading state reported first (caught_up c.args.limits g.A.Responder.reading first state (g.N.Streams.stream c.rounds.sockets) (g.E.EndReport.reported c.rounds.report) reported c.rounds.server.accepted c.rounds.server.slots.items c.catch_up-behind.ensures c.rounds.invariant.served) in
-    serves_stay c.args.limits g.A.Responder.reading first state (g.N.Streams.stream c.accept_all.new.sockets) (g.N.Streams.stream c.poll.new.self) reported
-    (stays (g.N.Streams.stream c.accept_all.new.sockets) (g.N.Streams.stream c.poll.new.self) c.poll.ensures) accepted.so_far
+    serves_stay c.args.limits g.A.Responder.reading first state (g.N.Streams.stream c.accept_all.new.sockets) (g.N.Streams.stream c.poll.new.self) reported c.poll.ensures accepted.so_far
 
-pub returns-in_err-take_turns-clause-serves : goal.returns-in_err-take_turns-clause-serves
-returns-in_err-take_turns-clause-serves g c =
+pub returns-in_err-round-clause-serves : goal.returns-in_err-round-clause-serves
+returns-in_err-round-clause-serves g c =
     let first = world (g.A.Responder.state c.args.service.now) (g.N.Streams.stream c.args.sockets.now) (g.E.EndReport.reported c.args.report.now) in
     let state = owned (g.A.Responder.state c.rounds.service) c.rounds.server.owners.items in
     let reported = g.E.EndReport.reported c.catch_up-behind.new.self in
     let accepted = c.accept_all.ensures.goes_on g.A.Responder.reading state reported first (caught_up c.args.limits g.A.Responder.reading first state (g.N.Streams.stream c.rounds.sockets) (g.E.EndReport.reported c.rounds.report) reported c.rounds.server.accepted c.rounds.server.slots.items c.catch_up-behind.ensures c.rounds.invariant.served) in
-    let owners : c.mark_ready.new.self.owners.items ≡ c.rounds.server.owners.items = c.mark_ready.ensures.owners ∙ ap (λ v. v.owners.items) c.count_time.ensures ∙ c.accept_all.ensures.owners in
     let waited =
-    subst
-    (λ (o : List Owner). ServedSoFar c.args.limits g.A.Responder.reading first (at_now (owned (g.A.Responder.state c.rounds.service) o) (g.N.Streams.stream c.passed.new.self) reported) c.mark_ready.new.self.accepted
-    c.mark_ready.new.self.slots.items) (sym owners)
-    (still_so_far c.args.limits g.A.Responder.reading first state (g.N.Streams.stream c.accept_all.new.sockets) (g.N.Streams.stream c.passed.new.self) reported
-    (stays (g.N.Streams.stream c.accept_all.new.sockets) (g.N.Streams.stream c.passed.new.self) (λ n. c.passed.ensures n ∙ c.poll.ensures n)) c.accept_all.new.self.accepted c.mark_ready.new.self.accepted
-    c.accept_all.new.self.slots.items c.mark_ready.new.self.slots.items (c.mark_ready.ensures.still.0 ∙ ap (λ v. v.accepted) c.count_time.ensures)
-    (subst (λ (v : List (Option Client)). AllAreStill v c.mark_ready.new.self.slots.items) (ap (λ v. v.slots.items) c.count_time.ensures) c.mark_ready.ensures.still.1) accepted)
+    subst (λ (o : List Owner). ServedSoFar c.args.limits g.A.Responder.reading first (at_now (owned (g.A.Responder.state c.rounds.service) o) (g.N.Streams.stream c.passed-passed.new.self) reported) c.accept_all.new.self.accepted c.accept_all.new.self.slots.items)
+    (sym c.accept_all.ensures.owners)
+    (still_so_far c.args.limits g.A.Responder.reading first state (g.N.Streams.stream c.accept_all.new.sockets) (g.N.Streams.stream c.passed-passed.new.self) reported (λ n. c.passed-passed.ensures n ∙ c.poll.ensures n)
+    c.accept_all.new.self.accepted c.accept_all.new.self.accepted c.accept_all.new.self.slots.items c.accept_all.new.self.slots.items refl (still_at_first c.accept_all.new.self.slots.items) accepted)
     in
-    c.take_turns.ensures.happened first waited
-
-pub returns-in_err-give_up-clause-serves : goal.returns-in_err-give_up-clause-serves
-returns-in_err-give_up-clause-serves g c =
-    let first = world (g.A.Responder.state c.args.service.now) (g.N.Streams.stream c.args.sockets.now) (g.E.EndReport.reported c.args.report.now) in
-    let state = owned (g.A.Responder.state c.rounds.service) c.rounds.server.owners.items in
-    let reported = g.E.EndReport.reported c.catch_up-behind.new.self in
-    let accepted = c.accept_all.ensures.goes_on g.A.Responder.reading state reported first (caught_up c.args.limits g.A.Responder.reading first state (g.N.Streams.stream c.rounds.sockets) (g.E.EndReport.reported c.rounds.report) reported c.rounds.server.accepted c.rounds.server.slots.items c.catch_up-behind.ensures c.rounds.invariant.served) in
-    let owners : c.mark_ready.new.self.owners.items ≡ c.rounds.server.owners.items = c.mark_ready.ensures.owners ∙ ap (λ v. v.owners.items) c.count_time.ensures ∙ c.accept_all.ensures.owners in
-    let waited =
-    subst
-    (λ (o : List Owner). ServedSoFar c.args.limits g.A.Responder.reading first (at_now (owned (g.A.Responder.state c.rounds.service) o) (g.N.Streams.stream c.passed.new.self) reported) c.mark_ready.new.self.accepted
-    c.mark_ready.new.self.slots.items) (sym owners)
-    (still_so_far c.args.limits g.A.Responder.reading first state (g.N.Streams.stream c.accept_all.new.sockets) (g.N.Streams.stream c.passed.new.self) reported
-    (stays (g.N.Streams.stream c.accept_all.new.sockets) (g.N.Streams.stream c.passed.new.self) (λ n. c.passed.ensures n ∙ c.poll.ensures n)) c.accept_all.new.self.accepted c.mark_ready.new.self.accepted
-    c.accept_all.new.self.slots.items c.mark_ready.new.self.slots.items (c.mark_ready.ensures.still.0 ∙ ap (λ v. v.accepted) c.count_time.ensures)
-    (subst (λ (v : List (Option Client)). AllAreStill v c.mark_ready.new.self.slots.items) (ap (λ v. v.slots.items) c.count_time.ensures) c.mark_ready.ensures.still.1) accepted)
-    in
-    let turned = c.in_ok-take_turns.ensures.goes_on first waited in
-    let shared =
-    subst
-    (λ (o : List Owner). ServedSoFar c.args.limits g.A.Responder.reading first (at_now (owned (g.A.Responder.state c.take_turns.new.service) o) (g.N.Streams.stream c.take_turns.new.sockets)
-    (g.E.EndReport.reported c.take_turns.new.report)) c.share_room.new.self.accepted c.share_room.new.self.slots.items) (sym c.share_room.ensures.owners)
-    (still_so_far c.args.limits g.A.Responder.reading first (owned (g.A.Responder.state c.take_turns.new.service) c.take_turns.new.self.owners.items) (g.N.Streams.stream c.take_turns.new.sockets) (g.N.Streams.stream c.take_turns.new.sockets)
-    (g.E.EndReport.reported c.take_turns.new.report) (λ n. (refl, refl)) c.take_turns.new.self.accepted c.share_room.new.self.accepted c.take_turns.new.self.slots.items c.share_room.new.self.slots.items
-    c.share_room.ensures.still.0 c.share_room.ensures.still.1 turned)
-    in
-    c.give_up.ensures.happened first shared
+    c.round.ensures.happened first waited
 
 pub rounds-preserved : goal.rounds-preserved
 rounds-preserved g c =
@@ -108,32 +77,13 @@ rounds-preserved g c =
     let state = owned (g.A.Responder.state c.rounds.service) c.rounds.server.owners.items in
     let reported = g.E.EndReport.reported c.catch_up-behind.new.self in
     let accepted = c.accept_all.ensures.goes_on g.A.Responder.reading state reported first (caught_up c.args.limits g.A.Responder.reading first state (g.N.Streams.stream c.rounds.sockets) (g.E.EndReport.reported c.rounds.report) reported c.rounds.server.accepted c.rounds.server.slots.items c.catch_up-behind.ensures c.rounds.invariant.served) in
-    let owners : c.mark_ready.new.self.owners.items ≡ c.rounds.server.owners.items = c.mark_ready.ensures.owners ∙ ap (λ v. v.owners.items) c.count_time.ensures ∙ c.accept_all.ensures.owners in
     let waited =
-    subst
-    (λ (o : List Owner). ServedSoFar c.args.limits g.A.Responder.reading first (at_now (owned (g.A.Responder.state c.rounds.service) o) (g.N.Streams.stream c.passed.new.self) reported) c.mark_ready.new.self.accepted
-    c.mark_ready.new.self.slots.items) (sym owners)
-    (still_so_far c.args.limits g.A.Responder.reading first state (g.N.Streams.stream c.accept_all.new.sockets) (g.N.Streams.stream c.passed.new.self) reported
-    (stays (g.N.Streams.stream c.accept_all.new.sockets) (g.N.Streams.stream c.passed.new.self) (λ n. c.passed.ensures n ∙ c.poll.ensures n)) c.accept_all.new.self.accepted c.mark_ready.new.self.accepted
-    c.accept_all.new.self.slots.items c.mark_ready.new.self.slots.items (c.mark_ready.ensures.still.0 ∙ ap (λ v. v.accepted) c.count_time.ensures)
-    (subst (λ (v : List (Option Client)). AllAreStill v c.mark_ready.new.self.slots.items) (ap (λ v. v.slots.items) c.count_time.ensures) c.mark_ready.ensures.still.1) accepted)
+    subst (λ (o : List Owner). ServedSoFar c.args.limits g.A.Responder.reading first (at_now (owned (g.A.Responder.state c.rounds.service) o) (g.N.Streams.stream c.passed-passed.new.self) reported) c.accept_all.new.self.accepted c.accept_all.new.self.slots.items)
+    (sym c.accept_all.ensures.owners)
+    (still_so_far c.args.limits g.A.Responder.reading first state (g.N.Streams.stream c.accept_all.new.sockets) (g.N.Streams.stream c.passed-passed.new.self) reported (λ n. c.passed-passed.ensures n ∙ c.poll.ensures n)
+    c.accept_all.new.self.accepted c.accept_all.new.self.accepted c.accept_all.new.self.slots.items c.accept_all.new.self.slots.items refl (still_at_first c.accept_all.new.self.slots.items) accepted)
     in
-    let turned = c.in_ok-take_turns.ensures.goes_on first waited in
-    let shared =
-    subst
-    (λ (o : List Owner). ServedSoFar c.args.limits g.A.Responder.reading first (at_now (owned (g.A.Responder.state c.take_turns.new.service) o) (g.N.Streams.stream c.take_turns.new.sockets)
-    (g.E.EndReport.reported c.take_turns.new.report)) c.share_room.new.self.accepted c.share_room.new.self.slots.items) (sym c.share_room.ensures.owners)
-    (still_so_far c.args.limits g.A.Responder.reading first (owned (g.A.Responder.state c.take_turns.new.service) c.take_turns.new.self.owners.items) (g.N.Streams.stream c.take_turns.new.sockets) (g.N.Streams.stream c.take_turns.new.sockets)
-    (g.E.EndReport.reported c.take_turns.new.report) (λ n. (refl, refl)) c.take_turns.new.self.accepted c.share_room.new.self.accepted c.take_turns.new.self.slots.items c.share_room.new.self.slots.items
-    c.share_room.ensures.still.0 c.share_room.ensures.still.1 turned)
-    in
-    record {
-      served = c.in_ok-give_up.ensures.goes_on first shared;
-      rooms =
-          (let counted : AreWithinRooms c.count_time.new.self.slots.items = subst (λ (v : List (Option Client)). AreWithinRooms v) (sym (ap (λ v. v.slots.items) c.count_time.ensures))
-          (c.accept_all.ensures.rooms c.rounds.invariant.rooms) in
-          c.in_ok-give_up.ensures.rooms (c.share_room.ensures.rooms (c.in_ok-take_turns.ensures.rooms (c.mark_ready.ensures.rooms counted))));
-    }
+    record { served = c.in_ok-round.ensures.goes_on first waited; rooms = c.in_ok-round.ensures.rooms (c.accept_all.ensures.rooms c.rounds.invariant.rooms) }
 
 pub returns-clause-serves : goal.returns-clause-serves
 returns-clause-serves g c = c.rounds.invariant.served.so_far

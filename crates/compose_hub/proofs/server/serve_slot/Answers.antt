@@ -3,7 +3,7 @@ use Rattle.std.specs.Prelude.{ℕ, Option, Some, None, Result}
 use Rattle.compose_serve.specs.declared.ends.StreamEnd.{StreamEnd}
 use Rattle.compose_serve.specs.declared.ends.ServeFault.{ServeFault}
 use Rattle.compose_many.specs.declared.turn.Turn.TheVariants.{GoesOn, Loaded, Waits, NeedsRoom, Ends}
-use Rattle.compose_hub.specs.Sockets.{KeepsBytes}
+use Rattle.compose_hub.specs.Sockets.{KeepsBytes, StaysFailed}
 use Rattle.compose_hub.specs.Slots.{slot_has_turn}
 use Rattle.compose_hub.specs.Serving.{StandsAs, WaitsSince}
 use Rattle.compose_hub.specs.declared.client.Client.{Client}
@@ -109,6 +109,7 @@ returns-in-Ends-clause-turns g c =
       c.take_turns.new.self.connection,
       g.N.Streams.stream c.take_turns.new.streams,
       c.in-Ends.ensures.turns.0,
-      (let same : c.from.result ≡ c.in-Some.client.number = search rules in subst (λ (n : ℕ). KeepsBytes n (g.N.Streams.stream c.take_turns.new.streams) (g.N.Streams.stream c.close.new.self)) same c.close.ensures),
+      (let same : c.from.result ≡ c.in-Some.client.number = search rules in subst (λ (n : ℕ). KeepsBytes n (g.N.Streams.stream c.take_turns.new.streams) (g.N.Streams.stream c.close.new.self)
+          × StaysFailed (g.N.Streams.stream c.take_turns.new.streams n) (g.N.Streams.stream c.close.new.self n)) same (c.close.ensures.bytes, c.close.ensures.failed)),
       (refl, ended_as c.number-number.result c.in-Some.client.number c.in-Ends.how c.number-number.ensures),
     )

@@ -7,7 +7,8 @@ use Rattle.compose_migration.specs.Refused.{Returns}
 use Rattle.compose_migration.specs.Values.{table_given}
 use Rattle.compose_report.proofs.Results.{ok_map}
 use Rattle.compose_tool.specs.Answers.{AreListsTyped}
-use Rattle.compose_key_lists.specs.Lists.{refused_line, words_in}
+use Rattle.compose_keys.specs.Keys.{keys_in}
+use Rattle.compose_key_lists.specs.Lists.{refused_line}
 use Rattle.compose_runs.specs.OneTable.{IsTableOutcome}
 use Rattle.compose_runs.specs.Skipping.{IsFollowed}
 use Rattle.compose_runs.specs.Typing.{IsTypeLinesOutcome}
@@ -18,8 +19,8 @@ use Rattle.compose_runs.proofs.typing.type_lines_outcome.Goals as goal
 pub returns : goal.returns
 returns g c =
     let read = c.args.read in let header = read.names.lines.items in let text = c.args.lines.now in
-    let words = flat_map words_in (lines text) in let counts = map (λ line. length (words_in line)) (lines text) in
-    let given : map now_of c.deref-2.result.now ≡ words = ap (map now_of) c.deref-2.ensures.value ∙ c.in_ok-lists.ensures.words in
+    let words = flat_map keys_in (lines text) in let counts = map (λ line. length (keys_in line)) (lines text) in
+    let given : map now_of c.deref-2.result.now ≡ words = ap (map now_of) c.deref-2.ensures.value ∙ c.in_ok-lists.ensures.keys in
     let written = map string_bytes c.in_ok-written.written.items in let keys = map now_of c.in_ok-keys.keys.items in
     let same : keys ≡ written = c.in_ok-keys.ensures ∙ ap (map string_bytes) c.deref-3.ensures.value in
     let answered = c.type_lists-answered.result in let printed = c.in_ok-printed.printed in

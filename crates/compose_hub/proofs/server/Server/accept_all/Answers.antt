@@ -9,7 +9,7 @@ use Rattle.compose_hub.proofs.Rooms.{rooms_set}
 use Rattle.compose_hub.proofs.Trying.{tried_now, tried_not, tried_all}
 use Rattle.compose_hub.specs.Serving.{at_now, ServedSoFar}
 use Rattle.compose_hub.specs.declared.client.Client.{Client}
-use Rattle.compose_hub.proofs.Serving.{both_hold, keeps, slot_accepted}
+use Rattle.compose_hub.proofs.Serving.{both_hold, slot_accepted}
 use Rattle.compose_hub.proofs.server.Server.accept_all.Goals as goal
 
 free_is : (o : Option Client) → is_none o ≡ true → o ≡ None
@@ -55,7 +55,7 @@ slots-preserved g c =
       goes_on = λ reading state reported first s. slot_accepted c.args.limits reading first state (g.N.Streams.stream c.slots.sockets) (g.N.Streams.stream c.accept_into-self.new.sockets) reported c.slots.self.1.1.0
           c.accept_into-self.new.accepted c.slots.slot-items c.slots.key slot c.accept_into-self.new.slot lt (c.slots.invariant.goes_on reading state reported first s)
           (ltb-true c.slots.self.1.1.0 c.args.limits.connections some.1) (free_is slot wanted.0) (get_or_default c.slots.slot-items c.slots.key c.slot-item.result slot lt)
-          (keeps (c.slots.self.1.1.0 + 1) (g.N.Streams.stream c.slots.sockets) (g.N.Streams.stream c.accept_into-self.new.sockets) c.accept_into-self.ensures.stay) c.accept_into-self.ensures.accepts;
+          c.accept_into-self.ensures.stay c.accept_into-self.ensures.accepts;
       rooms = λ all. rooms_set c.slots.slot-items c.slots.key c.accept_into-self.new.slot lt c.slot-item.result (c.slots.invariant.rooms all) c.accept_into-self.ensures.room;
       ahead = λ key le. get_or-set_other c.slots.slot-items c.slots.key key c.accept_into-self.new.slot None (λ same. absurd (omega (arith, same, le))) ∙ c.slots.invariant.ahead key (omega (arith, le));
       tried = λ waits below. tried_now _ _ _ _ _ _ _ _ _ c.slots.key _ _ c.accept_into-self.ensures.attempt (c.slots.invariant.tried waits below);

@@ -1,8 +1,11 @@
-use Rattle.std.proofs.Common.{◌≡◌, ◌∙◌, ◌<◌, List, Option, length, set, sym, subst, arith}
-use Rattle.std.proofs.lemmas.List.{length-set, take_at}
+use Rattle.std.proofs.Common.{◌≡◌, ◌∙◌, ◌<◌, List, Option, length, set, take, get_or, get_or-set_other, sym, subst, arith}
+use Rattle.std.proofs.lemmas.List.{length-set, take_at, take_all, get_or_default}
+use Rattle.std.specs.Prelude.{Bool, None}
 use Rattle.compose_hub.specs.Turns.{owned}
 use Rattle.compose_hub.specs.Serving.{at_now, ServedSoFar}
-use Rattle.compose_hub.specs.Rounds.{AreWithinRooms, KeepsRooms}
+use Rattle.compose_hub.specs.Rounds.{AreWithinRooms, KeepsRooms, SlotGivesUp, is_room_short}
+use Rattle.compose_hub.specs.Round.{EachSlot, GivesUp}
+use Rattle.compose_hub.proofs.Rounding.{each_step, reported_then}
 use Rattle.compose_hub.proofs.Rooms.{rooms_set}
 use Rattle.compose_hub.specs.declared.client.Client.{Client}
 use Rattle.compose_hub.proofs.Serving.{slot_gives_up, slot_closes, slot_goes_on, slot_fails, reports, not_reported_end}
@@ -24,12 +27,28 @@ slots-preserved g c =
     let lt : c.slots.slot-index < length c.slots.slot-items = omega arith in
     let old = owned (g.A.Responder.state c.slots.service) c.slots.self.1.1.1.1.0.items in
     let new = owned (g.A.Responder.state c.close_sessions.new.service) c.close_sessions.new.owners.items in
+    let i = c.slots.slot-index in
+    let slots = c.args.self.now.slots.items in
+    let there : get_or c.slots.slot-items i None ≡ get_or slots i None = c.slots.invariant.ahead i (omega arith) in
+    let before : get_or slots i None ≡ get_or c.slots.slot-items i c.slot-item.result = sym there ∙ get_or_default c.slots.slot-items i None c.slot-item.result lt in
     record {
       goes_on = λ first s. slot_goes_on c.args.limits g.A.Responder.reading first old new (g.N.Streams.stream c.slots.sockets)
           (g.N.Streams.stream c.give_up-ended.new.sockets) (g.E.EndReport.reported c.slots.report) (g.E.EndReport.reported c.tell.new.report) c.args.self.now.accepted c.slots.slot-items (c.slots.invariant.goes_on first s)
           c.slots.slot-index c.give_up-ended.new.slot lt c.slot-item.result c.give_up-ended.result
           (slot_closes c.args.limits g.A.Responder.reading old old new _ _ _ _ c.args.limits.own_sessions c.give_up-ended.result c.close_sessions.ensures
           (slot_gives_up c.args.limits _ _ g.A.Responder.reading old _ _ _ _ _ c.give_up-ended.ensures.gives_up)) (reports _ _ _ _ _ _ c.in_ok-tell.ensures);
+      ends =
+          each_step (GivesUp c.args.limits (is_room_short slots) c.args.time g.A.Responder.reading)
+          (at_now (owned (g.A.Responder.state c.args.service.now) c.args.self.now.owners.items) (g.N.Streams.stream c.args.sockets.now) (g.E.EndReport.reported c.args.report.now))
+          (at_now old (g.N.Streams.stream c.slots.sockets) (g.E.EndReport.reported c.slots.report)) (at_now new (g.N.Streams.stream c.give_up-ended.new.sockets) (g.E.EndReport.reported c.tell.new.report))
+          slots c.slots.slot-items i (get_or c.slots.slot-items i c.slot-item.result) c.give_up-ended.new.slot (omega arith) lt before c.slots.invariant.ends (
+            c.give_up-ended.result,
+            subst (λ (short : Bool). SlotGivesUp c.args.limits.idle short c.args.time (g.N.Streams.stream c.slots.sockets) (g.N.Streams.stream c.give_up-ended.new.sockets) (get_or c.slots.slot-items i c.slot-item.result) c.give_up-ended.new.slot c.give_up-ended.result)
+                c.is_room_short-short.ensures c.give_up-ended.ensures.gives_up,
+            c.close_sessions.ensures,
+            reported_then _ _ _ _ _ _ c.in_ok-tell.ensures,
+          );
+      ahead = λ key le. get_or-set_other c.slots.slot-items i key c.give_up-ended.new.slot None (λ same. absurd (omega (arith, same, le))) ∙ c.slots.invariant.ahead key (omega (arith, le));
       rooms = λ all. rooms_set c.slots.slot-items c.slots.slot-index c.give_up-ended.new.slot lt c.slot-item.result (c.slots.invariant.rooms all) c.give_up-ended.ensures.room;
     }
 
@@ -49,6 +68,16 @@ returns-clause-goes_on g c first s =
     let len : length c.slots.slot-items ≡ c.args.self.now.slots.len = omega arith in
     subst (λ (now : List (Option Client)). ServedSoFar c.args.limits g.A.Responder.reading first (at_now (owned (g.A.Responder.state c.slots.service) c.slots.self.1.1.1.1.0.items) (g.N.Streams.stream c.slots.sockets) (g.E.EndReport.reported c.slots.report)) c.args.self.now.accepted now)
     (sym (take_at _ _ _ len)) (c.slots.invariant.goes_on first s)
+
+pub returns-clause-ends : goal.returns-clause-ends
+returns-clause-ends g c =
+    let len : length c.slots.slot-items ≡ c.args.self.now.slots.len = omega arith in
+    let old = at_now (owned (g.A.Responder.state c.args.service.now) c.args.self.now.owners.items) (g.N.Streams.stream c.args.sockets.now) (g.E.EndReport.reported c.args.report.now) in
+    let new = at_now (owned (g.A.Responder.state c.slots.service) c.slots.self.1.1.1.1.0.items) (g.N.Streams.stream c.slots.sockets) (g.E.EndReport.reported c.slots.report) in
+    let step = GivesUp c.args.limits (is_room_short c.args.self.now.slots.items) c.args.time g.A.Responder.reading in
+    subst (λ (now : List (Option Client)). EachSlot step old new c.args.self.now.slots.items now) (sym (take_at _ _ _ len))
+    (subst (λ (now : List (Option Client)). EachSlot step old new c.args.self.now.slots.items now) (take_all c.slots.slot-index c.slots.slot-items (omega arith))
+    (subst (λ (before : List (Option Client)). EachSlot step old new before (take c.slots.slot-index c.slots.slot-items)) (take_all c.slots.slot-index c.args.self.now.slots.items (omega arith)) c.slots.invariant.ends))
 
 pub returns-clause-rooms : goal.returns-clause-rooms
 returns-clause-rooms g c =

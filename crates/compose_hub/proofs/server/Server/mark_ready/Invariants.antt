@@ -8,6 +8,7 @@ invariant-ready l = record {
   accepted : l.self.accepted ≡ l.fn.self.accepted;
   owners : l.self.owners.items ≡ l.fn.self.owners.items;
   still : AllAreStill l.fn.self.slots.items l.self.slots.items;
+  time : l.self.time ≡ l.fn.self.time;
   queue : l.self.queue ≡ queue_with (take l.source-index l.ready) l.fn.self.queue;
   marks : MarksReady (take l.source-index l.ready) l.fn.self.slots.items l.self.slots.items;
   rooms : KeepsRooms l.fn.self.slots.items l.self.slots.items;

@@ -1,11 +1,12 @@
-use Rattle.std.proofs.Common.{◌≡◌, ◌∙◌, ◌<◌, List, Option, length, set, get_or, get_or-set_other, sym, subst, arith}
+use Rattle.std.proofs.Common.{◌≡◌, ◌∙◌, ◌<◌, List, Option, length, set, take, get_or, get_or-set_other, sym, subst, arith}
 use Rattle.std.proofs.lemmas.List.{length-set, take_at, take_all, get_or_default}
 use Rattle.std.specs.Prelude.{None}
 use Rattle.compose_hub.specs.Turns.{owned}
-use Rattle.compose_hub.specs.Serving.{at_now, ServedSoFar, AreRound, with_turn}
+use Rattle.compose_hub.specs.Serving.{at_now, ServedSoFar}
+use Rattle.compose_hub.specs.Round.{EachSlot, TakesTurns}
 use Rattle.compose_hub.specs.Rounds.{AreWithinRooms, KeepsRooms}
 use Rattle.compose_hub.proofs.Rooms.{rooms_set}
-use Rattle.compose_hub.proofs.Rounding.{round_step}
+use Rattle.compose_hub.proofs.Rounding.{each_step, reported_then}
 use Rattle.compose_hub.specs.declared.client.Client.{Client}
 use Rattle.compose_hub.proofs.Serving.{slot_turns, slot_closes, slot_goes_on, slot_fails, reports, not_reported_end}
 use Rattle.compose_hub.proofs.server.Server.take_turns.Goals as goal
@@ -38,10 +39,20 @@ slots-preserved g c =
           c.slots.slot-index c.serve_slot-ended.new.slot lt c.slot-item.result c.serve_slot-ended.result
           (slot_closes c.args.limits g.A.Responder.reading old mid new _ _ _ _ c.args.limits.own_sessions c.serve_slot-ended.result c.close_sessions.ensures
           (slot_turns c.args.limits _ _ _ _ _ _ _ _ _ c.serve_slot-ended.ensures.turns)) (reports _ _ _ _ _ _ c.in_ok-tell.ensures);
-      round =
-          round_step c.args.limits.own_sessions c.args.limits.unsent g.A.Responder.reading slots i (owned (g.A.Responder.state c.args.service.now) c.args.self.now.owners.items) old mid new
-          (g.N.Streams.stream c.args.sockets.now) (g.N.Streams.stream c.slots.sockets) (g.N.Streams.stream c.serve_slot-ended.new.sockets) c.serve_slot-ended.new.time (get_or c.slots.slot-items i c.slot-item.result)
-          c.serve_slot-ended.new.slot c.serve_slot-ended.result (omega arith) before c.slots.invariant.round c.serve_slot-ended.ensures.turns c.close_sessions.ensures;
+      turns =
+          each_step (TakesTurns c.args.limits g.A.Responder.reading c.args.self.now.time)
+          (at_now (owned (g.A.Responder.state c.args.service.now) c.args.self.now.owners.items) (g.N.Streams.stream c.args.sockets.now) (g.E.EndReport.reported c.args.report.now))
+          (at_now old (g.N.Streams.stream c.slots.sockets) (g.E.EndReport.reported c.slots.report)) (at_now new (g.N.Streams.stream c.serve_slot-ended.new.sockets) (g.E.EndReport.reported c.tell.new.report))
+          slots c.slots.slot-items i (get_or c.slots.slot-items i c.slot-item.result) c.serve_slot-ended.new.slot (omega arith) lt before c.slots.invariant.turns (
+            c.serve_slot-ended.result,
+            c.serve_slot-ended.new.time,
+            mid,
+            (let was = c.slots.invariant.later in let now = c.serve_slot-ended.ensures.later in omega (arith, was, now)),
+            c.serve_slot-ended.ensures.turns,
+            c.close_sessions.ensures,
+            reported_then _ _ _ _ _ _ c.in_ok-tell.ensures,
+          );
+      later = (let was = c.slots.invariant.later in let now = c.serve_slot-ended.ensures.later in omega (arith, was, now));
       ahead = λ key le. get_or-set_other c.slots.slot-items i key c.serve_slot-ended.new.slot None (λ same. absurd (omega (arith, same, le))) ∙ c.slots.invariant.ahead key (omega (arith, le));
       rooms = λ all. rooms_set c.slots.slot-items i c.serve_slot-ended.new.slot lt c.slot-item.result (c.slots.invariant.rooms all) c.serve_slot-ended.ensures.room;
     }
@@ -69,10 +80,12 @@ returns-clause-rooms g c =
     let len : length c.slots.slot-items ≡ c.args.self.now.slots.len = omega arith in
     subst (λ (now : List (Option Client)). KeepsRooms c.args.self.now.slots.items now) (sym (take_at _ _ _ len)) c.slots.invariant.rooms
 
-pub returns-clause-round : goal.returns-clause-round
-returns-clause-round g c =
-    subst
-    (λ (slots : List (Option Client)). AreRound c.args.limits.own_sessions c.args.limits.unsent g.A.Responder.reading
-    (owned (g.A.Responder.state c.args.service.now) c.args.self.now.owners.items) (owned (g.A.Responder.state c.slots.service) c.slots.self.1.1.1.1.0.items) (g.N.Streams.stream c.args.sockets.now)
-    (g.N.Streams.stream c.slots.sockets) (with_turn slots))
-    (take_all c.slots.slot-index c.args.self.now.slots.items (omega arith)) c.slots.invariant.round
+pub returns-clause-turns : goal.returns-clause-turns
+returns-clause-turns g c =
+    let len : length c.slots.slot-items ≡ c.args.self.now.slots.len = omega arith in
+    let old = at_now (owned (g.A.Responder.state c.args.service.now) c.args.self.now.owners.items) (g.N.Streams.stream c.args.sockets.now) (g.E.EndReport.reported c.args.report.now) in
+    let new = at_now (owned (g.A.Responder.state c.slots.service) c.slots.self.1.1.1.1.0.items) (g.N.Streams.stream c.slots.sockets) (g.E.EndReport.reported c.slots.report) in
+    let step = TakesTurns c.args.limits g.A.Responder.reading c.args.self.now.time in
+    subst (λ (now : List (Option Client)). EachSlot step old new c.args.self.now.slots.items now) (sym (take_at _ _ _ len))
+    (subst (λ (now : List (Option Client)). EachSlot step old new c.args.self.now.slots.items now) (take_all c.slots.slot-index c.slots.slot-items (omega arith))
+    (subst (λ (before : List (Option Client)). EachSlot step old new before (take c.slots.slot-index c.slots.slot-items)) (take_all c.slots.slot-index c.args.self.now.slots.items (omega arith)) c.slots.invariant.turns))

@@ -1,7 +1,8 @@
 use Rattle.std.proofs.Common.{◌≡◌, ℕ, ◌≤◌, get_or, take}
 use Rattle.std.specs.Prelude.{None}
 use Rattle.compose_hub.specs.Turns.{owned}
-use Rattle.compose_hub.specs.Serving.{at_now, GoesOnServing, AreRound, with_turn}
+use Rattle.compose_hub.specs.Serving.{at_now, GoesOnServing}
+use Rattle.compose_hub.specs.Round.{EachSlot, TakesTurns}
 use Rattle.compose_hub.specs.Rounds.{KeepsRooms}
 use Rattle.compose_hub.proofs.server.Server.take_turns.Given as goal
 
@@ -10,10 +11,10 @@ invariant-slots g l = record {
   goes_on :
       GoesOnServing l.limits g.A.Responder.reading (at_now (owned (g.A.Responder.state l.fn.service) l.fn.self.owners.items) (g.N.Streams.stream l.fn.sockets) (g.E.EndReport.reported l.fn.report))
       (at_now (owned (g.A.Responder.state l.service) l.self.1.1.1.1.0.items) (g.N.Streams.stream l.sockets) (g.E.EndReport.reported l.report)) l.fn.self.accepted l.fn.self.accepted l.fn.self.slots.items l.slot-items;
-  round :
-      AreRound l.limits.own_sessions l.limits.unsent g.A.Responder.reading (owned (g.A.Responder.state l.fn.service) l.fn.self.owners.items)
-      (owned (g.A.Responder.state l.service) l.self.1.1.1.1.0.items) (g.N.Streams.stream l.fn.sockets) (g.N.Streams.stream l.sockets)
-      (with_turn (take l.slot-index l.fn.self.slots.items));
+  turns :
+      EachSlot (TakesTurns l.limits g.A.Responder.reading l.fn.self.time) (at_now (owned (g.A.Responder.state l.fn.service) l.fn.self.owners.items) (g.N.Streams.stream l.fn.sockets) (g.E.EndReport.reported l.fn.report))
+      (at_now (owned (g.A.Responder.state l.service) l.self.1.1.1.1.0.items) (g.N.Streams.stream l.sockets) (g.E.EndReport.reported l.report)) (take l.slot-index l.fn.self.slots.items) (take l.slot-index l.slot-items);
+  later : l.fn.self.time ≤ l.self.1.1.1.1.1.0;
   ahead : (key : ℕ) → l.slot-index ≤ key → get_or l.slot-items key None ≡ get_or l.fn.self.slots.items key None;
   rooms : KeepsRooms l.fn.self.slots.items l.slot-items;
 }

@@ -1,7 +1,7 @@
 use Rattle.std.proofs.Common.{◌≡◌, ◌++◌, map, take}
 use Rattle.std.specs.Prelude.{filter}
-use Rattle.compose_key_lists.specs.Lists.{is_word}
-use Rattle.compose_key_lists.proofs.lists.push_pieces.Given as goal
+use Rattle.compose_keys.specs.Words.{is_word}
+use Rattle.compose_keys.proofs.words.push_pieces.Given as goal
 
 -- the words of the pieces so far
 abbrev pub invariant-loop-piece : goal.invariant-loop-piece

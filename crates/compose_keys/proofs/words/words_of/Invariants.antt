@@ -1,6 +1,6 @@
 use Rattle.std.proofs.Common.{◌≡◌, flat_map, map, take}
-use Rattle.compose_key_lists.specs.Lists.{words_between}
-use Rattle.compose_key_lists.proofs.lists.words_of.Given as goal
+use Rattle.compose_keys.specs.Words.{words_between}
+use Rattle.compose_keys.proofs.words.words_of.Given as goal
 
 -- the words of the parts so far
 abbrev pub invariant-loop-part : goal.invariant-loop-part
