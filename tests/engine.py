@@ -550,7 +550,8 @@ def answers_with_more(listener):
         opened, answered = replies(session_of(connection), b"one")
         connection.sendall(opened)
         connection.recv(1000)
-        connection.sendall(answered + opened + answered)
+        # (more than the library of clients keeps itself)
+        connection.sendall(answered + 20 * (opened + answered))
         connection.sendall(struct.pack(">BIIH", 0xFF, session_of(connection), 2, 3))
         with listener.accept()[0] as following:
             opened, answered = replies(session_of(following), b"two")
