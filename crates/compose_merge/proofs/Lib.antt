@@ -1,0 +1,14 @@
+pub mod Texts
+pub mod Joined
+pub mod Keeping
+pub mod Greatest
+pub mod Again
+pub mod Unchanged
+pub mod Whole
+pub mod Patched
+pub mod Placing
+pub mod Starting
+pub mod Rows
+pub mod Same
+pub mod Full
+pub mod Sought
