@@ -11,10 +11,12 @@
 # make uninstall      takes away what `make install` put there
 # make dist           packs the proved program for others into packages/, as an archive
 # make deb            the same, as a Debian package, and one each for the engine of IBus and the addon of fcitx5, and three for the C libraries
+# make release        what the page of a release holds, in packages/release: the archive, apt/ with the packages, sums, and with LLVM=FOLDER an archive of modules
 # make test-packages  looks at what the packages hold
 # make desk           types into windows through IBus and fcitx5, also in GNOME Shell and KWin, on displays that nobody sees (docs/TYPING.md)
 # make names          writes the built-in names anew from HEADERS (those in packaging/xorgproto), and prints what changed
 # make compose_trials proves and builds ./compose_trials, which `make real` and `make bench` need too
+# make compose_as_reader proves and builds ./compose_as_reader, which `make real` needs too
 # make real           runs the program on the tables that Debian ships, its newest ones too, and types in other readers of Compose files beside it
 # make bench          measures the program
 # make lib            proves and builds the C libraries (docs/LIBRARY.md) in build/lib
@@ -39,7 +41,7 @@ LIBRARY = crates/compose_c/out/libcompose_c.a
 CLIENT_LIBRARY = crates/compose_typing_c/out/libcompose_typing_c.a
 
 # (what is installed or packed has the C libraries too: all of it is proved in one run)
-ifneq ($(filter install deb,$(MAKECMDGOALS)),)
+ifneq ($(filter install deb release,$(MAKECMDGOALS)),)
 composecheck $(LIBRARY) $(CLIENT_LIBRARY) &: $(SOURCES)
 	$(NEEDS_KIT)
 	python3 tools/build.py composecheck compose_c compose_typing_c
@@ -68,6 +70,11 @@ compose_trials: $(SOURCES)
 	$(NEEDS_KIT)
 	python3 tools/build.py compose_trials
 	cp crates/compose_trials/out/compose_trials compose_trials
+
+compose_as_reader: $(SOURCES)
+	$(NEEDS_KIT)
+	python3 tools/build.py compose_as_reader
+	cp crates/compose_as_reader/out/compose_as_reader compose_as_reader
 
 lib: $(LIBRARY) $(CLIENT_LIBRARY)
 	python3 lib/build_library.py build/lib
@@ -122,9 +129,9 @@ install: composecheck install-lib $(if $(IBUS_LACKS),without-ibus,install-ibus)
 	install -D -m 644 docs/composecheck.1 $(DESTDIR)$(PREFIX)/share/man/man1/composecheck.1
 	install -D -m 644 docs/composecheck.5 $(DESTDIR)$(PREFIX)/share/man/man5/composecheck.5
 	install -D -m 644 -t $(DESTDIR)$(PREFIX)/share/composecheck $(wildcard share/composecheck/*.*)
-	chmod 755 $(DESTDIR)$(PREFIX)/share/composecheck/*.sh
 	install -D -m 644 -t $(DESTDIR)$(PREFIX)/share/composecheck/repertoires $(wildcard share/composecheck/repertoires/*)
 	install -D -m 644 -t $(DESTDIR)$(PREFIX)/share/composecheck/ci $(wildcard share/composecheck/ci/*)
+	chmod 755 $(DESTDIR)$(PREFIX)/share/composecheck/*.sh $(DESTDIR)$(PREFIX)/share/composecheck/ci/autopkgtest
 	install -D -m 644 -t $(DESTDIR)$(PREFIX)/lib/systemd/user $(addprefix share/composecheck/,$(UNITS))
 	sed -i 's|/usr/local/|$(PREFIX)/|' $(addprefix $(DESTDIR)$(PREFIX)/lib/systemd/user/,$(filter %.service,$(UNITS)))
 	install -D -m 644 share/completions/composecheck.bash $(DESTDIR)$(PREFIX)/share/bash-completion/completions/composecheck
@@ -172,6 +179,9 @@ deb: composecheck $(LIBRARY) $(CLIENT_LIBRARY)
 	python3 packaging/package.py ibus ./composecheck packages
 	python3 packaging/package.py fcitx5 ./composecheck packages
 
+release: composecheck $(LIBRARY) $(CLIENT_LIBRARY)
+	python3 packaging/release.py ./composecheck packages/release $(LLVM)
+
 test-packages: composecheck
 	python3 tests/packages.py ./composecheck
 	python3 tests/installed.py ./composecheck
@@ -184,12 +194,13 @@ names:
 	python3 packaging/names.py $(HEADERS) share/composecheck/short-unicode-names.h crates/builtin_names/src/lines.rt
 	python3 packaging/name_tables.py crates
 
-real: composecheck compose_trials $(LIBRARY)
+real: composecheck compose_trials compose_as_reader $(LIBRARY)
 	python3 tests/real.py ./composecheck ./compose_trials
 	python3 tests/other_tables.py ./composecheck
 	python3 tests/newest_tables.py ./composecheck
 	python3 tests/real_service.py ./composecheck
 	python3 tests/readers.py ./composecheck
+	python3 tests/as_reader.py ./compose_as_reader
 	python3 tests/streams.py ./composecheck 100000
 	python3 tests/network.py ./compose_trials 100000
 	python3 tests/library.py 100000
@@ -206,6 +217,6 @@ bench: composecheck compose_trials $(LIBRARY)
 	python3 bench/library.py
 
 clean:
-	rm -rf composecheck compose_trials packages build crates/*/out
+	rm -rf composecheck compose_trials compose_as_reader packages build crates/*/out
 
-.PHONY: all help try lib lib-client install-lib install-client install-ibus install-fcitx5 peers rim quick test test-anew test-whole install uninstall dist deb test-packages desk names real bench clean
+.PHONY: all help try lib lib-client install-lib install-client install-ibus install-fcitx5 peers rim quick test test-anew test-whole install uninstall dist deb release test-packages desk names real bench clean

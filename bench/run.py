@@ -4,14 +4,16 @@
 PROGRAM is `composecheck`, TRIALS is `compose_trials` (crates/compose_trials). It needs Debian's libx11-data
 and libxkbcommon-dev, a C compiler, and valgrind for the counts of instructions. Each figure is the least of some runs,
 on the table of en_US.UTF-8; those of keys in sessions are medians. The last lines are a table of all aims, and which are met."""
+import atexit
+import functools
 import glob
 import os
 import re
+import shutil
 import statistics
 import subprocess
 import sys
 import tempfile
-import time
 
 TOP = os.path.dirname(os.path.dirname(os.path.abspath(__file__)))
 sys.path.insert(0, os.path.join(TOP, "tests"))
@@ -54,16 +56,25 @@ def least_figures(commands, folder, rounds):
     return least
 
 
+@functools.cache
+def spent():
+    """The program that measures one process, built from spent.c."""
+    folder = tempfile.mkdtemp(prefix="spent-")
+    atexit.register(shutil.rmtree, folder, ignore_errors=True)
+    program = os.path.join(folder, "spent")
+    subprocess.run(["cc", "-O2", "-o", program, os.path.join(TOP, "bench", "spent.c")], check=True)
+    return program
+
+
 def process(command, folder, errors=None):
     """The seconds of a whole process and the most memory that it held, in bytes. What it prints on standard error goes to `errors`, if that is given."""
+    measured = os.path.join(folder, "measured")
     with open(os.path.join(folder, "output"), "wb") as output:
-        start = time.perf_counter()
-        child = subprocess.Popen(command, cwd=folder, stdout=output, stderr=errors)
-        _, status, usage = os.wait4(child.pid, 0)
-        child.returncode = os.waitstatus_to_exitcode(status)
-    if child.returncode > 1:
+        subprocess.run([spent(), measured, *command], cwd=folder, stdout=output, stderr=errors, check=True)
+    seconds, kilobytes, code = read(measured).split()
+    if int(code) > 1:
         sys.exit(f"run.py: {' '.join(command)} was refused")
-    return time.perf_counter() - start, usage.ru_maxrss * 1024
+    return float(seconds), int(kilobytes) * 1024
 
 
 def least_processes(commands, folder, rounds):

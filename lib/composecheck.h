@@ -65,7 +65,8 @@ enum composecheck_part {
 };
 
 /* Why a call refuses what it is given; docs/LIBRARY.md lists the codes. Sources count from 0, lines and columns (in characters) from 1;
- * at is an offset in bytes or the index of an event, a pair or a node; value a keysym or a character. What a fault doesn't have is 0. */
+ * at is an offset in bytes or the index of an event, a pair or a node; value a keysym, a character, or why a file isn't read. What a fault
+ * doesn't have is 0. */
 struct composecheck_fault { uint32_t part, code, lexical, value; uint64_t source, line, column, at, reserved[2]; };
 
 /* ---- proved */
@@ -197,7 +198,7 @@ uint32_t composecheck_locale_file(const uint8_t *folder, size_t folder_length, c
                                   const uint8_t *aliases, size_t aliases_length, const uint8_t *locale, size_t locale_length, uint8_t *path,
                                   size_t path_room, size_t *path_length);
 
-/* ---- C over these: a table as one struct */
+/* ---- C over these: a table as one struct. A fault that a call of this part would fill may be null */
 
 /* A table: where its arrays are. Whoever has the arrays elsewhere, as in shared memory, fills it in; if there are no result keysyms,
  * results is null and result_count 0. */
@@ -275,7 +276,8 @@ struct composecheck_table *composecheck_table_from_file(const char *path, const 
 struct composecheck_files { uint8_t *answers, *bundle; size_t answers_length, bundle_length; };
 
 /* Finds the files of the table at this path, and reads them by stdio; if bytes is not null, they are the root, and its path is only its name.
- * False if the search is refused. composecheck_files_free frees what files has, in both cases. MALLOC */
+ * False if the search is refused: of a file that isn't read, fault's value says why: 0 nothing is there, 1 it can't be read, 2 it is a folder.
+ * composecheck_files_free frees what files has, in both cases. MALLOC */
 bool composecheck_files_find(struct composecheck_files *files, const char *root, const void *bytes, size_t length,
                              const struct composecheck_places *places, struct composecheck_fault *fault);
 void composecheck_files_free(struct composecheck_files *files);

@@ -1,5 +1,6 @@
 /* The files of a table: composecheck_find says which, and stdio reads them. C, and unproved. */
 #include "composecheck.h"
+#include <errno.h>
 #include <stdio.h>
 #include <stdlib.h>
 #include <string.h>
@@ -64,23 +65,57 @@ static char *read_all(FILE *file, size_t *length)
     return bytes;
 }
 
-/* Looks for a file at a path, which has no end mark, and adds what is found. A directory is no file. */
-static bool look(struct composecheck_files *files, const uint8_t *path, size_t path_length)
+/* Codes of a search that ends since a file isn't read. */
+enum { NO_ROOT = 2, NO_INCLUDED = 3 };
+
+/* What stands at a path: the number is a fault's value, where no file is read. */
+enum found { ABSENT, UNREADABLE, FOLDER, READ, OUT_OF_MEMORY };
+
+/* What an error of stdio says of a path. */
+static enum found found_by(int error)
+{
+    switch (error) {
+    case ENOENT: case ENOTDIR: return ABSENT;
+    case EISDIR: return FOLDER;
+    case ENOMEM: return OUT_OF_MEMORY;
+    default: return UNREADABLE;
+    }
+}
+
+/* The bytes of the file at a path, in a block of malloc; null where none is read. (A folder can be opened, but not read.) */
+static enum found read_file(const char *name, char **bytes, size_t *length)
+{
+    *bytes = NULL;
+    *length = 0;
+    FILE *file = fopen(name, "rb");
+    if (!file)
+        return found_by(errno);
+    errno = 0;
+    *bytes = read_all(file, length);
+    enum found found = ferror(file) ? found_by(errno) : *bytes ? READ : OUT_OF_MEMORY;
+    fclose(file);
+    if (found == READ)
+        return READ;
+    free(*bytes);
+    *bytes = NULL;
+    return found;
+}
+
+/* Looks for a file at a path, which has no end mark, and adds what is found. */
+static enum found look(struct composecheck_files *files, const uint8_t *path, size_t path_length)
 {
     char *name = malloc(path_length + 1), *bytes = NULL;
     size_t length = 0;
     if (!name)
-        return false;
+        return OUT_OF_MEMORY;
     memcpy(name, path, path_length);
     name[path_length] = 0;
-    FILE *file = strlen(name) == path_length ? fopen(name, "rb") : NULL;
-    bool is_there = file && (bytes = read_all(file, &length)) != NULL && !ferror(file);
-    bool is_kept = (bytes || !file || ferror(file)) && add_answer(files, name, path_length, is_there ? bytes : NULL, is_there ? length : 0);
-    if (file)
-        fclose(file);
+    enum found found = strlen(name) == path_length ? read_file(name, &bytes, &length) : ABSENT;
+    if (found != OUT_OF_MEMORY && !add_answer(files, name, path_length, bytes, length))
+        found = OUT_OF_MEMORY;
     free(bytes);
     free(name);
-    return is_kept;
+    return found;
 }
 
 /* ---- the search */
@@ -117,27 +152,41 @@ static bool widen(struct composecheck_files *files, size_t room)
     return true;
 }
 
+/* Searches until the bundle is whole, which is *size bytes long. A file that isn't read has a reason: of the paths that were tried for it, the first
+ * one at which something stands. */
+static bool search(struct composecheck_files *files, const char *root, const struct composecheck_places *places, size_t *size,
+                   struct composecheck_fault *fault)
+{
+    enum found reason = ABSENT;
+    while (files->bundle_length >= files->answers_length + 4096 || widen(files, 2 * files->answers_length + 4096)) {
+        uint32_t done = find(files, root, places, size, fault);
+        if (done == COMPOSECHECK_REFUSED && fault->part == COMPOSECHECK_SEARCH && (fault->code == NO_ROOT || fault->code == NO_INCLUDED))
+            fault->value = (uint32_t) reason;
+        if (done == COMPOSECHECK_DONE || done == COMPOSECHECK_REFUSED)
+            return done == COMPOSECHECK_DONE;
+        enum found found = done == COMPOSECHECK_WANTED ? look(files, files->bundle, *size) : widen(files, *size) ? reason : OUT_OF_MEMORY;
+        if (found == OUT_OF_MEMORY)
+            return false;
+        reason = found == READ ? ABSENT : reason == ABSENT ? found : reason;
+    }
+    return false;
+}
+
 bool composecheck_files_find(struct composecheck_files *files, const char *root, const void *bytes, size_t length,
-                             const struct composecheck_places *places, struct composecheck_fault *fault)
+                             const struct composecheck_places *places, struct composecheck_fault *wanted)
 {
     struct composecheck_files none = { 0 };
+    struct composecheck_fault unwanted, *fault = wanted ? wanted : &unwanted;
     size_t size;
     *files = none;
     *fault = fault_of(COMPOSECHECK_MEMORY, 0);
     if (bytes && !add_answer(files, root, strlen(root), bytes, length))
         return false;
-    while (files->bundle_length >= files->answers_length + 4096 || widen(files, 2 * files->answers_length + 4096)) {
-        uint32_t done = find(files, root, places, &size, fault);
-        if (done == COMPOSECHECK_DONE) {
-            files->bundle_length = size;
-            *fault = fault_of(0, 0);
-            return true;
-        }
-        bool goes_on = done == COMPOSECHECK_TOO_SMALL ? widen(files, size) : done == COMPOSECHECK_WANTED && look(files, files->bundle, size);
-        if (!goes_on)
-            break;
-    }
-    return false;
+    if (!search(files, root, places, &size, fault))
+        return false;
+    files->bundle_length = size;
+    *fault = fault_of(0, 0);
+    return true;
 }
 
 void composecheck_files_free(struct composecheck_files *files)
@@ -150,15 +199,20 @@ void composecheck_files_free(struct composecheck_files *files)
 
 /* ---- sentences */
 
-/* What a fault of a search says, by its code. */
-static const char *search_words(uint32_t code)
+/* What a fault of a search says. */
+static const char *search_words(const struct composecheck_fault *fault)
 {
+    static const char *const unread[][2] = {
+        { "the file can't be read", "the file of the include can't be read" }, { "the file is a folder", "the file of the include is a folder" }
+    };
     static const char *const words[] = {
         "the search is refused", "the answers or the paths have another form", "the file isn't there", "the file of the include isn't there",
         "the text of the include is faulty", "a percent sign is followed by none of %, S, L and H", "%L isn't known", "%H isn't known",
         "the same text led to another file before", "a 65th source", "more than eight includes lead to the file"
     };
-    return words[code < sizeof words / sizeof *words ? code : 0];
+    if ((fault->code == NO_ROOT || fault->code == NO_INCLUDED) && (fault->value == UNREADABLE || fault->value == FOLDER))
+        return unread[fault->value - UNREADABLE][fault->code - NO_ROOT];
+    return words[fault->code < sizeof words / sizeof *words ? fault->code : 0];
 }
 
 /* The path of the answer with this index. */
@@ -199,7 +253,7 @@ size_t composecheck_files_explain(const struct composecheck_files *files, bool l
     else if (fault->part == COMPOSECHECK_SOURCE)
         composecheck_files_source(files, fault->source, &name, &name_length, &length);
     if (is_search || fault->part == COMPOSECHECK_MEMORY || fault->part == COMPOSECHECK_BUNDLE)
-        snprintf(said, sizeof said, "%s", is_search ? search_words(fault->code) : fault->part == COMPOSECHECK_MEMORY ? "out of memory" : "the bundle is too large");
+        snprintf(said, sizeof said, "%s", is_search ? search_words(fault) : fault->part == COMPOSECHECK_MEMORY ? "out of memory" : "the bundle is too large");
     else
         composecheck_table_explain(&input, said, sizeof said);
     if (fault->line)
@@ -210,9 +264,10 @@ size_t composecheck_files_explain(const struct composecheck_files *files, bool l
 /* ---- tables */
 
 struct composecheck_table *composecheck_table_from_file(const char *path, const struct composecheck_places *places, bool longest,
-                                                        struct composecheck_fault *fault, char *text, size_t room)
+                                                        struct composecheck_fault *wanted, char *text, size_t room)
 {
     struct composecheck_files files;
+    struct composecheck_fault unwanted, *fault = wanted ? wanted : &unwanted;
     struct composecheck_table *table = NULL;
     if (composecheck_files_find(&files, path, NULL, 0, places, fault)) {
         struct composecheck_input input = { .bundle = files.bundle, .bundle_length = files.bundle_length, .longest = longest };

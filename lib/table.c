@@ -216,10 +216,11 @@ static uint32_t read_into(const struct composecheck_table *in_use, const struct 
 }
 
 static struct composecheck_table *read_table(const struct composecheck_table *in_use, const struct composecheck_input *input,
-                                             struct composecheck_fault *fault)
+                                             struct composecheck_fault *wanted)
 {
     struct bundle bundle;
     struct composecheck_table *table;
+    struct composecheck_fault unwanted, *fault = wanted ? wanted : &unwanted;
     if (!bundle_of(input, &bundle, fault))
         return NULL;
     struct composecheck_sizes sizes = guess(bundle.length);
@@ -302,9 +303,10 @@ size_t composecheck_table_explain(const struct composecheck_input *input, char *
 }
 
 bool composecheck_table_check(const struct composecheck_table *old_table, const struct composecheck_table *new_table,
-                              const struct composecheck_input *input, struct composecheck_fault *fault)
+                              const struct composecheck_input *input, struct composecheck_fault *wanted)
 {
     const struct composecheck_table *a = old_table, *b = new_table;
+    struct composecheck_fault unwanted, *fault = wanted ? wanted : &unwanted;
     size_t length;
     const uint8_t *header = header_of(input, &length);
     return composecheck_check(header, length, a->nodes, a->sizes.nodes, a->edges, a->sizes.edges, a->texts, a->sizes.texts, a->long_texts,

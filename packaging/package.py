@@ -27,65 +27,58 @@ import subprocess
 import sys
 import tarfile
 import tempfile
-from typing import NamedTuple
+
+import debian
+from debian import Package
 
 TOP = os.path.dirname(os.path.dirname(os.path.abspath(__file__)))
+sys.path.insert(0, f"{TOP}/lib")
+import build_library
+import install_library
 
-ARCHITECTURES = {"x86_64": "amd64"}
 COMPLETIONS = {
     "composecheck.bash": "share/bash-completion/completions/composecheck",
     "_composecheck": "share/zsh/site-functions/_composecheck",
     "composecheck.fish": "share/fish/vendor_completions.d/composecheck.fish",
 }
 UNITS = ("composecheck.service", "composecheck.socket", "composecheck-update@.path", "composecheck-update@.service", "composecheck-update@.timer")
-# What dpkg runs for the services of users: after an upgrade, and before a removal.
-SCRIPTS = ("postinst", "prerm")
 # Which files of the C library programs are built with; the others are needed where they run.
 DEVELOPMENT = (".a", ".h", ".pc", "/libcomposecheck.so", "/libcomposecheck-client.so")
-PROGRAMS = ("bin/composecheck", ".sh", "/ibus-engine-composecheck", "/ibus-setup-composecheck")
+PROGRAMS = ("bin/composecheck", ".sh", "/ci/autopkgtest", "/ibus-engine-composecheck", "/ibus-setup-composecheck")
 
 
 # What is built with the headers of an input method, by the folder of its sources: the name that pkg-config has for these, and the package of Debian.
 HEADERS = {"ibus": ("ibus-1.0", "libibus-1.0-dev"), "fcitx5": ("Fcitx5Core", "libfcitx5core-dev")}
 
 
-class Package(NamedTuple):
-    """What a Debian package is called, and its description."""
-
-    name: str
-    section: str
-    architecture: str
-    depends: str
-    description: str
-    recommends: str = ""
-
-
-THE_PROGRAM = Package("composecheck", "x11", "any", "libc6", """checks migrations between X11 Compose tables, and serves typing
+THE_PROGRAM = Package("composecheck", "x11", "", "libc6", """checks migrations between X11 Compose tables, and serves typing
  composecheck lists what a new Compose table changes for people who type with
  the old one, shows the shortest keys on which two tables differ, and serves
  typing sessions over a Unix socket. Its promises are proved.
-""")
-LIBRARY = Package("libcomposecheck1", "libs", "any", "libc6", """Compose tables and compose states for programs
+""", scripts=("postinst", "prerm"))  # for the services of users: after an upgrade, and before a removal
+LIBRARY = Package("libcomposecheck1", "libs", "", "libc6", """Compose tables and compose states for programs
  libcomposecheck reads Compose tables, types with them, and takes a new table
  in the middle of a sequence. libcomposecheck-xkb.so has the functions of
  libxkbcommon's Compose over it, for LD_PRELOAD. Its promises are proved.
 """)
-CLIENT = Package("libcomposecheck-client0", "libs", "any", "libc6", """client of a composecheck service, for input methods
+CLIENT = Package("libcomposecheck-client0", "libs", "", "libc6", """client of a composecheck service, for input methods
  libcomposecheck-client decides what an input method sends to a typing service,
  and what each reply and each lost connection means. It does no input and no
  output. Its promises are proved.
 """)
-LIBRARY_DEV = Package("libcomposecheck-dev", "libdevel", "any", "libcomposecheck-client0 (= VERSION), libcomposecheck1 (= VERSION)", """Compose tables and compose states for programs, development files
+LIBRARY_DEV = Package("libcomposecheck-dev", "libdevel", "libcomposecheck-client0 (= VERSION), libcomposecheck1 (= VERSION)", "", """Compose tables and compose states for programs, development files
  The headers, the static libraries and the pkg-config files of libcomposecheck
  and libcomposecheck-client, their guide and four examples.
 """)
-IBUS = Package("composecheck-ibus", "utils", "any", "composecheck (= VERSION), gir1.2-gtk-3.0, ibus, libc6, libcomposecheck-client0 (= VERSION), libglib2.0-0, libibus-1.0-5, libstdc++6, python3 (>= 3.9), python3-gi", """Compose sequences of a composecheck service, for IBus
+IBUS = Package("composecheck-ibus", "utils", "composecheck (= VERSION), gir1.2-gtk-3.0, ibus, libcomposecheck-client0 (= VERSION), python3 (>= 3.9), python3-gi",
+               "libc6, libglib2.0-0, libibus-1.0-5, libstdc++6", """Compose sequences of a composecheck service, for IBus
  An engine of IBus that types by the Compose table of a running service. The
  table can be replaced while people type, also in the middle of a sequence.
  What is pending is shown where it will stand, and with libcomposecheck1 the
  keys that can follow can be listed.
 """, "libcomposecheck1 (= VERSION)")
-FCITX5 = Package("fcitx5-composecheck", "utils", "any", "composecheck (= VERSION), fcitx5, libc6, libcomposecheck-client0 (= VERSION), libfcitx5config6, libfcitx5core7, libfcitx5utils2, libstdc++6", """Compose sequences of a composecheck service, for fcitx5
+FCITX5 = Package("fcitx5-composecheck", "utils", "composecheck (= VERSION), fcitx5, libcomposecheck-client0 (= VERSION)",
+                 "libc6, libfcitx5config6, libfcitx5core7, libfcitx5utils2, libstdc++6", """Compose sequences of a composecheck service, for fcitx5
  An addon of fcitx5 that types by the Compose table of a running service, under
  every keyboard layout and before every input method. The table can be replaced
  while people type, also in the middle of a sequence. It is on as soon as it is
@@ -125,17 +118,19 @@ def files_of(program, prefix):
     return files
 
 
+def for_debian(files):
+    """The same in the places that Debian's policy has for them; the licence is in the package's copyright."""
+    return {path.replace("/site-functions/", "/vendor-completions/"): content for path, content in files.items() if not path.endswith("/LICENSE")}
+
+
 def can_build(kind):
     """Whether the engine of IBus, or the addon of fcitx5, can be built here."""
     tools = [shutil.which(it) for it in ("cmake", "c++", "pkg-config")]
     return all(tools) and subprocess.run(["pkg-config", "--exists", HEADERS[kind][0]], check=False).returncode == 0
 
 
-def built_files(kind, package, version):
+def built_files(kind, version):
     """The same for the engine of IBus, or the addon of fcitx5, which is built."""
-    sys.path.insert(0, f"{TOP}/lib")
-    import build_library
-
     with tempfile.TemporaryDirectory() as room:
         build_library.build_client(f"{room}/lib")
         settings = ("BUILD_TYPE=Release", "INSTALL_PREFIX=/usr", "INSTALL_LIBDIR=lib/" + text_of("gcc", "-print-multiarch"))
@@ -150,16 +145,12 @@ def built_files(kind, package, version):
         top = f"{room}/installed/usr"
         places = [os.path.relpath(os.path.join(at, name), top) for at, _, names in os.walk(top) for name in names]
         files = {place: read(f"{top}/{place}") for place in places}
-    files[f"share/doc/{package.name}/LICENSE"] = read(f"{TOP}/LICENSE")
     return files
 
 
 def library_files():
     """The same for the C libraries, which are built: those of each library, and those that programs are built with. A link is what it leads to, as
     text."""
-    sys.path.insert(0, f"{TOP}/lib")
-    import install_library
-
     folder = f"lib/{platform.machine()}-linux-gnu"
     with tempfile.TemporaryDirectory() as room:
         install_library.install(room, "/usr")
@@ -172,8 +163,6 @@ def library_files():
     parts = {LIBRARY: {}, CLIENT: {}, LIBRARY_DEV: {}}
     for place, content in files.items():
         parts[LIBRARY_DEV if place.endswith(DEVELOPMENT) else CLIENT if "libcomposecheck-client" in place else LIBRARY][place] = content
-    for package, part in parts.items():
-        part[f"share/doc/{package.name}/LICENSE"] = read(f"{TOP}/LICENSE")
     parts[LIBRARY_DEV][f"share/doc/{LIBRARY_DEV.name}/LIBRARY.md"] = read(f"{TOP}/docs/LIBRARY.md")
     for name in ("type.c", "live.c", "file.c", "client.c"):
         parts[LIBRARY_DEV][f"share/doc/{LIBRARY_DEV.name}/examples/{name}"] = read(f"{TOP}/lib/examples/{name}")
@@ -192,7 +181,8 @@ def put(packed, name, content, time):
 
 def make_dist(files, version, time, folder):
     name = f"composecheck-{version}-{platform.machine()}"
-    whole = {**files, "VERSION": f"composecheck {version}\n{text_of('rt', 'version')}\n".encode()}
+    kit = f"{text_of('rt', 'version')}\n" if shutil.which("rt") else ""
+    whole = {**files, "VERSION": f"composecheck {version}\n{kit}".encode()}
     whole["SHA256SUMS"] = "".join(f"{hashlib.sha256(content).hexdigest()}  {path}\n" for path, content in sorted(whole.items())).encode()
     raw = io.BytesIO()
     with tarfile.open(fileobj=raw, mode="w", format=tarfile.USTAR_FORMAT) as packed:
@@ -204,70 +194,35 @@ def make_dist(files, version, time, folder):
     return made
 
 
-def architecture_of(package):
-    return ARCHITECTURES[platform.machine()] if package.architecture == "any" else package.architecture
+def version_of(program):
+    return text_of(os.path.abspath(program), "--version").split()[1]
 
 
-def control_of(package, files, version):
-    size = sum(len(it) for it in files.values()) // 1024 + 1
-    recommended = f"Recommends: {package.recommends.replace('VERSION', version)}\n" if package.recommends else ""
-    return f"""Package: {package.name}
-Version: {version}
-Section: {package.section}
-Priority: optional
-Architecture: {architecture_of(package)}
-Depends: {package.depends.replace("VERSION", version)}
-{recommended}Installed-Size: {size}
-Maintainer: Mewarogun maintainers <maintainers@users.noreply.mewarogun.example>
-Description: {package.description}"""
-
-
-def make_deb(package, files, version, time, folder):
-    made = f"{folder}/{package.name}_{version}_{architecture_of(package)}.deb"
-    with tempfile.TemporaryDirectory() as room:
-        os.chmod(room, 0o755)
-        for path, content in files.items():
-            place = f"{room}/usr/{path}"
-            os.makedirs(os.path.dirname(place), mode=0o755, exist_ok=True)
-            if isinstance(content, str):
-                os.symlink(content, place)
-                continue
-            with open(place, "wb") as file:
-                file.write(content)
-            os.chmod(place, mode_of(path))
-        os.mkdir(f"{room}/DEBIAN", 0o755)
-        with open(f"{room}/DEBIAN/control", "w", encoding="utf-8") as file:
-            file.write(control_of(package, files, version))
-        for name in SCRIPTS if package is THE_PROGRAM else ():
-            shutil.copy(f"{TOP}/packaging/{name}", f"{room}/DEBIAN/{name}")
-            os.chmod(f"{room}/DEBIAN/{name}", 0o755)
-        with open(f"{room}/DEBIAN/md5sums", "w", encoding="utf-8") as file:
-            file.writelines(f"{hashlib.md5(it).hexdigest()}  usr/{path}\n" for path, it in sorted(files.items()) if isinstance(it, bytes))
-        for at, _, names in os.walk(room, topdown=False):
-            for name in [*names, "."]:
-                os.utime(f"{at}/{name}", (time, time), follow_symlinks=False)
-        environment = {**os.environ, "SOURCE_DATE_EPOCH": str(time)}
-        subprocess.run(["dpkg-deb", "--build", "--root-owner-group", room, made], check=True, stdout=subprocess.DEVNULL, env=environment)
-    return made
+def time_of_sources():
+    """When the last commit was made, or what SOURCE_DATE_EPOCH says."""
+    given = os.environ.get("SOURCE_DATE_EPOCH")
+    try:
+        return int(given or text_of("git", "log", "-1", "--format=%ct"))
+    except (OSError, subprocess.CalledProcessError):
+        sys.exit("package.py: here is no history of git that says how old the sources are: set SOURCE_DATE_EPOCH, in seconds")
 
 
 def main():
     kind, program, folder = sys.argv[1:]
     os.umask(0o022)
     os.makedirs(folder, exist_ok=True)
-    version = text_of(os.path.abspath(program), "--version").split()[1]
-    time = int(os.environ.get("SOURCE_DATE_EPOCH") or text_of("git", "log", "-1", "--format=%ct"))
+    version, time = version_of(program), time_of_sources()
     if kind == "dist":
         print(make_dist(files_of(program, "/usr/local"), version, time, folder))
     elif kind == "deb":
-        print(make_deb(THE_PROGRAM, files_of(program, "/usr"), version, time, folder))
+        print(debian.make(THE_PROGRAM, for_debian(files_of(program, "/usr")), version, time, folder, mode_of))
     elif kind == "library":
         for package, files in library_files().items():
-            print(make_deb(package, files, version, time, folder))
+            print(debian.make(package, files, version, time, folder, mode_of))
     else:
         package = {"ibus": IBUS, "fcitx5": FCITX5}[kind]
         if can_build(kind):
-            print(make_deb(package, built_files(kind, package, version), version, time, folder))
+            print(debian.make(package, built_files(kind, version), version, time, folder, mode_of))
         else:
             print(f"{package.name} is not made: it needs cmake, c++, pkg-config and the headers of {kind} (in Debian {HEADERS[kind][1]})")
 

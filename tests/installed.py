@@ -12,7 +12,7 @@ import sys
 import tempfile
 import xml.etree.ElementTree
 
-from packages import check_sums, files_below, packed, read, run
+from packages import REVISION, check_lintian, check_sums, files_below, packed, read, run
 from harness import CLIENT_LIBRARY, Results
 from typing_service import TypingService, settings_of_the_unit
 
@@ -175,8 +175,10 @@ def check_units(place, results):
 
 # ---- the packages
 
-def check_package(path, version, folder, results):
+def check_package(path, program_version, folder, results):
     """Unpacks a package, and returns where."""
+    version = f"{program_version}-{REVISION}"
+    check_lintian(os.path.basename(path), [path], results)
     name = os.path.basename(path).split("_")[0]
     place, control = os.path.join(folder, name), os.path.join(folder, f"{name}-control")
     results.expect(f"{name} is unpacked", [run("dpkg-deb", option, path, it).returncode for option, it in (("-x", place), ("-e", control))], [0, 0])

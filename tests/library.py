@@ -1,8 +1,8 @@
 #!/usr/bin/env python3
 """library.py: tests the C library: builds it of the proved static library, runs its examples and what docs/LIBRARY.md pastes, types random keys
 on random tables beside a second reading of them, and, where libxkbcommon.so.0 is there, on a table of the system beside that; the user's table;
-threads; states, arrays, rooms and lines of any numbers, clauses of the headers, and each allocation refused, the C of it compiled with
--fsanitize=address,undefined, and under valgrind where that is there.
+the packages for Rust and Go, where these are installed; threads; states, arrays, rooms and lines of any numbers, clauses of the headers, and each
+allocation refused, the C of it compiled with -fsanitize=address,undefined, and under valgrind where that is there.
 
   library.py          20,000 keys on the table of en_US.UTF-8: for the gate; it takes seconds, once crates/compose_c is proved
   library.py COUNT    COUNT keys on each table of the system in UTF-8: for `make real`
@@ -23,6 +23,7 @@ TOP = os.path.dirname(os.path.dirname(os.path.abspath(__file__)))
 sys.path[:0] = [f"{TOP}/tests", f"{TOP}/lib", f"{TOP}/share/composecheck"]
 import build_library
 import key_streams
+import packages as packages_test
 import reference
 
 SEED = 22
@@ -494,6 +495,17 @@ def secure(results, folder):
     results.expect(said == f'secure "{typed}" "{typed}"\n', f"a program with more rights prints {said!r}")
 
 
+def all_keysyms(results, folder):
+    """The texts of all 536,870,912 keysyms beside libxkbcommon's, and how many differ by each rule of docs/LIBRARY.md."""
+    if not compose_calls("libxkbcommon.so.0"):
+        print("library.py: without libxkbcommon.so.0 the texts of keysyms are not compared")
+        return
+    program = compiled(folder, f"{TOP}/tests/library/keys.c", "-O2", f"{folder}/lib/libcomposecheck.a", "-l:libxkbcommon.so.0")
+    said = ran_well(results, "the texts of all keysyms", program)
+    wanted = "1115092 have a text; 2048 surrogates; 255 numbers of Unicode below 0x1000100; 19 listed keys; 0 others\n"
+    results.expect(said == wanted, f"the texts of all keysyms: {said}")
+
+
 def symbols(results, folder):
     """The shared libraries show their own names alone."""
     for name, prefix, count in (
@@ -504,21 +516,31 @@ def symbols(results, folder):
         results.expect(all(it.startswith(prefix) for it in found) and count in (None, len(found)), f"{name} shows {found}")
 
 
+def stand_in(folder):
+    """A program in the place of the proved one, for packages of the libraries: it says its version."""
+    program = f"{folder}/program"
+    with open(program, "w", encoding="utf-8") as file:
+        file.write("#!/bin/sh\necho composecheck 0.0.0\n")
+    os.chmod(program, 0o755)
+    return program
+
+
 def packages(results, folder):
     """A program is built with the Debian packages, and runs."""
     if not shutil.which("dpkg-deb") or not shutil.which("pkg-config"):
         print("library.py: without dpkg-deb and pkg-config no packages are made")
         return
-    program, root = f"{folder}/program", f"{folder}/root"
-    with open(program, "w", encoding="utf-8") as file:
-        file.write("#!/bin/sh\necho composecheck 0.0.0\n")
-    os.chmod(program, 0o755)
+    program, root = stand_in(folder), f"{folder}/root"
     command = [sys.executable, f"{TOP}/packaging/package.py", "library", program, folder]
     made = subprocess.run(command, stdout=subprocess.PIPE, text=True, check=True).stdout.split()
     names = [os.path.basename(it).split("_")[0] for it in made]
     results.expect(names == ["libcomposecheck1", "libcomposecheck-client0", "libcomposecheck-dev"], f"the packages {made}")
+    said = packages_test.told(made)
+    results.expect(not said, f"lintian says of the packages: {said}")
     for path in made:
         subprocess.run(["dpkg-deb", "-x", path, root], check=True)
+    found = subprocess.run(["dpkg-deb", "-I", made[0], "shlibs", "triggers"], stdout=subprocess.PIPE, text=True, check=True).stdout
+    results.expect(found == "libcomposecheck 1 libcomposecheck1 (>= 0.0.0)\nactivate-noawait ldconfig\n", f"what the library declares is {found!r}")
     place = f"{root}/usr/lib/{platform.machine()}-linux-gnu"
     env = {**os.environ, "PKG_CONFIG_PATH": f"{place}/pkgconfig", "PKG_CONFIG_SYSROOT_DIR": root, "LD_LIBRARY_PATH": place}
     flags = subprocess.run(["pkg-config", "--cflags", "--libs", "composecheck"], env=env, stdout=subprocess.PIPE, text=True, check=True).stdout.split()
@@ -529,17 +551,98 @@ def packages(results, folder):
     results.expect(ran.stdout == 'composed "é"\n', f"a program built with the packages prints {ran.stdout!r}")
 
 
+def installed(folder):
+    """The environment in which programs find the library that is installed in the folder, and tools of languages write there alone."""
+    places = {"LD_LIBRARY_PATH": f"{folder}/lib", "PKG_CONFIG_PATH": f"{folder}/lib/pkgconfig", "CARGO_TARGET_DIR": f"{folder}/cargo"}
+    return {**os.environ, **places, "GOCACHE": f"{folder}/go", "GOPATH": f"{folder}/gopath", "GOPROXY": "off", "GOFLAGS": "-mod=mod"}
+
+
+# The command of each language, what tests its package, and where that is.
+LANGUAGES = {"cargo": ("lib/rust", "test", "-q", "--offline"), "go": ("lib/go/composecheck", "test", "./...")}
+
+
+def has_language(tool):
+    works = shutil.which(tool) and subprocess.run([tool, "version"], stdout=subprocess.DEVNULL, stderr=subprocess.DEVNULL).returncode == 0
+    return bool(works and shutil.which("pkg-config"))
+
+
+def languages(results, folder):
+    """The packages for other languages: each one's own tests, where the language is installed."""
+    for tool, (place, *words) in LANGUAGES.items():
+        if not has_language(tool):
+            print(f"library.py: without {tool} and pkg-config {place} is not tried")
+            continue
+        copied = shutil.copytree(f"{TOP}/{place}", f"{folder}/{tool}-sources", ignore=shutil.ignore_patterns("target"))
+        ran = subprocess.run([tool, *words], cwd=copied, env=installed(folder), stdout=subprocess.PIPE, stderr=subprocess.STDOUT, text=True, timeout=600)
+        results.expect(ran.returncode == 0, f"{place}: {ran.stdout}")
+
+
+# The first clang that reads the modules of the kit's one.
+LEAST_CLANG = 19
+
+
+def clang_of_modules():
+    """The name of a clang that reads the modules, or None."""
+    for name in ("clang", *(f"clang-{number}" for number in range(LEAST_CLANG, 30))):
+        said = subprocess.run([name, "--version"], stdout=subprocess.PIPE, text=True).stdout if shutil.which(name) else ""
+        found = re.search(r"version (\d+)", said)
+        if found and int(found[1]) >= LEAST_CLANG:
+            return name
+    return None
+
+
+def release(results, folder):
+    """What `make release` makes, but for the engines: its sums, the list that apt reads, and, where there are modules and a clang that reads them, the
+    archive of modules, built in a folder of its own without the kit."""
+    if not all(map(shutil.which, ("dpkg-deb", "dpkg-scanpackages", "pkg-config"))):
+        print("library.py: without dpkg-deb, dpkg-scanpackages and pkg-config no release is made")
+        return
+    static, program, made = os.environ.get("COMPOSECHECK_STATIC"), stand_in(folder), f"{folder}/release"
+    modules = [static] if static and os.path.exists(f"{static}/compose_c.ll") and os.path.exists(f"{static}/compose_typing_c.ll") else []
+    command = [sys.executable, f"{TOP}/packaging/release.py", program, made, *modules]
+    ran = subprocess.run(command, env={**os.environ, "PKG_CONFIG_LIBDIR": "/nonexistent"}, stdout=subprocess.PIPE, stderr=subprocess.STDOUT, text=True)
+    results.expect(ran.returncode == 0, f"the release: {ran.stdout}")
+    results.expect(subprocess.run(["sha256sum", "--check", "--quiet", "SHA256SUMS"], cwd=made).returncode == 0, "the sums of the release")
+    with open(f"{made}/apt/Packages", encoding="utf-8") as file:
+        listed = re.findall(r"^Filename: \./(.*)$", file.read(), re.M)
+    results.expect(sorted(listed) == sorted(it for it in os.listdir(f"{made}/apt") if it.endswith(".deb")) and len(listed) == 4, f"what apt reads: {listed}")
+    clang = clang_of_modules()
+    if not modules or not clang:
+        print(f"library.py: without modules beside the static libraries, and clang {LEAST_CLANG}, the archive of modules is not built")
+        return
+    build_modules(results, f"{made}/composecheck-0.0.0-modules.tar.gz", clang, folder)
+
+
+def build_modules(results, archive, clang, folder):
+    """Builds the archive of modules in a folder of its own, with nothing of the kit, and types with what it installs."""
+    subprocess.run(["tar", "-xf", archive, "-C", folder], check=True)
+    top, env = f"{folder}/composecheck-0.0.0-modules", {"PATH": "/usr/bin:/bin", "HOME": folder}
+    ran = subprocess.run(["make", f"CLANG={clang}", f"PREFIX={folder}/placed", "check", "install"], cwd=top, env=env, stdout=subprocess.PIPE, stderr=subprocess.STDOUT, text=True)
+    results.expect(ran.returncode == 0, f"the archive of modules: {ran.stdout[-2000:]}")
+    typed = compiled(folder, f"{TOP}/lib/examples/type.c", f"-L{folder}/placed/lib", "-lcomposecheck")
+    with open(f"{folder}/table", "w", encoding="utf-8") as file:
+        file.write('<a> : "é"\n')
+    said = subprocess.run([typed, f"{folder}/table", "0x61"], env={"LD_LIBRARY_PATH": f"{folder}/placed/lib"}, stdout=subprocess.PIPE, text=True).stdout
+    results.expect(said == 'composed "é"\n', f"a program on the library of modules prints {said!r}")
+    client = compiled(folder, f"{TOP}/lib/examples/client.c", f"-L{folder}/placed/lib", "-lcomposecheck-client")
+    said = subprocess.run([client, "nowhere", "0xfe51"], env={"LD_LIBRARY_PATH": f"{folder}/placed/lib"}, stdout=subprocess.PIPE, text=True).stdout
+    results.expect(said == 'pass ""\n', f"a client on the library of modules prints {said!r}")
+
+
 def documents(results, folder):
     """Pastes the blocks of docs/LIBRARY.md, in a folder with the installed library, and compares what is printed."""
     with open(f"{TOP}/docs/LIBRARY.md", encoding="utf-8") as file:
         blocks = BLOCK.findall(file.read())
-    env = {**os.environ, "LD_LIBRARY_PATH": f"{folder}/lib", "PKG_CONFIG_PATH": f"{folder}/lib/pkgconfig"}
+    env, missing = installed(folder), [it for it in LANGUAGES if not has_language(it)]
     with tempfile.TemporaryDirectory(prefix="library-") as room:
         for name in ("lib", "share"):
             os.symlink(f"{TOP}/{name}", f"{room}/{name}")
         for (kind, pasted), after in zip(blocks, [*blocks[1:], ("", "")]):
-            if kind == "sh":
-                ran = subprocess.run(["bash", "-e"], cwd=room, input=pasted, env=env, stdout=subprocess.PIPE, stderr=subprocess.STDOUT, text=True, timeout=120)
+            lacks = [it for it in missing if f" {it} run" in pasted]
+            if lacks:
+                print(f"library.py: without {lacks[0]} and pkg-config a block of docs/LIBRARY.md is not run")
+            elif kind == "sh":
+                ran = subprocess.run(["bash", "-e"], cwd=room, input=pasted, env=env, stdout=subprocess.PIPE, stderr=subprocess.STDOUT, text=True, timeout=600)
                 wanted = after[1] if after[0] == "" else ""
                 results.expect(ran.returncode == 0 and ran.stdout == wanted, f"docs/LIBRARY.md:\n{pasted}printed\n{ran.stdout}")
 
@@ -571,7 +674,7 @@ def main():
                 test(results, library)
         if is_chosen("beside"):
             beside(results, folder, count, locales)
-        for test in (documents, packages, c_programs, secure):
+        for test in (documents, languages, packages, release, c_programs, secure, all_keysyms):
             if is_chosen(test.__name__) or test is c_programs:
                 test(results, folder)
         if is_chosen("symbols"):

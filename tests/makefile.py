@@ -11,7 +11,7 @@ import tempfile
 from harness import Results
 
 TOP = os.path.dirname(os.path.dirname(os.path.abspath(__file__)))
-PROVING = ("all", "composecheck", "compose_trials", "try", "quick", "test", "test-anew", "test-whole")
+PROVING = ("all", "composecheck", "compose_trials", "compose_as_reader", "try", "quick", "test", "test-anew", "test-whole")
 NO_KIT = re.compile(r'Makefile:\d+: \*\*\* this needs the Rattle kit: `rt` is not on the path; see "Install" in README\.md\.  Stop\.\n')
 
 
@@ -86,7 +86,7 @@ def check_help(results):
     with Tree([]) as tree:
         printed, said, status = tree.make("help")
     results.expect("make help", (said, status), ("", 0))
-    results.expect("the targets of make help", sorted(re.findall(r"^make (\S+) +\S", printed, re.M)), sorted([*targets, "compose_trials"]))
+    results.expect("the targets of make help", sorted(re.findall(r"^make (\S+) +\S", printed, re.M)), sorted([*targets, "compose_as_reader", "compose_trials"]))
     results.expect("the first line of make help", printed.split("\n")[0].split(), "make proves and builds ./composecheck".split())
     results.expect("the comments at the top", text.startswith(re.sub("^", "# ", printed.rstrip("\n"), flags=re.M) + "\n"), True)
 

@@ -1,6 +1,7 @@
 #!/usr/bin/env python3
 """packages.py PROGRAM: makes both packages twice, compares their bytes, unpacks each into an empty folder, checks the sums of its
-files, and types and serves with the program and the client that were unpacked. The last line is `N passed, M failed`."""
+files, types and serves with the program and the client that were unpacked, and asks lintian where that is installed. The last line is
+`N passed, M failed`."""
 import hashlib
 import os
 import re
@@ -21,6 +22,17 @@ with Client("socket", timeout=30) as client:
     client.open(7)
     print(*[client.key(7, it).text for it in (0xFF20, 0x27, 0x65, 0x78)], sep="|")
 """
+
+
+# What a Debian package has beside the files of the archive, and what lintian may say, as docs/DECISIONS.md has it.
+OF_DEBIAN = ("changelog.Debian.gz", "changelog.gz", "copyright")
+REVISION = "0upstream1"
+ACCEPTED = {
+    "composecheck: maintainer-script-calls-systemctl",
+    "composecheck-ibus: no-manual-page",
+    "libcomposecheck1: lacks-unversioned-link-to-shared-library",
+    "libcomposecheck1: shared-library-lacks-version",
+}
 
 
 def read(path):
@@ -104,6 +116,42 @@ def check_dist(program, version, folder, results):
     return [it for it in files if it not in ("SHA256SUMS", "VERSION")]
 
 
+def check_without_kit(program, version, folder, results):
+    """The archive of a given program where there is no kit: VERSION names none. Without git too the time of the sources has to be given."""
+    tools = os.path.join(folder, "tools")
+    os.mkdir(tools)
+    words = [sys.executable, os.path.join(TOP, "packaging", "package.py"), "dist", program, tools]
+    bare = {it: value for it, value in os.environ.items() if it != "SOURCE_DATE_EPOCH"} | {"PATH": tools}
+    refused = run(*words, env=bare)
+    results.expect("dist without git", (refused.returncode, refused.stderr.count("\n"), "set SOURCE_DATE_EPOCH" in refused.stderr), (1, 1, True))
+    made = run(*words, env={**bare, "SOURCE_DATE_EPOCH": "1700000000"})
+    results.expect("dist without the kit is made", (made.returncode, made.stderr), (0, ""))
+    with tarfile.open(made.stdout.strip()) as archive:
+        (said,) = [archive.extractfile(it).read() for it in archive.getnames() if it.endswith("/VERSION")]
+    results.expect("dist without the kit: VERSION", said.decode(), f"composecheck {version}\n")
+
+
+def told(paths):
+    """What lintian says of packages and isn't accepted; or None where it isn't installed."""
+    if not shutil.which("lintian"):
+        return None
+    lines = run("lintian", "--allow-root", "--no-cfg", "--fail-on", "none", *paths).stdout.splitlines()
+    return [it for it in lines if not any(it.startswith(f"W: {accepted}") for accepted in ACCEPTED)]
+
+
+def check_lintian(what, paths, results):
+    found = told(paths)
+    if found is None:
+        print(f"no lintian here: {what} is not looked at")
+    else:
+        results.expect(f"{what}: what lintian says", found, [])
+
+
+def in_debian(path):
+    """Where Debian has a file of the archive."""
+    return path.replace("/site-functions/", "/vendor-completions/")
+
+
 def check_deb(program, version, listed, folder, results):
     path = packed("deb", program, folder, results)
     place, control = os.path.join(folder, "deb"), os.path.join(folder, "control")
@@ -112,11 +160,13 @@ def check_deb(program, version, listed, folder, results):
     scripts = [it for it in sorted(os.listdir(control)) if os.access(os.path.join(control, it), os.X_OK)]
     results.expect("deb: what dpkg runs", scripts, ["postinst", "prerm"])
     prefix = os.path.join(place, "usr")
-    results.expect("deb: the files of the archive", files_below(prefix), listed)
+    wanted = [in_debian(it) for it in listed if not it.endswith("/LICENSE")] + [f"share/doc/composecheck/{it}" for it in OF_DEBIAN]
+    results.expect("deb: the files of the archive, and Debian's own", files_below(prefix), sorted(wanted))
     check_sums("deb", read(os.path.join(control, "md5sums")).decode(), hashlib.md5, place, files_below(place), results)
-    results.expect("deb: version", run("dpkg-deb", "-f", path, "Version").stdout, f"{version}\n")
+    results.expect("deb: version", run("dpkg-deb", "-f", path, "Version").stdout, f"{version}-{REVISION}\n")
     results.expect("deb: the unit's program", unit_program(prefix), "/usr/bin/composecheck")
     check_program("deb", prefix, version, results)
+    check_lintian("deb", [path], results)
 
 
 def main():
@@ -124,6 +174,7 @@ def main():
     version = run(program, "--version").stdout.split()[1]
     with tempfile.TemporaryDirectory(prefix="packages-") as folder:
         listed = check_dist(program, version, folder, results)
+        check_without_kit(program, version, folder, results)
         if shutil.which("dpkg-deb"):
             check_deb(program, version, listed, folder, results)
         else:

@@ -24,6 +24,7 @@ READING = {
     "composecheck": ["type", "FIFO", "a"],
     "composecheck_list": ["type", "FIFO", "a"],
     "compose_trials": ["bench", "names", "FIFO"],
+    "compose_as_reader": ["1.7", "/", "/", "/", "FIFO"],
 }
 LIBRARIES = {"compose_c", "compose_typing_c"}
 SECONDS = 900

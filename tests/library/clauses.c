@@ -1,10 +1,13 @@
 /* Clauses of composecheck.h that no other test asks for, each on blocks of just the size that is said: loads and checks of every kind, what texts and
  * paths need, includes, texts of keys, and which file a fault names. Compiled with -fsanitize=address,undefined. The argument is a folder that may be
  * written to. */
+#define _POSIX_C_SOURCE 200809L
 #include <composecheck.h>
 #include <stdio.h>
 #include <stdlib.h>
 #include <string.h>
+#include <sys/stat.h>
+#include <unistd.h>
 
 static const char valid[] = "compose-certificate 1\nbound 1\npairs 2\n0 0\n1 1\ntypings 0\n";
 static const char old_text[] = "<a> <b> : \"x\"\n", new_text[] = "<a> <b> : \"x\"\n<a> <c> : \"y\"\n", other_text[] = "<a> <b> : \"z\"\n";
@@ -245,6 +248,69 @@ static void faults_of_files(const char *folder)
     expect(is_refused(folder, "%S/second:3:8: expected \">\", found \":\""), "a fault of a source names its include");
 }
 
+/* Whether the search for this file, and for an include of it, ends with this value, and these words. */
+static bool is_unread(const char *folder, const char *name, uint32_t value, const char *words)
+{
+    char path[512], text[1024], line[512], wanted[1024];
+    struct composecheck_fault fault;
+    struct composecheck_places places = { folder, NULL, NULL, NULL };
+    snprintf(path, sizeof path, "%s/%s", folder, name);
+    snprintf(wanted, sizeof wanted, "%s: the file %s", path, words);
+    bool holds = !composecheck_table_from_file(path, &places, true, &fault, text, sizeof text) && strcmp(text, wanted) == 0;
+    holds = holds && fault.part == COMPOSECHECK_SEARCH && fault.code == 2 && fault.value == value;
+    snprintf(line, sizeof line, "\ninclude \"%%S/%s\"\n", name);
+    write_file(folder, "root", line);
+    snprintf(path, sizeof path, "%s/root", folder);
+    snprintf(wanted, sizeof wanted, "%s:2:9: the file of the include %s", path, words);
+    holds = holds && !composecheck_table_from_file(path, &places, true, &fault, text, sizeof text) && strcmp(text, wanted) == 0;
+    return holds && fault.part == COMPOSECHECK_SEARCH && fault.code == 3 && fault.value == value;
+}
+
+/* Why a file isn't read. (root may read every file, so a link that leads to itself stands for one that can't be read.) */
+static void unread_files(const char *folder)
+{
+    char path[512];
+    snprintf(path, sizeof path, "%s/a_folder", folder);
+    expect(mkdir(path, 0700) == 0, "a folder is made");
+    snprintf(path, sizeof path, "%s/a_loop", folder);
+    expect(symlink("a_loop", path) == 0, "a link is made");
+    expect(is_unread(folder, "nothing", 0, "isn't there"), "a file that isn't there");
+    expect(is_unread(folder, "first/below", 0, "isn't there"), "a file below a file");
+    expect(is_unread(folder, "a_loop", 1, "can't be read"), "a file that can't be read");
+    expect(is_unread(folder, "a_folder", 2, "is a folder"), "a folder");
+    expect(unlink(path) == 0, "the link is taken away");
+    snprintf(path, sizeof path, "%s/a_folder", folder);
+    expect(rmdir(path) == 0, "the folder is taken away");
+}
+
+/* Each call of the second part that has a fault does the same without it. */
+static void without_faults(const char *folder)
+{
+    char path[512], text[64] = "";
+    struct composecheck_files files;
+    struct composecheck_source good = { "r", old_text, strlen(old_text) }, faulty = { "r", "<a", 2 }, other = { "r", other_text, strlen(other_text) };
+    struct composecheck_input input = { .sources = &good, .source_count = 1, .certificate = valid, .certificate_length = strlen(valid) };
+    struct composecheck_input refused = { .sources = &faulty, .source_count = 1 }, changed = input;
+    changed.sources = &other;
+    struct composecheck_table *table = composecheck_table_new(&input, NULL), *loaded = composecheck_table_load(table, &input, NULL);
+    struct composecheck_table *another = composecheck_table_new(&changed, NULL);
+    expect(table && loaded && another, "tables are made without a fault");
+    expect(!composecheck_table_new(&refused, NULL) && !composecheck_table_load(table, &changed, NULL), "tables are refused without a fault");
+    expect(composecheck_table_check(table, loaded, &input, NULL) && !composecheck_table_check(table, another, &input, NULL), "checks without a fault");
+    snprintf(path, sizeof path, "%s/first", folder);
+    struct composecheck_table *read = composecheck_table_from_file(path, NULL, true, NULL, NULL, 0);
+    expect(read && composecheck_files_find(&files, path, NULL, 0, NULL, NULL), "files are read without a fault");
+    composecheck_files_free(&files);
+    expect(!composecheck_files_find(&files, "", NULL, 0, NULL, NULL), "no file is found without a fault");
+    composecheck_files_free(&files);
+    expect(!composecheck_table_from_file("/nowhere", NULL, true, NULL, text, sizeof text) && strcmp(text, "/nowhere: the file isn't there") == 0,
+           "the words of a fault that isn't asked for");
+    composecheck_table_free(table);
+    composecheck_table_free(loaded);
+    composecheck_table_free(another);
+    composecheck_table_free(read);
+}
+
 int main(int count, char **arguments)
 {
     all_loads();
@@ -253,7 +319,10 @@ int main(int count, char **arguments)
     locale_files();
     key_texts();
     includes();
-    if (count > 1)
+    if (count > 1) {
         faults_of_files(arguments[1]);
+        unread_files(arguments[1]);
+        without_faults(arguments[1]);
+    }
     return failed ? 1 : 0;
 }

@@ -1,0 +1,6 @@
+pub mod Counted
+pub mod Prefixes
+pub mod Nodes
+pub mod Lines
+pub mod Refused
+pub mod Takings

@@ -1,0 +1,12 @@
+pub mod Definitions
+pub mod Fates
+pub mod Entries
+pub mod Files
+pub mod Walks
+pub mod Ends
+pub mod Seen
+pub mod Found
+pub mod Xkbcommon
+pub mod Refusals
+pub mod Stops
+pub mod Taken

@@ -1,0 +1,3 @@
+module composecheck
+
+go 1.19
