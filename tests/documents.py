@@ -2,8 +2,9 @@
 """documents.py [FOLDER]: what the documents of the repository, or of a copy of it in FOLDER, name is there:
 
   - links lead to a file, and to a heading of it,
+  - the pages of docs/made are those that tools/pages.py makes of the sources, and the documents that people write have at most 250,000 bytes,
   - each function, clause and definition that docs/PROVED.md, docs/DEFINITIONS.md and docs/PROMISE.md name in backquotes is in the sources of its crate, and each
-    crate has its row in docs/ARCHITECTURE.md, its section in docs/PROVED.md, and, if it has specs, one in docs/DEFINITIONS.md,
+    crate has its row in docs/ARCHITECTURE.md,
   - each crate, file, target of make and option that a document names exists, and so does each fault of FORMATS, PROTOCOL and the manual,
     under its number, and each limit among the numbers of the crates' sources,
   - README has at most 9,216 bytes, the version of the program is that of README, CHANGELOG and the manual, and the headers of which `--version` says
@@ -20,6 +21,8 @@ import sys
 
 TOP = os.path.abspath(sys.argv[1]) if len(sys.argv) > 1 else os.path.dirname(os.path.dirname(os.path.abspath(__file__)))
 MOST_README = 9216
+# Of README.md, CONTRIBUTING.md and docs/*.md together.
+MOST_WRITTEN = 250_000
 MANUALS = ["docs/composecheck.1", "docs/composecheck.5"]
 MOST_COLUMNS = 100
 # Words that the documents used in senses of their own: plain English has print, report, after, is, idle, checked, costly and again for them.
@@ -71,7 +74,6 @@ class Crates:
         self.texts = {it: self.text_of(it, "src/**/*.rt", "specs/**/*.antt") for it in self.names}
         self.proofs = {it: self.text_of(it, "proofs/**/*.antt", "must-fail/*.edit") for it in self.names}
         self.words = {it: set(re.findall(r"[A-Za-z_][\w'-]*", text)) for it, text in self.texts.items()}
-        self.with_specs = [it for it in self.names if os.path.isdir(os.path.join(TOP, "crates", it, "specs"))]
         self.every = "\n".join(self.texts.values())
         self.numbers = {int(it.replace("_", ""), 0) for it in re.findall(r"\b(?:0x[\da-f][\da-f_]*|[1-9][\d_]*)\b", self.every, re.I)}
         self.numbers |= {2 ** int(it) for it in re.findall(r"\b2 \^ (\d+)\b", self.every)}
@@ -162,11 +164,6 @@ def check_laws(results, document, text, crates):
             results.expect(document, f"`{word}` stands in no source of {crate}", crate not in crates.names or crates.have([crate], word))
 
 
-def named_in(text):
-    """Returns the crates that the sections of a document are about."""
-    return [it for own, _ in crate_sections(text) for it in own]
-
-
 def check_crates(results, texts, crates):
     folders = {os.path.basename(it) for it in glob.glob(os.path.join(TOP, "crates", "*"))}
     for document, text in texts.items():
@@ -174,13 +171,21 @@ def check_crates(results, texts, crates):
             known = word in folders or word in crates.every
             results.expect(document, f"there is no crate {word}", known)
     rows = [it for own in crate_rows(texts["docs/ARCHITECTURE.md"]) for it in own]
-    for document, named, of_crates in (
-        ("docs/ARCHITECTURE.md", rows, crates.names),
-        ("docs/PROVED.md", named_in(texts["docs/PROVED.md"]), crates.names),
-        ("docs/DEFINITIONS.md", named_in(texts["docs/DEFINITIONS.md"]), crates.with_specs),
-    ):
-        for crate in of_crates:
-            results.expect(document, f"{crate} has no row and no section, or more than one", named.count(crate) == 1)
+    for crate in crates.names:
+        results.expect("docs/ARCHITECTURE.md", f"{crate} has no row, or more than one", rows.count(crate) == 1)
+
+
+def check_made(results, texts):
+    """The pages that a script makes are those that it makes now, and what people write stays short enough to be read."""
+    sys.path.insert(0, os.path.join(TOP, "tools"))
+    import pages
+
+    made, there = pages.pages(), {f"{pages.FOLDER}/{it}" for it in os.listdir(os.path.join(TOP, pages.FOLDER))}
+    for path in sorted(there | set(made)):
+        results.expect(path, "it isn't what `make pages` makes", path in there and read(path) == made.get(path))
+    check_links(results, {it: made[it] for it in made})
+    written = sum(len(text.encode()) for it, text in texts.items() if it in ("README.md", "CONTRIBUTING.md") or it.startswith("docs/") and it not in MANUALS)
+    results.expect("docs", f"README, CONTRIBUTING and docs have {written} bytes, more than {MOST_WRITTEN}", written <= MOST_WRITTEN)
 
 
 def names_below(folder):
@@ -312,6 +317,7 @@ def main():
     for document, text in texts.items():
         check_laws(results, document, text, crates)
     check_crates(results, texts, crates)
+    check_made(results, texts)
     check_dependencies(results, texts["docs/ARCHITECTURE.md"])
     check_files(results, texts)
     check_commands(results, texts, crates)
