@@ -4,8 +4,8 @@
   - links lead to a file, and to a heading of it,
   - the pages of docs/made are those that tools/pages.py makes of the sources, and the documents that people write have at most 250,000 bytes,
   - each function, clause and definition that docs/PROVED.md, docs/DEFINITIONS.md and docs/PROMISE.md name in backquotes is in the sources of its crate, and each
-    crate has its row in docs/ARCHITECTURE.md,
-  - each crate, file, target of make and option that a document names exists, and so does each fault of FORMATS, PROTOCOL and the manual,
+    crate is in one row of docs/ARCHITECTURE.md,
+  - each crate, file, target of make and option that a document names exists, and so does each fault of OUTPUT, PROTOCOL and the manual,
     under its number, and each limit among the numbers of the crates' sources,
   - README has at most 9,216 bytes, the version of the program is that of README, CHANGELOG and the manual, and the headers of which `--version` says
     that the built-in names are those are the ones that packaging/xorgproto has, by its page and by the guide,
@@ -28,7 +28,7 @@ MOST_COLUMNS = 100
 # Words that the documents used in senses of their own: plain English has print, report, after, is, idle, checked, costly and again for them.
 RETIRED = re.compile(r"\b(?:told|tell(?:s|ing)?|said|so many|behind|stands(?! for\b)|stood|rests|rested|look(?:s|ed)? at|dear(?:er)?|anew)\b", re.I)
 # Documents whose numbers with a thousands' comma are limits of the program.
-WITH_LIMITS = ["README.md", "docs/FORMATS.md", "docs/GUIDE.md", "docs/PROTOCOL.md", "docs/SERVICE.md", *MANUALS]
+WITH_LIMITS = ["README.md", "docs/FORMATS.md", "docs/GUIDE.md", "docs/OUTPUT.md", "docs/PROTOCOL.md", "docs/SERVICE.md", *MANUALS]
 # Options of other programs stand in commands that begin so.
 FOREIGN = re.compile(r"\b(?:rt|systemctl|dpkg-deb|taskset|valgrind|perf|python3|git|sed|cc) [^`\n]*")
 FILE = re.compile(r"(?<![\w./$~%-])(?:[\w-]+/)*[\w-]+\.(?:py|sh|md|rt|antt|txt|service|socket|case|edit|c|h)\b(?!\()")
@@ -123,11 +123,6 @@ def quoted(text):
     return re.findall(r"`([^`\n]+)`", re.sub(r"^```.*?^```$", "", text, flags=re.M | re.S))
 
 
-def crate_rows(text):
-    """Returns the crates of each row of a table that begins with names in backquotes."""
-    return [quoted(first) for first in re.findall(rf"^\| ({NAMES}) \|", text, re.M)]
-
-
 def crate_sections(text):
     """Returns of each section whose heading is names in backquotes these names, and the items of its list, or its whole text if it has none."""
     found = []
@@ -170,9 +165,9 @@ def check_crates(results, texts, crates):
         for word in re.findall(r"\bcompose_[a-z_]+\b(?!\.[a-z])|\bkeysym_core\b|\bbuiltin_names\b", text):
             known = word in folders or word in crates.every
             results.expect(document, f"there is no crate {word}", known)
-    rows = [it for own in crate_rows(texts["docs/ARCHITECTURE.md"]) for it in own]
+    rows = "".join(re.findall(r"^\|.*$", texts["docs/ARCHITECTURE.md"], re.M))
     for crate in crates.names:
-        results.expect("docs/ARCHITECTURE.md", f"{crate} has no row, or more than one", rows.count(crate) == 1)
+        results.expect("docs/ARCHITECTURE.md", f"{crate} is in no row, or more than once", rows.count(f"`{crate}`") == 1)
 
 
 def check_made(results, texts):
@@ -180,7 +175,7 @@ def check_made(results, texts):
     sys.path.insert(0, os.path.join(TOP, "tools"))
     import pages
 
-    made, there = pages.pages(), {f"{pages.FOLDER}/{it}" for it in os.listdir(os.path.join(TOP, pages.FOLDER))}
+    made, there = pages.pages(), {f"{pages.FOLDER}/{it}" for it in os.listdir(os.path.join(TOP, pages.FOLDER)) if it not in pages.OTHERS}
     for path in sorted(there | set(made)):
         results.expect(path, "it isn't what `make pages` makes", path in there and read(path) == made.get(path))
     check_links(results, {it: made[it] for it in made})
@@ -274,21 +269,6 @@ def check_contributing(results, texts, crates):
         results.expect("CONTRIBUTING.md", f"the line stands in no source: {line}", line in sources)
 
 
-def check_dependencies(results, text):
-    """The last column of the table of crates has those that a crate depends on, but for those that others among them depend on."""
-    lines = re.findall(r"^(\w+):(.*)$", read("crates.txt"), re.M)
-    direct = {crate: {it for it in rest.split() if it in dict(lines)} for crate, rest in lines}
-
-    def below(crates):
-        return set().union(*(direct[it] | below(direct[it]) for it in crates))
-
-    for crate, said in re.findall(r"^\| `(\w+)` \| .* \| ([\w, -]+) \|$", text, re.M):
-        named = {it if it in direct else f"compose_{it}" for it in said.split(", ")} if said not in ("-", "what they test") else set()
-        if said != "what they test" and crate in direct:
-            holds = named <= direct[crate] and named | below(named) == below({crate})
-            results.expect("docs/ARCHITECTURE.md", f"{crate} depends on something else", holds)
-
-
 def check_citations(results, texts):
     for document, text in texts.items():
         found = CITATION.search(re.sub(r"`[^`\n]*`", "", re.sub(r"^```.*?^```$", "", text, flags=re.M | re.S)))
@@ -318,7 +298,6 @@ def main():
         check_laws(results, document, text, crates)
     check_crates(results, texts, crates)
     check_made(results, texts)
-    check_dependencies(results, texts["docs/ARCHITECTURE.md"])
     check_files(results, texts)
     check_commands(results, texts, crates)
     check_faults(results, texts, crates)

@@ -10,6 +10,8 @@ import re
 
 TOP = os.path.dirname(os.path.dirname(os.path.abspath(__file__)))
 FOLDER = "docs/made"
+# What something else makes: the gate.
+OTHERS = ["TIMES.md"]
 FUNCTION = re.compile(r"( *)(pub )?(?:const )?(?:unsafe )?(?:extern \"C\" )?fn (\w+)")
 BLOCK = re.compile(r"(impl|pub trait)\b(?:<(?:[^<>]|<[^<>]*>)*>)? *(\w+)(.*)|}$")
 LABEL = re.compile(r" *ensures(?: (\w+))? \{")
@@ -26,8 +28,8 @@ without a clause is proved to be safe and to end.
 [PROVED](../PROVED.md) says which of them carry the promises and what is not proved, and
 [DEFINITIONS](../DEFINITIONS.md) has the words of the promises in the order of reading.
 
-| Crate | What it is | Functions | Definitions |
-|---|---|---|---|
+| Crate | What it is | Depends on | Functions | Definitions |
+|---|---|---|---|---|
 """
 
 
@@ -37,8 +39,19 @@ def read(path):
 
 
 def crates():
-    """Returns the names of the crates, from the lowest up."""
-    return re.findall(r"^(\w+)(?: staticlib)?:", read("crates.txt"), re.M)
+    """Returns the crates that each crate depends on, from the lowest up."""
+    lines = re.findall(r"^(\w+)(?: staticlib)?:(.*)$", read("crates.txt"), re.M)
+    return {crate: [it for it in rest.split() if it in dict(lines)] for crate, rest in lines}
+
+
+def nearest(crate, direct):
+    """Returns the crates that a crate depends on, but for those that others of them depend on."""
+
+    def below(crates):
+        return set().union(*({*direct[it], *below(direct[it])} for it in crates))
+
+    further = below(direct[crate])
+    return [it for it in direct[crate] if it not in further]
 
 
 def files(crate, folder, ending):
@@ -128,20 +141,22 @@ def definition_rows(crate):
         yield path, [f"`{name}`: {shown(comment)}" for name, comment in definitions(read(path))]
 
 
-def page(crate):
+def page(crate, direct):
     """Returns the page of a crate, and its row in the list of crates."""
     root = "lib" if files(crate, "src", "lib.rt") else "main"
     source = read(f"crates/{crate}/src/{root}.rt")
     doc = [it[3:].strip() for it in source.split("\n") if it.startswith("//!")]
     first, function_count = section("Functions", list(function_rows(crate, source)) if root == "lib" else [])
     second, definition_count = section("Definitions", list(definition_rows(crate)))
-    what = shown(first_sentence(doc))
-    return f"# `{crate}`\n\n{what}\n{first}{second}", f"| [`{crate}`]({crate}.md) | {what} | {function_count} | {definition_count} |\n"
+    what, others = shown(first_sentence(doc)), ", ".join(it.removeprefix("compose_") for it in nearest(crate, direct)) or "-"
+    row = f"| [`{crate}`]({crate}.md) | {what} | {others} | {function_count or '-'} | {definition_count or '-'} |\n"
+    return f"# `{crate}`\n\n{what}\n{first}{second}", row
 
 
 def pages():
     """Returns the text of each page by its path."""
-    made = {it: page(it) for it in crates()}
+    direct = crates()
+    made = {it: page(it, direct) for it in direct}
     found = {f"{FOLDER}/{crate}.md": text for crate, (text, _) in made.items()}
     return {f"{FOLDER}/README.md": INDEX + "".join(row for _, row in made.values()), **found}
 
@@ -149,7 +164,8 @@ def pages():
 def main():
     os.makedirs(os.path.join(TOP, FOLDER), exist_ok=True)
     for path in glob.glob(os.path.join(TOP, FOLDER, "*.md")):
-        os.remove(path)
+        if os.path.basename(path) not in OTHERS:
+            os.remove(path)
     for path, text in pages().items():
         with open(os.path.join(TOP, path), "w", encoding="utf-8") as file:
             file.write(text)
