@@ -2,7 +2,7 @@
 """documents.py [FOLDER]: what the documents of the repository, or of a copy of it in FOLDER, name is there:
 
   - links lead to a file, and to a heading of it,
-  - the pages of docs/made are those that tools/pages.py makes of the sources, and the documents that people write have at most 250,000 bytes,
+  - the pages of docs/made are those that tools/pages.py makes of the sources, and the documents that people write have at most 250 KiB,
   - each function, clause and definition that docs/PROVED.md, docs/DEFINITIONS.md and docs/PROMISE.md name in backquotes is in the sources of its crate, and each
     crate is in one row of docs/ARCHITECTURE.md,
   - each crate, file, target of make and option that a document names exists, and so does each fault of OUTPUT, PROTOCOL and the manual,
@@ -22,7 +22,7 @@ import sys
 TOP = os.path.abspath(sys.argv[1]) if len(sys.argv) > 1 else os.path.dirname(os.path.dirname(os.path.abspath(__file__)))
 MOST_README = 9216
 # Of README.md, CONTRIBUTING.md and docs/*.md together.
-MOST_WRITTEN = 250_000
+MOST_WRITTEN = 250 * 1024
 MANUALS = ["docs/composecheck.1", "docs/composecheck.5"]
 MOST_COLUMNS = 100
 # Words that the documents used in senses of their own: plain English has print, report, after, is, idle, checked, costly and again for them.
