@@ -67,6 +67,8 @@ def first_sentence(lines):
 
 def shown(text):
     """Returns a text as Markdown shows it: what is outside of backquotes marks nothing."""
+    if text.count("`") % 2 == 1:
+        return re.sub(r"([`<*\[\]|\\])", r"\\\1", text)
     return "`".join(part if index % 2 else re.sub(r"([<*\[\]|])", r"\\\1", part) for index, part in enumerate(text.split("`")))
 
 
@@ -75,7 +77,7 @@ def comment_above(lines, index, mark):
     found = []
     for line in reversed(lines[:index]):
         if line.strip().startswith(mark):
-            found.insert(0, line.strip()[len(mark) :].strip())
+            found.insert(0, line.strip()[len(mark) :].lstrip("- ").rstrip())
         elif not line.strip().startswith("#["):
             break
     return found
