@@ -4,3 +4,4 @@ pub mod Judged
 pub mod Line
 pub mod Report
 pub mod Listed
+pub mod Run

@@ -18,6 +18,8 @@ mod line;
 mod listed;
 mod reading;
 mod report;
+mod run;
 
 pub use listed::{ListedAs, list_as};
 pub use reading::read_files;
+pub use run::run_list_as;

@@ -78,6 +78,7 @@ fn is_json_answer(question: &Question<'_>) -> bool
         Question::Keys { .. }
         | Question::Check { .. }
         | Question::Explain { .. }
+        | Question::ListAs(_)
         | Question::Make { .. }
         | Question::Manifest(_) => false,
     }
@@ -129,6 +130,7 @@ fn is_answer_on_files(question: &Question<'_>) -> bool
         Question::Diff { .. }
         | Question::How { .. }
         | Question::List(_)
+        | Question::ListAs(_)
         | Question::Lint(_)
         | Question::Manifest(_) => true,
     }
