@@ -1,13 +1,12 @@
 -- The files that a reader reads for a table: those to which includes lead from its root (Compose(5), "FILE DESCRIPTION"),
 -- each with what the folder has at its path.
-use Rattle.std.specs.Prelude.{◌≡◌, ◌⊎◌, ℕ, Bool, true, false, is_some, bytes_eq, List, [], ◌∷◌, ◌++◌, flat_map, Option, None, IsTrue}
+use Rattle.std.specs.Prelude.{◌≡◌, ◌⊎◌, ℕ, Bool, true, false, bytes_eq, List, [], ◌∷◌, ◌++◌, flat_map, Option, None, IsTrue}
 use Rattle.std.specs.List.{list_any, All}
 use Rattle.std.specs.Str.{is_utf8}
 use Rattle.compose_folder.specs.Content.{Entry, File, IsHeld}
 use Rattle.compose_input.specs.Search.{opened}
 use Rattle.compose_input.specs.Texts.{IsFound}
 use Rattle.compose_readers.specs.Files.{AreLinesOf, LineEnd, nothing, left_out, includes, FileRead}
-use Rattle.compose_readers.specs.Walks.{index_of}
 use Rattle.compose_readers.specs.Xkbcommon.{behind_mark, refusal_of}
 use Rattle.compose_readers.specs.declared.xkbcommon.Version.{Version}
 
@@ -33,7 +32,7 @@ includes_of file = flat_map (λ line. included line.end) file.lines
 
 -- one of them has this path
 abbrev pub is_among : List FileRead → List ℕ → Bool
-is_among files path = is_some (index_of files path)
+is_among files path = list_any (λ file. bytes_eq file.path path) files
 
 -- one of them includes this path
 abbrev pub is_included : List FileRead → List ℕ → Bool

@@ -138,10 +138,7 @@ fn add_path<F: Folder>(
 fn is_among(files: &[FileRead], path: &[u8]) -> bool
     ensures { result ≡ words.is_among files.now path.now }
 {
-    files
-        .iter()
-        .position(|file| file.path.as_slice() == path)
-        .is_some()
+    files.iter().any(|file| file.path.as_slice() == path)
 }
 
 /// Returns the bytes of the file at this path, if one can be read there.
