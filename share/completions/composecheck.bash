@@ -13,6 +13,7 @@ _composecheck() {
         --system|--root|--state) COMPREPLY=($(compgen -d -- "$word")); return ;;
         --overlap) COMPREPLY=($(compgen -W "longest refuse" -- "$word")); return ;;
         --sort) COMPREPLY=($(compgen -W "keys text file" -- "$word")); return ;;
+        --as) COMPREPLY=($(compgen -W "libxkbcommon libxkbcommon=1.5 libxkbcommon=1.7" -- "$word")); return ;;
         --format)
             COMPREPLY=($(compgen -W "text json" -- "$word"))
             if [ "${COMP_WORDS[1]}" = diff ]; then COMPREPLY=($(compgen -W "text json markdown html" -- "$word")); fi
@@ -29,7 +30,7 @@ _composecheck() {
         make) options="--files --names --fresh --all --output --overlap --system --locale --root --verbose --help" ;;
         diff) options="--verbose --names --fresh --overlap --accept --write-accept --no-fold --lost --format --color --skip-faulty --system --locale --root --help" ;;
         how) options="--names --from --repertoire --first --format --skip-faulty --strict --overlap --system --locale --root --help" ;;
-        list) options="--names --prefix --text --next --sort --format --skip-faulty --strict --overlap --system --locale --root --help" ;;
+        list) options="--names --prefix --text --next --sort --as --format --skip-faulty --strict --overlap --system --locale --root --help" ;;
         lint) options="--names --reader --all --accept --write-accept --format --skip-faulty --system --locale --root --verbose --help" ;;
         update) options="--fresh --repertoire --accept --back --dry-run --state --socket --timeout --system --locale --verbose --help" ;;
         status) options="--state --socket --help" ;;

@@ -401,6 +401,29 @@ static HOW: CommandRow = CommandRow {
     }],
 };
 
+/// `--as`: another reader of Compose files.
+const AS: OptionRow = OptionRow {
+    name: "as",
+    letter: None,
+    takes: Takes::MaybeOneOf {
+        name: "READER",
+        values: &["libxkbcommon", "libxkbcommon=1.5", "libxkbcommon=1.7"],
+        without: &[
+            "names",
+            "prefix",
+            "text",
+            "next",
+            "sort",
+            "format",
+            "skip-faulty",
+            "strict",
+            "overlap",
+            "root",
+        ],
+    },
+    help: "Print the definitions that READER takes, in its order, and report each that it doesn't; without a version the newest",
+};
+
 /// The command that lists the sequences of a Compose file.
 static LIST: CommandRow = CommandRow {
     name: "list",
@@ -436,6 +459,7 @@ static LIST: CommandRow = CommandRow {
             },
             help: "The order: by the keysyms of the keys, by text, or by file and line",
         },
+        AS,
         LIST_FORMAT,
         SKIP_FAULTY_BY_DEFAULT,
         STRICT,

@@ -36,7 +36,7 @@ pub use diff_arguments::{DiffArguments, DiffColor, DiffForm};
 pub use given_tables::{BothTables, FilePair, TablePaths, TypeTable};
 pub use how_arguments::HowArguments;
 pub use lint_arguments::LintArguments;
-pub use list_arguments::{ListArguments, ListSort};
+pub use list_arguments::{ListArguments, ListAsArguments, ListSort, TableReader};
 pub use manifest_arguments::ManifestArguments;
 pub use question::Question;
 pub use request::{CommandLine, CommandRequest, read_command_line};

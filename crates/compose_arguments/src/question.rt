@@ -3,7 +3,9 @@ use crate::diff_arguments::{DiffArguments, diff_arguments};
 use crate::given_tables::{BothTables, TypeTable, both_tables, old_and_new, type_table};
 use crate::how_arguments::{HowArguments, how_arguments};
 use crate::lint_arguments::{LintArguments, lint_arguments};
-use crate::list_arguments::{ListArguments, list_arguments};
+use crate::list_arguments::{
+    ListArguments, ListAsArguments, list_arguments, list_as_arguments,
+};
 use crate::manifest_arguments::{ManifestArguments, manifest_arguments};
 use crate::name_lists::{argument_keys, fresh_names, given_fresh_names};
 use clap::ArgMatches;
@@ -59,6 +61,8 @@ pub enum Question<'a> {
     },
     /// `list`: the sequences of a Compose file.
     List(ListArguments<'a>),
+    /// `list --as`: a Compose file as another reader has it.
+    ListAs(ListAsArguments<'a>),
     /// `lint`: mistakes in Compose files.
     Lint(LintArguments<'a>),
     /// `make`: a certificate that shows that a new table follows an old one.
@@ -90,7 +94,7 @@ pub(crate) fn question_of<'a>(
         "explain" => explain_question(alloc, given),
         "diff" => diff_question(alloc, given),
         "how" => how_question(alloc, given),
-        "list" => Ok(Some(Question::List(list_arguments(alloc, given)?))),
+        "list" => Ok(Some(list_question(alloc, given)?)),
         "lint" => Ok(Some(Question::Lint(lint_arguments(alloc, given)?))),
         "make" => make_question(alloc, given),
         "manifest" => Ok(Some(Question::Manifest(manifest_arguments(given)))),
@@ -180,6 +184,17 @@ fn how_question<'a>(
         arguments: how_arguments(given),
         texts: Vec::from_slice(alloc, texts)?,
     }))
+}
+
+/// Returns the question of `list`.
+fn list_question<'a>(
+    alloc: Global,
+    given: &ArgMatches<'a>,
+) -> Result<Question<'a>, AllocError> {
+    match list_as_arguments(given) {
+        Some(arguments) => Ok(Question::ListAs(arguments)),
+        None => Ok(Question::List(list_arguments(alloc, given)?)),
+    }
 }
 
 /// Returns the question of `make`.

@@ -8,9 +8,10 @@ use Rattle.compose_arguments.specs.declared.given_tables.BothTables.TheVariants.
 use Rattle.compose_arguments.specs.declared.given_tables.TypeTable.{TypeTable}
 use Rattle.compose_arguments.specs.declared.given_tables.TypeTable.TheVariants.{Manifest as OneManifest, File}
 use Rattle.compose_arguments.specs.declared.question.Question.{Question}
-use Rattle.compose_arguments.specs.declared.question.Question.TheVariants.{Keys, Check, Explain as ToExplain, Diff, How, List as ListTable, Lint, Make, Manifest}
+use Rattle.compose_arguments.specs.declared.question.Question.TheVariants.{Keys, Check, Explain as ToExplain, Diff, How, List as ListTable, ListAs, Lint, Make, Manifest}
 use Rattle.compose_folder.specs.Content.{Entry}
 use Rattle.compose_input.specs.declared.fault.Fault.{Fault}
+use Rattle.compose_listed_as.specs.Run.{FailsListAs, IsListAsRun}
 use Rattle.compose_report.specs.declared.outcome.Outcome.{Outcome}
 use Rattle.compose_runs.specs.Checking.{IsCheckRun, IsCheckFilesRun}
 use Rattle.compose_runs.specs.Differing.{IsDiffRun}
@@ -92,6 +93,7 @@ Answers folder environment options (ToExplain old new fresh all) outcome = Answe
 Answers folder environment options (Diff arguments fresh) outcome = IsDiffRun folder environment (names_of options) arguments (words fresh.items) outcome
 Answers folder environment options (How arguments texts) outcome = IsHowRun folder environment (names_of options) arguments (words texts.items) outcome
 Answers folder environment options (ListTable arguments) outcome = IsListRun folder environment (names_of options) arguments outcome
+Answers folder environment options (ListAs arguments) outcome = IsListAsRun folder environment arguments outcome
 Answers folder environment options (Lint arguments) outcome = IsLintRun folder environment (names_of options) arguments outcome
 Answers folder environment options (Make tables fresh all repertoire output) outcome =
     (making : MakeOptions) × (words making.fresh.now ≡ words fresh.items) × (making.all ≡ all) × (making.repertoire ≡ repertoire) × (making.output ≡ output)
@@ -107,6 +109,7 @@ Fails folder environment options (ToExplain old new fresh all) fault = FailsToEx
 Fails folder environment options (Diff arguments fresh) fault = FailsDiffRun folder environment (names_of options) arguments fault
 Fails folder environment options (How arguments texts) fault = FailsHow folder environment (names_of options) arguments fault
 Fails folder environment options (ListTable arguments) fault = FailsTableRead folder environment (names_of options) arguments.table fault
+Fails folder environment options (ListAs arguments) fault = FailsListAs folder environment arguments fault
 Fails folder environment options (Lint arguments) fault = FailsLintRun folder environment (names_of options) arguments fault
 Fails folder environment options (Make tables fresh all repertoire output) fault = FailsToMake folder environment options tables repertoire.now fault
 Fails folder environment options (Manifest arguments) fault = FailsManifestRun folder environment arguments fault

@@ -70,6 +70,7 @@ fn is_json_answer(question: &Question<'_>) -> bool
         Question::Keys { .. }
         | Question::Check { .. }
         | Question::Explain { .. }
+        | Question::ListAs(_)
         | Question::Make { .. }
         | Question::Manifest(_) => false,
     }
@@ -121,6 +122,7 @@ fn is_answer_on_files(question: &Question<'_>) -> bool
         Question::Diff { .. }
         | Question::How { .. }
         | Question::List(_)
+        | Question::ListAs(_)
         | Question::Lint(_)
         | Question::Manifest(_) => true,
     }

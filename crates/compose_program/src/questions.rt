@@ -10,6 +10,7 @@ use compose_explaining::{Explain, run_explain};
 use compose_folder::{Folder, ReadOnce};
 use compose_given::Environment;
 use compose_input::Fault;
+use compose_listed_as::run_list_as;
 use compose_report::Outcome;
 use compose_runs::{
     CheckPaths, CheckTexts, MakeOptions, Options, run_check, run_check_files, run_diff, run_how,
@@ -68,6 +69,7 @@ pub(crate) fn answer<T: BuildTable, F: Folder>(
         Question::List(arguments) => {
             run_list::<T, F>(alloc, files, environment, options.names, arguments)
         }
+        Question::ListAs(arguments) => run_list_as(alloc, files, environment, arguments),
         Question::Lint(arguments) => {
             run_lint(alloc, files, environment, options.names, arguments)
         }
