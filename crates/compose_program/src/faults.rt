@@ -78,6 +78,7 @@ fn is_json_answer(question: &Question<'_>) -> bool
         Question::Keys { .. }
         | Question::Check { .. }
         | Question::Explain { .. }
+        | Question::Merge { .. }
         | Question::Make { .. }
         | Question::Manifest(_) => false,
     }
@@ -127,6 +128,7 @@ fn is_answer_on_files(question: &Question<'_>) -> bool
         Question::Explain { tables, .. } => are_files(tables),
         Question::Make { tables, .. } => are_files(tables),
         Question::Diff { .. }
+        | Question::Merge { .. }
         | Question::How { .. }
         | Question::List(_)
         | Question::Lint(_)

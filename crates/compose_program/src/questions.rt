@@ -7,6 +7,7 @@ ghost use Rattle.compose_runs.specs.Checking.{allowed_names};
 use compose_arguments::{BothTables, Question, TypeTable};
 use compose_folder::{Folder, ReadOnce};
 use compose_input::Fault;
+use compose_merging::run_merge;
 use compose_report::Outcome;
 use compose_runs::{
     CheckPaths, CheckTexts, Environment, MakeOptions, Options, run_check, run_check_files,
@@ -53,6 +54,9 @@ pub(crate) fn answer<T: BuildTable, F: Folder>(
         }
         Question::Diff { arguments, fresh } => {
             run_diff::<T, F>(alloc, files, environment, options.names, arguments, fresh)
+        }
+        Question::Merge { arguments, fresh } => {
+            run_merge::<T, F>(alloc, files, environment, options.names, arguments, fresh)
         }
         Question::How { arguments, texts } => {
             run_how::<T, F>(alloc, files, environment, options.names, arguments, texts)
