@@ -5,16 +5,16 @@ ghost use Rattle.compose_diff_rows.specs.Answers.{AnswersDiff};
 ghost use Rattle.compose_report.specs.Outcomes.{PrintsOutput};
 ghost use Rattle.compose_runs.specs.Faults.{FailsAccepted};
 ghost use Rattle.compose_runs.specs.Updating.{FailsStored, IsDecisionDone, IsIntendedList, IsIntendedRun, IsRefusedAs, IsRefusedOrListed, IsRefusedOrIntended, IsRepertoire, IsStoredIfIntended, IsUpdateDone, IsUpdateOf, IsUpdateRefusal, IsUpdateRun, intended_input, update_given};
-ghost use Rattle.compose_update.specs.Update.{Updates, given_update};
+ghost use Rattle.compose_update.specs.Update.{Updates};
 
 use crate::differing::accept_outcome;
-use crate::environment::{Environment, PlaceArguments};
 use crate::stored::read_stored;
 use compose_answer::{Answer, Ended, Refusal};
 use compose_arguments::UpdateArguments;
 use compose_details::{Given, GivenTable};
 use compose_diff_rows::{DiffFault, DiffInput, Form, diff_migration};
 use compose_folder::{Folder, ReadOnce};
+use compose_given::{Environment, PlaceArguments};
 use compose_input::{Fault, NameFiles, TableFiles, read_text};
 use compose_migration::{MigrationInput, TableInput};
 use compose_model::Rule;
