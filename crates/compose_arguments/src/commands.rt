@@ -10,6 +10,8 @@ pub enum CommandName {
     Check,
     /// `diff`: reports what a new table changes.
     Diff,
+    /// `merge`: merges two tables.
+    Merge,
     /// `how`: prints how texts are typed.
     How,
     /// `list`: lists the sequences of a Compose file.
@@ -35,8 +37,9 @@ pub enum CommandName {
 }
 
 /// All commands, in the order of the program's help.
-pub const COMMANDS: [CommandName; 14] = [
+pub const COMMANDS: [CommandName; 15] = [
     CommandName::Diff,
+    CommandName::Merge,
     CommandName::How,
     CommandName::List,
     CommandName::Lint,
@@ -58,6 +61,7 @@ pub fn row_of(command: CommandName) -> &'static CommandRow {
         CommandName::Type => &TYPE,
         CommandName::Check => &CHECK,
         CommandName::Diff => &DIFF,
+        CommandName::Merge => &MERGE,
         CommandName::How => &HOW,
         CommandName::List => &LIST,
         CommandName::Explain => &EXPLAIN,
@@ -315,6 +319,36 @@ static DIFF: CommandRow = CommandRow {
             },
             help: "Colour the lines: on a terminal unless NO_COLOR is set (auto), always, or never",
         },
+        SKIP_FAULTY,
+        SYSTEM,
+        LOCALE,
+        ROOTS,
+    ],
+    options_of_files: &[],
+    arguments: &[
+        ArgumentRow {
+            name: "OLD",
+            given: GivenArguments::Text,
+            help: "The old Compose file",
+        },
+        ArgumentRow {
+            name: "NEW",
+            given: GivenArguments::Text,
+            help: "The new Compose file",
+        },
+    ],
+};
+
+/// The command that merges two tables.
+static MERGE: CommandRow = CommandRow {
+    name: "merge",
+    about: "Print a Compose file with all of an old one, and of a new one what changes nothing for people who type",
+    after_help: "What is left out of NEW is printed to standard error, with the reason.\nNames are those of keysymdef.h, unless --names gives others.\nExit status: 0 printed, 2 input refused, 3 out of memory\nExample: composecheck merge ~/.XCompose /usr/share/X11/locale/en_US.UTF-8/Compose > merged",
+    options: &[
+        VERBOSE,
+        NAMES,
+        FRESH,
+        OVERLAP,
         SKIP_FAULTY,
         SYSTEM,
         LOCALE,

@@ -7,6 +7,7 @@ use crate::list_arguments::{
     ListArguments, ListAsArguments, list_arguments, list_as_arguments,
 };
 use crate::manifest_arguments::{ManifestArguments, manifest_arguments};
+use crate::merge_arguments::{MergeArguments, merge_arguments};
 use crate::name_lists::{argument_keys, fresh_names, given_fresh_names};
 use clap::ArgMatches;
 use std::alloc::{AllocError, Global};
@@ -52,6 +53,13 @@ pub enum Question<'a> {
         /// The keys in `--fresh`.
         fresh: Vec<&'a str>,
     },
+    /// `merge`: an old Compose file with what a new one adds to it.
+    Merge {
+        /// The other arguments.
+        arguments: MergeArguments<'a>,
+        /// The keys in `--fresh`.
+        fresh: Vec<&'a str>,
+    },
     /// `how`: how texts are typed.
     How {
         /// The other arguments.
@@ -93,6 +101,7 @@ pub(crate) fn question_of<'a>(
         "check" => check_question(alloc, given),
         "explain" => explain_question(alloc, given),
         "diff" => diff_question(alloc, given),
+        "merge" => merge_question(alloc, given),
         "how" => how_question(alloc, given),
         "list" => Ok(Some(list_question(alloc, given)?)),
         "lint" => Ok(Some(Question::Lint(lint_arguments(alloc, given)?))),
@@ -167,6 +176,20 @@ fn diff_question<'a>(
         return Ok(None);
     };
     Ok(Some(Question::Diff {
+        arguments,
+        fresh: fresh_names(alloc, given, true)?,
+    }))
+}
+
+/// Returns the question of `merge`.
+fn merge_question<'a>(
+    alloc: Global,
+    given: &ArgMatches<'a>,
+) -> Result<Option<Question<'a>>, AllocError> {
+    let Some(arguments) = merge_arguments(given) else {
+        return Ok(None);
+    };
+    Ok(Some(Question::Merge {
         arguments,
         fresh: fresh_names(alloc, given, true)?,
     }))

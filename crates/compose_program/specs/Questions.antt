@@ -8,11 +8,12 @@ use Rattle.compose_arguments.specs.declared.given_tables.BothTables.TheVariants.
 use Rattle.compose_arguments.specs.declared.given_tables.TypeTable.{TypeTable}
 use Rattle.compose_arguments.specs.declared.given_tables.TypeTable.TheVariants.{Manifest as OneManifest, File}
 use Rattle.compose_arguments.specs.declared.question.Question.{Question}
-use Rattle.compose_arguments.specs.declared.question.Question.TheVariants.{Keys, Check, Explain as ToExplain, Diff, How, List as ListTable, ListAs, Lint, Make, Manifest}
+use Rattle.compose_arguments.specs.declared.question.Question.TheVariants.{Keys, Check, Explain as ToExplain, Diff, Merge, How, List as ListTable, ListAs, Lint, Make, Manifest}
 use Rattle.compose_folder.specs.Content.{Entry}
 use Rattle.compose_input.specs.declared.fault.Fault.{Fault}
 use Rattle.compose_listed_as.specs.Run.{FailsListAs, IsListAsRun}
 use Rattle.compose_report.specs.declared.outcome.Outcome.{Outcome}
+use Rattle.compose_merging.specs.Runs.{IsMergeRun, FailsMerge}
 use Rattle.compose_runs.specs.Checking.{IsCheckRun, IsCheckFilesRun}
 use Rattle.compose_runs.specs.Differing.{IsDiffRun}
 use Rattle.compose_explaining.specs.Explains.{FailsExplain, IsExplainRun}
@@ -91,6 +92,7 @@ Answers folder environment options (Check tables fresh repertoire certificate) o
     AnswersCheck folder environment options tables (record { repertoire = repertoire; certificate = certificate }) (option_map (λ names. words names.items) fresh) outcome
 Answers folder environment options (ToExplain old new fresh all) outcome = AnswersExplain folder environment options old new (words fresh.items) all outcome
 Answers folder environment options (Diff arguments fresh) outcome = IsDiffRun folder environment (names_of options) arguments (words fresh.items) outcome
+Answers folder environment options (Merge arguments fresh) outcome = IsMergeRun folder environment (names_of options) arguments (words fresh.items) outcome
 Answers folder environment options (How arguments texts) outcome = IsHowRun folder environment (names_of options) arguments (words texts.items) outcome
 Answers folder environment options (ListTable arguments) outcome = IsListRun folder environment (names_of options) arguments outcome
 Answers folder environment options (ListAs arguments) outcome = IsListAsRun folder environment arguments outcome
@@ -107,6 +109,7 @@ Fails folder environment options (Check tables fresh repertoire certificate) fau
     FailsToCheck folder environment options tables (record { repertoire = repertoire; certificate = certificate }) fault
 Fails folder environment options (ToExplain old new fresh all) fault = FailsToExplain folder environment options old new (words fresh.items) all fault
 Fails folder environment options (Diff arguments fresh) fault = FailsDiffRun folder environment (names_of options) arguments fault
+Fails folder environment options (Merge arguments fresh) fault = FailsMerge folder environment (names_of options) arguments fault
 Fails folder environment options (How arguments texts) fault = FailsHow folder environment (names_of options) arguments fault
 Fails folder environment options (ListTable arguments) fault = FailsTableRead folder environment (names_of options) arguments.table fault
 Fails folder environment options (ListAs arguments) fault = FailsListAs folder environment arguments fault

@@ -71,6 +71,7 @@ fn is_json_answer(question: &Question<'_>) -> bool
         | Question::Check { .. }
         | Question::Explain { .. }
         | Question::ListAs(_)
+        | Question::Merge { .. }
         | Question::Make { .. }
         | Question::Manifest(_) => false,
     }
@@ -120,6 +121,7 @@ fn is_answer_on_files(question: &Question<'_>) -> bool
         Question::Explain { old, .. } => is_file(old),
         Question::Make { tables, .. } => are_files(tables),
         Question::Diff { .. }
+        | Question::Merge { .. }
         | Question::How { .. }
         | Question::List(_)
         | Question::ListAs(_)

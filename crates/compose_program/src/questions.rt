@@ -11,6 +11,7 @@ use compose_folder::{Folder, ReadOnce};
 use compose_given::Environment;
 use compose_input::Fault;
 use compose_listed_as::run_list_as;
+use compose_merging::run_merge;
 use compose_report::Outcome;
 use compose_runs::{
     CheckPaths, CheckTexts, MakeOptions, Options, run_check, run_check_files, run_diff, run_how,
@@ -62,6 +63,9 @@ pub(crate) fn answer<T: BuildTable, F: Folder>(
         }
         Question::Diff { arguments, fresh } => {
             run_diff::<T, F>(alloc, files, environment, options.names, arguments, fresh)
+        }
+        Question::Merge { arguments, fresh } => {
+            run_merge::<T, F>(alloc, files, environment, options.names, arguments, fresh)
         }
         Question::How { arguments, texts } => {
             run_how::<T, F>(alloc, files, environment, options.names, arguments, texts)

@@ -1,0 +1,5 @@
+pub mod Treatments
+pub mod Printed
+pub mod Faults
+pub mod Merges
+pub mod Steps

@@ -1,0 +1,111 @@
+//! Keys that could be fresh: first keys of new starts that no sequence of the old table has.
+ghost use Rattle.std.specs.Prelude.{◌≡◌, ◌<◌, ◌++◌, [], IfOk, IsTrue, length};
+ghost use Rattle.compose_model.specs.Certificate.{keys_rise};
+
+use crate::treatment::{Cause, Treatment};
+use compose_fresh::{check_fresh, is_among};
+use compose_read::Sequences;
+use compose_tree::ComposeTable;
+use keysym_core::{Keysym, NameFault, Names};
+use std::alloc::{AllocError, Global};
+
+/// Keys that could be fresh, and what they would take.
+#[derive(Drop)]
+pub(crate) struct FreshKeys {
+    /// The keys, in rising order, each once.
+    pub(crate) keys: Vec<Keysym>,
+    /// The number of new starts that are taken if these keys are fresh.
+    pub(crate) starts: usize,
+}
+
+/// Returns the first keys of the new starts that could be fresh. O(first keys × edges of the old
+/// table).
+pub(crate) fn fresh_keys<T: ComposeTable>(
+    alloc: Global,
+    old: &T,
+    new: &Sequences,
+    treatments: &[Treatment],
+) -> Result<FreshKeys, AllocError> {
+    let firsts = first_keys(alloc, new, treatments)?;
+    let mut keys = Vec::new(alloc);
+    for index in 0..firsts.len() {
+        let key = firsts[index];
+        if is_new(&firsts, index) && check_fresh(old, &[key]).is_none() {
+            keys.push(key)?;
+        }
+    }
+    let starts = count_among(&firsts, &keys);
+    Ok(FreshKeys { keys, starts })
+}
+
+/// Returns the first key of each new start, in their order, which is rising.
+fn first_keys(
+    alloc: Global,
+    new: &Sequences,
+    treatments: &[Treatment],
+) -> Result<Vec<Keysym>, AllocError> {
+    let mut keys = Vec::new(alloc);
+    for (index, treatment) in treatments.iter().enumerate() {
+        if let Treatment::LeftOut(Cause::NewStart) = treatment
+            && let Some(key) = first_key(new, index)
+        {
+            keys.push(key)?;
+        }
+    }
+    Ok(keys)
+}
+
+/// Returns the first key of the sequence at this index, if there is one.
+fn first_key(new: &Sequences, index: usize) -> Option<Keysym> {
+    if index >= new.len() {
+        return None;
+    }
+    new.sequence(index).first().copied()
+}
+
+/// Whether the key at this index is another one than the key before it.
+fn is_new(keys: &[Keysym], index: usize) -> bool
+    requires { index < length keys.now }
+{
+    index == 0 || keys[index - 1] != keys[index]
+}
+
+/// Returns how many of the keys are among the others.
+fn count_among(keys: &[Keysym], others: &[Keysym]) -> usize {
+    let mut count = 0;
+    for key in keys {
+        if others.contains(key) {
+            count += 1;
+        }
+    }
+    count
+}
+
+/// Returns the names of the keys, joined by commas.
+pub(crate) fn joined_names(
+    alloc: Global,
+    names: &Names,
+    keys: &[Keysym],
+) -> Result<String, AllocError> {
+    let mut joined = String::new(alloc);
+    for (index, key) in keys.iter().enumerate() {
+        if index > 0 {
+            joined.push_str(",")?;
+        }
+        push_name(alloc, &mut joined, names, *key)?;
+    }
+    Ok(joined)
+}
+
+/// Appends the name of the key.
+fn push_name(
+    alloc: Global,
+    text: &mut String,
+    names: &Names,
+    key: Keysym,
+) -> Result<(), AllocError> {
+    match names.print(alloc, key) {
+        Ok(name) => text.push_str(&name),
+        Err(_) => Err(AllocError),
+    }
+}
