@@ -23,7 +23,7 @@ use Rattle.compose_runs.specs.Making.{IsMakeRun, IsMakeFilesRun}
 use Rattle.compose_runs.specs.Manifest.{IsManifestRun}
 use Rattle.compose_runs.specs.Typing.{IsTypeRun, IsTypeFileRun}
 use Rattle.compose_runs.specs.declared.checking.CheckTexts.{CheckTexts}
-use Rattle.compose_runs.specs.declared.environment.Environment.{Environment}
+use Rattle.compose_given.specs.declared.environment.Environment.{Environment}
 use Rattle.compose_runs.specs.declared.making.MakeOptions.{MakeOptions}
 use Rattle.compose_runs.specs.declared.options.Options.{Options}
 

@@ -4,7 +4,7 @@ use Rattle.compose_arguments.specs.declared.question.Question.{Question}
 use Rattle.compose_folder.specs.Content.{Entry}
 use Rattle.compose_input.specs.declared.fault.Fault.{Fault}
 use Rattle.compose_report.specs.declared.outcome.Outcome.{Outcome}
-use Rattle.compose_runs.specs.declared.environment.Environment.{Environment}
+use Rattle.compose_given.specs.declared.environment.Environment.{Environment}
 use Rattle.compose_runs.specs.declared.options.Options.{Options}
 use Rattle.compose_program.specs.Faults.{IsFaultInForm}
 use Rattle.compose_program.specs.Questions.{Answers, Fails}

@@ -6,8 +6,9 @@ use crate::faults::{FaultForm, fault_in_form};
 use crate::questions::answer;
 use compose_arguments::Question;
 use compose_folder::{Folder, ReadOnce};
+use compose_given::Environment;
 use compose_report::Outcome;
-use compose_runs::{Environment, Options};
+use compose_runs::Options;
 use compose_tree::BuildTable;
 use std::alloc::{AllocError, Global};
 

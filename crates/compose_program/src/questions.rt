@@ -6,12 +6,13 @@ ghost use Rattle.compose_runs.specs.Checking.{allowed_names};
 
 use compose_arguments::{BothTables, Question, TypeTable};
 use compose_folder::{Folder, ReadOnce};
+use compose_given::Environment;
 use compose_input::Fault;
 use compose_report::Outcome;
 use compose_runs::{
-    CheckPaths, CheckTexts, Environment, MakeOptions, Options, run_check, run_check_files,
-    run_diff, run_explain, run_explain_files, run_how, run_lint, run_list, run_make,
-    run_make_files, run_manifest, run_type, run_type_file,
+    CheckPaths, CheckTexts, MakeOptions, Options, run_check, run_check_files, run_diff,
+    run_explain, run_explain_files, run_how, run_lint, run_list, run_make, run_make_files,
+    run_manifest, run_type, run_type_file,
 };
 use compose_tree::BuildTable;
 use std::alloc::Global;

@@ -1,6 +1,3 @@
-pub mod Variables
-pub mod Environment
-pub mod Own
 pub mod Files
 pub mod Typing
 pub mod Explaining
@@ -12,7 +9,6 @@ pub mod DiffFiles
 pub mod Differing
 pub mod Faults
 pub mod OneTable
-pub mod GivenTable
 pub mod Reports
 pub mod WrittenKeys
 pub mod Listing

@@ -29,12 +29,12 @@ use Rattle.compose_update.specs.declared.deciding.Update.{Update}
 use Rattle.compose_update.specs.declared.deciding.Update.TheVariants as updates
 use Rattle.compose_update.specs.declared.deciding.UpdateFault.{UpdateFault}
 use Rattle.compose_update.specs.declared.deciding.UpdateFault.TheVariants.{Input, TooLarge}
-use Rattle.compose_runs.specs.DiffFiles.{names_or_builtin}
+use Rattle.compose_given.specs.Names.{names_or_builtin}
 use Rattle.compose_runs.specs.Differing.{IsAcceptRefusal}
-use Rattle.compose_runs.specs.Environment.{IsPlaced}
+use Rattle.compose_given.specs.Environment.{IsPlaced}
 use Rattle.compose_runs.specs.Stored.{IsDamaged}
-use Rattle.compose_runs.specs.declared.environment.Environment.{Environment}
-use Rattle.compose_runs.specs.declared.environment.PlaceArguments.{PlaceArguments}
+use Rattle.compose_given.specs.declared.environment.Environment.{Environment}
+use Rattle.compose_given.specs.declared.environment.PlaceArguments.{PlaceArguments}
 use Rattle.compose_runs.specs.declared.updating.IntendedChanges.{IntendedChanges}
 use Rattle.compose_runs.specs.declared.updating.UpdateFiles.{UpdateFiles}
 use Rattle.compose_runs.specs.declared.updating.UpdateRun.{UpdateRun}

@@ -1,6 +1,6 @@
 use Rattle.std.proofs.Common.{refl, inl, map}
 use Rattle.compose_input.specs.declared.fault.Fault.TheVariants.{NoMemory}
-use Rattle.compose_runs.proofs.Failing.{handed}
+use Rattle.compose_given.proofs.Failing.{handed}
 use Rattle.compose_runs.specs.Faults.{FailsPair}
 use Rattle.compose_runs.proofs.explaining.run_explain_files.Goals as goal
 

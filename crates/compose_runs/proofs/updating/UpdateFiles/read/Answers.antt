@@ -4,7 +4,7 @@ use Rattle.compose_folder.specs.Content.{Entry}
 use Rattle.compose_model.specs.declared.Rule.TheVariants.{Longest}
 use Rattle.compose_input.specs.Faults.{FailsFound}
 use Rattle.compose_input.specs.Tables.{IsFoundOnSystem}
-use Rattle.compose_runs.proofs.Failing.{fails}
+use Rattle.compose_given.proofs.Failing.{fails}
 use Rattle.compose_runs.specs.Faults.{FailsAccepted, FailsUpdateRead, HasOption}
 use Rattle.compose_runs.specs.Updating.{IsRepertoire}
 use Rattle.compose_runs.proofs.updating.UpdateFiles.read.Goals as goal
