@@ -30,7 +30,7 @@ use Rattle.compose_runs.specs.Linting.{AreReadTables, asked_files, lint_places}
 use Rattle.compose_runs.specs.Manifest as manifest
 use Rattle.compose_runs.specs.OneTable.{IsTableRead}
 use Rattle.compose_given.specs.Noted.{table_places}
-use Rattle.compose_runs.specs.Updating.{builtin, update_places}
+use Rattle.compose_runs.specs.Updating.{update_places}
 use Rattle.compose_runs.specs.declared.checking.CheckPaths.{CheckPaths}
 use Rattle.compose_runs.specs.declared.checking.CheckTexts.{CheckTexts}
 use Rattle.compose_given.specs.declared.environment.Environment.{Environment}
@@ -164,11 +164,11 @@ HasOption folder (Some path) = HasFile folder path
 
 -- for `update`: the environment, the names, the table, and the repertoire and the list of intended
 -- changes, if they are given
-abbrev pub FailsUpdateRead : Option (List Entry) → Environment → UpdateArguments → Fault → Type 0
-FailsUpdateRead folder environment arguments fault =
+abbrev pub FailsUpdateRead : Option (List Entry) → Environment → List (List ℕ) → UpdateArguments → Fault → Type 0
+FailsUpdateRead folder environment names arguments fault =
     OrMemory (FailsPlaced environment (update_places arguments)
-    (λ places f. FailNames folder builtin f
-    ⊎ (HasNames folder builtin
+    (λ places f. FailNames folder (names_or_builtin names) f
+    ⊎ (HasNames folder (names_or_builtin names)
     × (FailsFound folder places arguments.file.now f
     ⊎ (((table : TableFiles) × IsFoundOnSystem folder places arguments.file.now Longest table)
     × (FailsAccepted folder (option_copied arguments.repertoire) f

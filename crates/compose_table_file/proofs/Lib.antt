@@ -1,1 +1,2 @@
+pub mod Keysyms
 pub mod Kept

@@ -1,2 +1,3 @@
 pub mod TableFile
 pub mod Reading
+pub mod Fresh
