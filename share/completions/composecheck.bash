@@ -3,7 +3,7 @@ _composecheck() {
     local word=${COMP_WORDS[COMP_CWORD]} before=${COMP_WORDS[COMP_CWORD-1]} options=
     COMPREPLY=()
     if [ "$COMP_CWORD" -eq 1 ]; then
-        COMPREPLY=($(compgen -W "type check explain make diff how list lint manifest update status serve load session --help --version" -- "$word"))
+        COMPREPLY=($(compgen -W "type check explain make diff merge how list lint manifest update status serve load session --help --version" -- "$word"))
         return
     fi
     case $before in
@@ -29,6 +29,7 @@ _composecheck() {
         explain) options="--files --names --fresh --all --overlap --system --locale --root --verbose --help" ;;
         make) options="--files --names --fresh --all --output --overlap --system --locale --root --verbose --help" ;;
         diff) options="--verbose --names --fresh --overlap --accept --write-accept --no-fold --lost --format --color --skip-faulty --system --locale --root --help" ;;
+        merge) options="--verbose --names --fresh --overlap --skip-faulty --system --locale --root --help" ;;
         how) options="--names --from --repertoire --first --format --skip-faulty --strict --overlap --system --locale --root --help" ;;
         list) options="--names --prefix --text --next --sort --as --format --skip-faulty --strict --overlap --system --locale --root --help" ;;
         lint) options="--names --reader --all --accept --write-accept --format --skip-faulty --system --locale --root --verbose --help" ;;

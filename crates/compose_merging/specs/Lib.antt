@@ -3,3 +3,4 @@ pub mod Printed
 pub mod Faults
 pub mod Merges
 pub mod Steps
+pub mod Runs

@@ -72,13 +72,7 @@ fn is_new(keys: &[Keysym], index: usize) -> bool
 
 /// Returns how many of the keys are among the others.
 fn count_among(keys: &[Keysym], others: &[Keysym]) -> usize {
-    let mut count = 0;
-    for key in keys {
-        if others.contains(key) {
-            count += 1;
-        }
-    }
-    count
+    keys.iter().filter(|key| others.contains(key)).count()
 }
 
 /// Returns the names of the keys, joined by commas.

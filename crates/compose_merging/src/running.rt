@@ -1,14 +1,23 @@
 //! `merge`, from the folder to the outcome.
+ghost use Rattle.std.specs.Prelude.{◌≡◌, ◌++◌, ◌∷◌, [], map, IfOk, IfErr, string_bytes};
+ghost use Rattle.compose_migration.specs.Values.{given_of};
+ghost use Rattle.compose_merging.specs.Merges.{AnswersMerge};
+ghost use Rattle.compose_merging.specs.Runs as words;
+ghost use Rattle.compose_merging.specs.Runs.{AreBoth, FailsMerge, IsKeptMerge, IsMergeOf, IsMergeOutcome, IsMergeRun, IsMergingPrinted, IsRefusalPrinted, IsSkippedMerge, Wants};
+ghost use Rattle.compose_report.specs.Outcomes.{PrintsErrors};
+
 use crate::asking::{MergeInput, Merging, MergingFault};
 use crate::merging::merge_tables;
 use compose_answer::{Ended, Refusal};
 use compose_arguments::MergeArguments;
 use compose_details::{Given, GivenTable};
 use compose_folder::{Folder, ReadOnce};
+use compose_given::{
+    Environment, NotedTable, ReadParts, Wanted, WantedTable, joined, read_parts,
+};
 use compose_input::{Fault, NameFiles, TableFiles};
 use compose_migration::MigrationInput;
 use compose_report::{Outcome, worded_refusal};
-use compose_runs::{Environment, NotedTable, read_names_for, read_table};
 use compose_skipped::{SkippedReport, kept_table};
 use compose_tree::BuildTable;
 use std::alloc::{AllocError, Global};
@@ -26,33 +35,111 @@ pub fn run_merge<T: BuildTable, F: Folder>(
     names: &[&str],
     arguments: &MergeArguments<'_>,
     fresh: &[&str],
-) -> Result<Outcome, Fault> {
-    let names = read_names_for(files, alloc, true, names)?;
-    let old = read_table(alloc, files, environment, "old", &arguments.old)?;
-    let new = read_table(alloc, files, environment, "new", &arguments.new)?;
-    Ok(merge_kept::<T>(alloc, &names, old, new, arguments.skip_faulty, fresh)?)
+) -> Result<Outcome, Fault>
+    ensures kept { files.new.holds ≡ files.old.holds }
+    ensures outcome { IfOk result
+        (λ outcome. IsMergeRun files.old.holds environment.now (map (λ name. name.now) names.now)
+        arguments.now (map (λ name. name.now) fresh.now) outcome) }
+    ensures fault { IfErr result
+        (λ fault. FailsMerge files.old.holds environment.now (map (λ name. name.now) names.now)
+        arguments.now fault) }
+{
+    let tables = [
+        WantedTable {
+            part: "old",
+            table: arguments.old,
+        },
+        WantedTable {
+            part: "new",
+            table: arguments.new,
+        },
+    ];
+    let wanted = wanted_by(names, &tables);
+    let read = read_parts(alloc, files, environment, &wanted)?;
+    Ok(merge_read::<T>(alloc, read, arguments.skip_faulty, fresh)?)
 }
 
-/// Returns the outcome of `merge` on these tables; without their faulty lines, if these are
-/// skipped.
-fn merge_kept<T: BuildTable>(
+/// Returns what `merge` reads; these are its tables.
+fn wanted_by<'a>(names: &'a [&'a str], tables: &'a [WantedTable<'a>]) -> Wanted<'a>
+    ensures { Wants (map (λ name. name.now) names.now) tables.now result }
+{
+    Wanted {
+        names,
+        are_files: true,
+        tables,
+        texts: &[],
+    }
+}
+
+/// Returns the outcome of `merge` on the two tables that were read.
+fn merge_read<T: BuildTable>(
+    alloc: Global,
+    read: ReadParts<'_>,
+    skip_faulty: bool,
+    fresh: &[&str],
+) -> Result<Outcome, AllocError>
+    ensures { IfOk result
+        (λ outcome. (old new : NotedTable) → AreBoth read.entry old new
+        → IsKeptMerge skip_faulty read.entry.names old new (map (λ name. name.now) fresh.now)
+        outcome) }
+{
+    let ReadParts {
+        names, mut tables, ..
+    } = read;
+    let Some(new) = tables.pop() else {
+        return Err(AllocError);
+    };
+    let Some(old) = tables.pop() else {
+        return Err(AllocError);
+    };
+    if skip_faulty {
+        return merge_skipped::<T>(alloc, &names, old, new, fresh);
+    }
+    merge_noted::<T>(alloc, &names, &old, &new, fresh)
+}
+
+/// Returns the outcome of `merge` on these tables without their faulty lines, and the report of
+/// these lines after it.
+fn merge_skipped<T: BuildTable>(
     alloc: Global,
     names: &NameFiles<'_>,
     old: NotedTable,
     new: NotedTable,
-    skip_faulty: bool,
     fresh: &[&str],
-) -> Result<Outcome, AllocError> {
-    let notes = joined(alloc, &old.notes, &new.notes)?;
-    if !skip_faulty {
-        let outcome = merge_files::<T>(alloc, names, &old.table, &new.table, fresh)?;
-        return Ok(outcome.with_notes(notes));
-    }
+) -> Result<Outcome, AllocError>
+    ensures { IfOk result
+        (λ outcome. IsSkippedMerge names.now old new (map (λ name. name.now) fresh.now) outcome) }
+{
     let mut report = SkippedReport::new(alloc);
-    let old = kept_table(alloc, &names.lines, old.table, &mut report)?;
-    let new = kept_table(alloc, &names.lines, new.table, &mut report)?;
-    let mut outcome = merge_files::<T>(alloc, names, &old, &new, fresh)?;
+    let old_table = kept_table(alloc, &names.lines, old.table, &mut report)?;
+    let old = NotedTable {
+        table: old_table,
+        notes: old.notes,
+    };
+    let new_table = kept_table(alloc, &names.lines, new.table, &mut report)?;
+    let new = NotedTable {
+        table: new_table,
+        notes: new.notes,
+    };
+    let mut outcome = merge_noted::<T>(alloc, names, &old, &new, fresh)?;
     outcome.errors.push_str(&report.into_text()?)?;
+    Ok(outcome)
+}
+
+/// Returns the outcome of `merge` on these tables, with notes on where they lie.
+fn merge_noted<T: BuildTable>(
+    alloc: Global,
+    names: &NameFiles<'_>,
+    old: &NotedTable,
+    new: &NotedTable,
+    fresh: &[&str],
+) -> Result<Outcome, AllocError>
+    ensures { IfOk result
+        (λ outcome. IsMergeOutcome names.now old.now new.now (map (λ name. name.now) fresh.now)
+        outcome) }
+{
+    let notes = joined(alloc, &old.notes, &new.notes)?;
+    let outcome = merge_files::<T>(alloc, names, &old.table, &new.table, fresh)?;
     Ok(outcome.with_notes(notes))
 }
 
@@ -63,15 +150,19 @@ fn merge_files<T: BuildTable>(
     old: &TableFiles,
     new: &TableFiles,
     fresh: &[&str],
-) -> Result<Outcome, AllocError> {
+) -> Result<Outcome, AllocError>
+    ensures { IfOk result
+        (λ outcome. IsMergeOf names.now old.now new.now (map (λ name. name.now) fresh.now)
+        outcome) }
+{
     match merged_files::<T>(alloc, names, old, new, fresh) {
         Ok(merging) => Ok(merging_outcome(alloc, merging)),
         Err(MergingFault::Input(refusal)) => {
             refusal_outcome(alloc, names, old, new, fresh, refusal)
         }
-        Err(fault) => {
-            let line = format!(in alloc; "{fault}\n")?;
-            Ok(Outcome::of_errors(alloc, line, Ended::Refused))
+        Err(MergingFault::TooLarge) => refused(alloc, "the merged table is too large for a table"),
+        Err(MergingFault::NotReadBack) => {
+            refused(alloc, "what is printed of the merged table would not be read as this table")
         }
     }
 }
@@ -83,23 +174,41 @@ fn merged_files<T: BuildTable>(
     old: &TableFiles,
     new: &TableFiles,
     fresh: &[&str],
-) -> Result<Merging, MergingFault> {
+) -> Result<Merging, MergingFault>
+    ensures { AnswersMerge
+        (words.asked_of names.now old.now new.now (map (λ name. name.now) fresh.now)) result }
+{
     let (old_paths, new_paths) = (old.path_texts(alloc)?, new.path_texts(alloc)?);
     let input = MergeInput {
-        tables: MigrationInput {
-            header: &names.lines,
-            key_names: fresh,
-            old: old.input(),
-            new: new.input(),
-        },
+        tables: input_of(names, fresh, old, new),
         old_paths: &old_paths,
         new_paths: &new_paths,
     };
     merge_tables::<T>(alloc, &input)
 }
 
+/// Returns the input of a migration between these tables, with these names of fresh keysyms.
+fn input_of<'a, 'w>(
+    names: &'a NameFiles<'_>,
+    fresh: &'a [&'w str],
+    old: &'a TableFiles,
+    new: &'a TableFiles,
+) -> MigrationInput<'a, 'w>
+    ensures { given_of result
+        ≡ words.given_by names.now old.now new.now (map (λ name. name.now) fresh.now) }
+{
+    MigrationInput {
+        header: &names.lines,
+        key_names: fresh,
+        old: old.input(),
+        new: new.input(),
+    }
+}
+
 /// Returns the outcome of a merge.
-fn merging_outcome(alloc: Global, merging: Merging) -> Outcome {
+fn merging_outcome(alloc: Global, merging: Merging) -> Outcome
+    ensures { IsMergingPrinted merging result }
+{
     let Merging { table, report, .. } = merging;
     Outcome {
         notes: String::new(alloc),
@@ -110,7 +219,7 @@ fn merging_outcome(alloc: Global, merging: Merging) -> Outcome {
     }
 }
 
-/// Returns the outcome of a refusal of the tables, with each faulty line of the input.
+/// Returns the outcome of a refusal of the tables, with each faulty line of the input, for people.
 fn refusal_outcome(
     alloc: Global,
     names: &NameFiles<'_>,
@@ -118,15 +227,21 @@ fn refusal_outcome(
     new: &TableFiles,
     fresh: &[&str],
     refusal: Refusal,
-) -> Result<Outcome, AllocError> {
+) -> Result<Outcome, AllocError>
+    ensures { IfOk result
+        (λ outcome. IsRefusalPrinted names.now old.now new.now (map (λ name. name.now) fresh.now)
+        refusal outcome) }
+{
     let tables = [GivenTable::of(old), GivenTable::of(new)];
     let given = Given::of(names, fresh, &tables);
     worded_refusal(alloc, false, &given, refusal)
 }
 
-/// Returns a text followed by another one.
-fn joined(alloc: Global, first: &str, second: &str) -> Result<String, AllocError> {
-    let mut text = String::from_str(alloc, first)?;
-    text.push_str(second)?;
-    Ok(text)
+/// Returns the outcome of a merge that is refused for this reason.
+fn refused(alloc: Global, reason: &str) -> Result<Outcome, AllocError>
+    ensures { IfOk result
+        (λ outcome. PrintsErrors (words.refused_line reason.now) Ended.Refused outcome) }
+{
+    let line = format!(in alloc; "composecheck: {reason}\n")?;
+    Ok(Outcome::of_errors(alloc, line, Ended::Refused))
 }

@@ -139,28 +139,23 @@ pub(crate) fn is_taken(treatment: Treatment) -> bool
     matches!(treatment, Treatment::Taken)
 }
 
+/// Whether the sequence is left out.
+fn is_left_out(treatment: Treatment) -> bool
+    ensures { result ≡ words.is_left_out treatment }
+{
+    matches!(treatment, Treatment::LeftOut(_))
+}
+
 /// Returns the number of sequences that are taken.
 pub(crate) fn count_taken(treatments: &[Treatment]) -> usize
     ensures { result ≡ length (filter words.is_the_taken treatments.now) }
 {
-    let mut count = 0;
-    for treatment in treatments {
-        if is_taken(*treatment) {
-            count += 1;
-        }
-    }
-    count
+    treatments.iter().filter(|each| is_taken(**each)).count()
 }
 
 /// Returns the number of sequences that are left out.
 pub(crate) fn count_left_out(treatments: &[Treatment]) -> usize
     ensures { result ≡ length (filter words.is_left_out treatments.now) }
 {
-    let mut count = 0;
-    for treatment in treatments {
-        if let Treatment::LeftOut(_) = treatment {
-            count += 1;
-        }
-    }
-    count
+    treatments.iter().filter(|each| is_left_out(**each)).count()
 }
