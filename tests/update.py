@@ -56,7 +56,7 @@ def sources_in(data):
         name = data[at + 2 : at + 2 + size].decode()
         at += 2 + size
         size = struct.unpack(">I", data[at : at + 4])[0]
-        sources[name] = data[at + 4 : at + 4 + size].decode()
+        sources[name] = data[at + 4 : at + 4 + size].decode(errors="surrogateescape")
         at += 4 + size
     size = struct.unpack(">I", data[at : at + 4])[0]
     if len(data) != at + 4 + size:
@@ -114,12 +114,18 @@ class Room:
             return None
         try:
             (first, repertoire), *more = sources_in(data)[0].items()
-            rule = re.fullmatch(r"composecheck-table 1 (longest|refuse)", first)
+            rule = re.fullmatch(r"composecheck-table 2 (longest|refuse)", first)
             sources, certificate = sources_in(sources_in(data)[1])
         except (ValueError, struct.error):
             return "broken"
-        is_whole = rule and not more and certificate.startswith(b"compose-certificate")
+        is_whole = rule and [it[0] for it in more] == ["names", "fresh"] and certificate.startswith(b"compose-certificate")
         return (rule[1], repertoire, list(sources.values())) if is_whole else "broken"
+
+    def kept_names(self, name="table"):
+        """The lines of the names that are kept in a file of the folder, and the fresh keysyms."""
+        sources = sources_in(read(self.path("state", name)))[0]
+        fresh = sources["fresh"].encode(errors="surrogateescape")
+        return sources["names"], [it for (it,) in struct.iter_unpack(">I", fresh)]
 
     def kept(self, name="table"):
         """The texts of the table's files that are kept, or what `kept_in` says instead."""
@@ -429,22 +435,158 @@ def try_unreadable(program, tell):
         tell.expect("nothing is replaced: a table of mode 000", [it[1:] for it in room.all_bytes()], before)
 
 
+def part(name, content):
+    """A source of a bundle."""
+    return struct.pack(">H", len(name)) + name + struct.pack(">I", len(content)) + content
+
+
+def parts_file(payload, *sources):
+    """The file of a table: a bundle of these sources, with a payload in the place of the certificate."""
+    return struct.pack(">H", len(sources)) + b"".join(part(*it) for it in sources) + struct.pack(">I", len(payload)) + payload
+
+
 def try_older_form(program, tell):
-    """The file of an older version, which is a bundle alone, is read, and becomes one of the new form."""
+    """The files of older versions, which are a bundle alone or have no names, are read, and become ones of the new form."""
     with Room(program) as room:
         room.next_table()
         room.update("table")
         (bare,) = [sources_in(read(room.path("state", "table")))[1]]
-        for is_served in (False, True):
-            room.end()
+        first = parts_file(bare, (b"composecheck-table 1 longest", b"keys 0x20 0x7e\n"))
+        for older, repertoire in ((bare, ""), (first, "keys 0x20 0x7e\n")):
+            for is_served in (False, True):
+                room.end()
+                with open(room.path("state", "table"), "wb") as file:
+                    file.write(older)
+                room.count = 1
+                tell.expect("a service of the older form", room.start() if is_served else True, True)
+                room.write("table", table(1))
+                tell.expect("the same table in the older form", room.update("table"), (0, "unchanged\n", ""))
+                tell.expect("a table that follows one in the older form", room.grown(), True)
+                tell.expect("it has the new form, and the repertoire", (room.kept_in("table") or "none")[:2], ("longest", repertoire))
+                tell.expect("the built-in names, and no fresh keys", room.kept_names(), ("", []))
+
+
+def try_parts(program, tell):
+    """A file of a table that is cut off anywhere, or has a bad part, is refused by its name, and never replaced."""
+    with Room(program) as room:
+        room.update("old")
+        whole = read(room.path("state", "table"))
+        payload = sources_in(whole)[1]
+        mark, names, fresh = (b"composecheck-table 2 longest", b""), (b"names", b""), (b"fresh", b"")
+        cut = [(f"cut at {at}", whole[:at], "1 Form") for at in (1, 2, 40, len(whole) // 2, len(whole) - 1)]
+        parts = [
+            ("no fresh keys", (mark, names), "4 Parts"),
+            ("no names", (mark, fresh), "4 Parts"),
+            ("another order", (mark, fresh, names), "4 Parts"),
+            ("a part too many", (mark, names, fresh, (b"x", b"")), "4 Parts"),
+            ("part of a keysym", (mark, names, (b"fresh", b"\0\0\xfe")), "5 Fresh"),
+            ("a number that is no keysym", (mark, names, (b"fresh", b"\xff\0\0\0")), "5 Fresh"),
+        ]
+        for what, data, fault in (*cut, *((what, parts_file(payload, *sources), fault) for what, sources, fault in parts)):
             with open(room.path("state", "table"), "wb") as file:
-                file.write(bare)
-            room.count = 1
-            tell.expect("a service of the older form", room.start() if is_served else True, True)
-            room.write("table", table(1))
-            tell.expect("the same table in the older form", room.update("table"), (0, "unchanged\n", ""))
-            tell.expect("a table that follows one in the older form", room.grown(), True)
-            tell.expect("it has the new form", isinstance(room.kept_in("table"), tuple), True)
+                file.write(data)
+            before = room.all_bytes()
+            tell.expect(f"an update beside a file with {what}", room.update("follows"), (2, "", f"refused: state: {fault}\n"))
+            tell.expect(f"a service of a file with {what}", (room.start(), room.ended, room.complained()), (False, 2, f"refused: state: state/table: {fault}\n"))
+            tell.expect(f"status of a file with {what}", room.status(), (2, "", f"refused: state: state/table: {fault}\n"))
+            tell.expect(f"nothing is replaced: {what}", room.all_bytes(), before)
+        with open(room.path("state", "table"), "wb") as file:
+            file.write(parts_file(payload, mark, (b"names", b"#define XK_x y\n"), fresh))
+        said = "refused: state: state/table: names: 2 BadLine line=1\n"
+        tell.expect("names that are none", (room.start(), room.ended, room.complained()), (False, 2, said))
+
+
+# ---- names and fresh keys
+
+HAMZA = "#define XK_dead_schwa 0xfe8a\n#define XK_dead_hamza 0xfe8d\n"
+NAMED = OLD + '<dead_hamza> <a> : "أ"\n'
+
+
+def try_names(program, tell):
+    """The names with which a table was taken are kept: a start has them, and an update reads the next table by them."""
+    with Room(program) as room:
+        room.write("new.h", HAMZA)
+        room.write("named", NAMED)
+        room.write("named_more", NAMED + '<dead_hamza> <e> : "إ"\n')
+        room.write("named_follows", NAMED + '<Multi_key> <apostrophe> <a> : "ⓐ"\n')
+        hint = "composecheck: hint: `--names builtin --names FILE` adds the names of a header of your own\n"
+        status, out, err = room.update("named")
+        tell.expect("a name that is not built in", (status, out, err.startswith("composecheck: named:3:2: "), err.endswith(hint)), (2, "", True, True))
+        names = ("--names", "builtin", "--names", "new.h")
+        tell.expect("it is read by the names of a file", room.update("named", *names), (0, "stored\n", ""))
+        lines = room.kept_names()[0]
+        tell.expect("the names are kept", (lines.endswith(HAMZA), "XK_Multi_key" in lines), (True, True))
+        tell.expect("the same names", room.update("named", *names), (0, "unchanged\n", ""))
+        tell.expect("the kept names", room.update("named"), (0, "unchanged\n", ""))
+        tell.expect("a table that follows, by the kept names", (room.update("named_follows"), room.kept_names()[0]), ((0, "stored\n", ""), lines))
+        tell.expect("a table that doesn't follow", room.update("named_more", "--accept", "/dev/null")[0], 1)
+        count = sum(line.startswith("#define") for line in lines.splitlines())
+        tell.expect("status", [it for it in room.status()[1].splitlines() if it.startswith("names: ")], [f"names: {count}, of files"])
+        tell.expect("a service of the table", (room.start(), room.lines()), (True, ["listening", "table: 4 sequences, from named_follows"]))
+        tell.expect("it types by the names", room.typed(0x27, 0x61), "ⓐ")
+        with room.client() as client:
+            client.open(7)
+            tell.expect("also the new key", [client.key(7, it).text for it in (0xFE8D, 0x61)], ["", "أ"])
+        room.write("named_longer", read(room.path("named_follows")).decode() + '<Multi_key> <apostrophe> <b> : "ⓑ"\n')
+        got = room.update("named_longer")
+        tell.expect("an update beside the service, by the kept names", (got[0], bool(STORED.fullmatch(got[1])), got[2], room.kept_names()[0]), (0, True, "", lines))
+        tell.expect("other names beside the service are meant", room.update("old", "--names", "builtin", "--accept", "/dev/null")[0], 2)
+        room.start("--names", "builtin", "--names", "new.h")
+        tell.expect("a service that is given the same names", room.is_running(), True)
+        tell.expect("a restart has the names", (room.start(), room.typed(0x27, 0x62)), (True, "ⓑ"))
+        before = room.all_bytes()
+        other = "refused: state: state: the table in use has other names than those of --names: leave the option out, or `composecheck update --names FILE.. TABLE` takes a table with these\n"
+        tell.expect("a service that is given other names", (room.start("--names", "builtin"), room.ended, room.complained()), (False, 2, other))
+        tell.expect("nothing changes", room.all_bytes(), before)
+    with Room(program) as room:
+        room.write("new.h", HAMZA)
+        room.write("named", NAMED)
+        room.update("old")
+        tell.expect("the built-in names are kept as no lines", (room.kept_names(), room.update("old", "--names", "builtin")), (("", []), (0, "unchanged\n", "")))
+        tell.expect("status of the built-in names", "names: built in\n" in room.status()[1], True)
+        room.start()
+        tell.expect("other names alone are meant", room.update("old", "--names", "builtin", "--names", "new.h"), (0, "stored\n", TAKEN))
+        tell.expect("they are kept", room.kept_names()[0].endswith(HAMZA), True)
+        tell.expect("dry-run", room.update("old", "--names", "builtin", "--dry-run"), (0, "would be stored, and sessions would begin anew\n", ""))
+        tell.expect("a table with the new names", room.update("named", "--fresh", "dead_hamza"), (0, "stored\n", TAKEN))
+        with room.client() as client:
+            client.open(7)
+            tell.expect("the new key types", [client.key(7, it).text for it in (0xFE8D, 0x61)], ["", "أ"])
+        tell.expect("the table before it has the names too", (room.update("--back"), room.kept(), room.kept_names()[0].endswith(HAMZA)), ((0, "stored\n", TAKEN), [OLD], True))
+        tell.expect("--back takes no names", room.update("--back", "--names", "builtin")[0], 2)
+
+
+def try_fresh_kept(program, tell):
+    """The keysyms that a load may list as fresh are kept: a start without --fresh has them."""
+    with Room(program) as room:
+        room.next_table()
+        room.update("table")
+        room.next_table()
+        room.write("repertoire", "")
+        room.write("before", table(1))
+        room.write("table", '<dead_caron> <c> : "č"\n' + table(1))
+        for name in ("table", "before"):
+            room.write(f"{name}.manifest", f"overlap longest\nroot\t{name}\n")
+        made = room.run("make", "--names", "builtin", "--fresh", "dead_caron", "-o", "certificate", "before.manifest", "table.manifest", "repertoire")
+        tell.expect("a certificate with a fresh key", made[0], 0)
+        load = ("load", "socket", "table.manifest", "certificate")
+        room.start()
+        tell.expect("without the option a load may list none", (room.run(*load)[0], room.kept_names()), (1, ("", [])))
+        tell.expect("nothing is said of it", room.complained(), "")
+        room.update("--back")
+        note = "note: --fresh names other keys than the folder kept; it keeps these from now on\n"
+        room.start("--fresh", "dead_caron")
+        tell.expect("other keys are kept, and that is said", (room.kept_names(), room.complained()), (("", [0xFE5A]), note))
+        room.start("--fresh", "dead_caron")
+        tell.expect("the same keys", room.complained(), "")
+        tell.expect("a start without the option has them", (room.start(), room.run(*load)), (True, (0, "loaded 1\n", "")))
+        tell.expect("they are kept with the table of the load", room.kept_names(), ("", [0xFE5A]))
+        room.end()
+        room.write("table", '<dead_caron> <c> : "č"\n' + table(2))
+        tell.expect("and with that of an update", (room.update("table"), room.kept_names()), ((0, "stored\n", ""), ("", [0xFE5A])))
+        before = room.kept("previous")
+        room.start("--fresh", "")
+        tell.expect("none any more", (room.kept_names(), room.complained(), room.kept("previous")), (("", []), note, before))
 
 
 # ---- beside a service
@@ -811,7 +953,7 @@ def try_status(program, tell):
         tell.expect("none is made", os.path.exists(room.path("state")), False)
         room.update("behind")
         day = r"\d{4}-\d\d-\d\dT\d\d:\d\d:\d\dZ"
-        first = rf"in use: behind\nstored: {day}\nsequences: 3\nfiles: 2\n"
+        first = rf"in use: behind\nstored: {day}\nsequences: 3\nfiles: 2\nnames: built in\n"
 
         def is_said(what, wanted):
             status, out, err = room.status()

@@ -19,7 +19,7 @@ complete -c composecheck -n "not __fish_seen_subcommand_from $commands" -a sessi
 complete -c composecheck -n "__fish_seen_subcommand_from diff merge lint type check explain make manifest serve load session" -s v -l verbose -d "Say more of a refusal: file, line and column, and hints"
 complete -c composecheck -n "__fish_seen_subcommand_from type check explain make serve load" -s f -l files -d "Take Compose files in the place of manifests"
 complete -c composecheck -n "__fish_seen_subcommand_from session" -s f -l files -d "Take keys by their characters too"
-complete -c composecheck -n "__fish_seen_subcommand_from diff merge how list lint type check explain make serve session" -l names -r -F -a builtin -d "Names of keysyms, as in keysymdef.h"
+complete -c composecheck -n "__fish_seen_subcommand_from diff merge how list lint type check explain make update serve session" -l names -r -F -a builtin -d "Names of keysyms, as in keysymdef.h"
 complete -c composecheck -n "__fish_seen_subcommand_from check explain make diff merge update serve" -l fresh -x -d "Keys for which nothing is promised"
 complete -c composecheck -n "__fish_seen_subcommand_from make" -s o -l output -r -F -d "The file of the certificate"
 complete -c composecheck -n "__fish_seen_subcommand_from explain" -l all -d "All differences"

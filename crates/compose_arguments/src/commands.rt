@@ -637,6 +637,12 @@ static UPDATE: CommandRow = CommandRow {
     after_help: "The table in use is kept in DIR/table, as its sources were when it was taken into use.\nExit status: 0 in use, 1 typing would change, 2 input refused, 3 out of memory\nExample: composecheck update /usr/share/X11/locale/en_US.UTF-8/Compose",
     options: &[
         VERBOSE,
+        OptionRow {
+            name: "names",
+            letter: None,
+            takes: Takes::Values("FILE"),
+            help: "Keysym names, in the form of keysymdef.h, or builtin; kept with the table, and those of the table in use without the option",
+        },
         FRESH,
         OptionRow {
             name: "repertoire",
@@ -653,7 +659,7 @@ static UPDATE: CommandRow = CommandRow {
         OptionRow {
             name: "back",
             letter: None,
-            takes: Takes::NothingWith(&["accept", "fresh", "repertoire"]),
+            takes: Takes::NothingWith(&["accept", "fresh", "names", "repertoire"]),
             help: "Take back the table before the last change, in the place of FILE; sessions begin anew",
         },
         OptionRow {

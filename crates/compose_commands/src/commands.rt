@@ -48,7 +48,7 @@ pub fn answer<T: BuildTable, F: Folder>(
             run_question::<T, F>(rt.alloc(), files, &environment, options, form, question)?
         }
         CommandRequest::Update { arguments, fresh } => {
-            update_files::<T, F>(rt, files, form, arguments, fresh)?
+            update_files::<T, F>(rt, files, form, options.names, arguments, fresh)?
         }
         CommandRequest::TakeBack(arguments) => take_back::<T>(rt, arguments)?,
         CommandRequest::Status(arguments) => status::<T>(rt, arguments)?,

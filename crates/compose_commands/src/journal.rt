@@ -10,7 +10,12 @@ use compose_tree::{BuildTable, ComposeTable};
 use compose_wire::{Body, Reply, ReplyBody, Request};
 use std::alloc::{AllocError, Global};
 use std::fs::File;
+use std::io;
 use std::rt::Files;
+
+/// The note if `--fresh` names other keys than the folder kept.
+const NEW_FRESH: &str =
+    "note: --fresh names other keys than the folder kept; it keeps these from now on\n";
 
 /// A service that keeps its table. A line is printed for each load, with what became of it.
 #[derive(Drop)]
@@ -28,6 +33,25 @@ impl<'f, R: Files<File = File> + Print + Eprint + AllocGlobal, T: BuildTable> Jo
     /// Returns the number of open sessions.
     pub fn session_count(&self) -> usize {
         self.keeper.service().session_count()
+    }
+
+    /// Returns whether these are the lines of the names in use, as a file keeps them; true if none
+    /// are given.
+    pub fn has_names(&self, names: Option<&[u8]>) -> bool {
+        match names {
+            Some(names) => names == self.keeper.place().names(),
+            None => true,
+        }
+    }
+
+    /// Stores the table in use with its new settings, if they aren't kept yet, and prints a note.
+    /// Errors: the reason if it can't be stored.
+    pub fn keep_settings(&self) -> io::Result<()> {
+        if self.keeper.place().has_new_settings() {
+            self.keeper.place().store_settings(self.rt.alloc())?;
+            let _ = eprint!(self.rt; "{NEW_FRESH}");
+        }
+        Ok(())
     }
 
     /// Prints the number of sequences of the table, and the file that it came from.

@@ -123,6 +123,20 @@ impl StateFolder {
         self.use_file(rt, &new)
     }
 
+    /// Stores the table in use once more, with other settings. The table before the last change stays
+    /// as it is.
+    /// Errors: the reason if it can't be stored; nothing changes then.
+    pub fn rewrite(
+        &self,
+        rt: &(impl Files<File = File> + AllocGlobal),
+        bytes: &[u8],
+    ) -> io::Result<()> {
+        let new = format!(in rt.alloc(); "{}.new", self.table)?;
+        write_whole(rt, &new, bytes)?;
+        fs::rename(rt, &new, self.table.as_str())?;
+        File::open(rt, self.path.as_str())?.sync_all()
+    }
+
     /// Makes the file `next` the table in use, and keeps the table before it.
     /// Errors: the reason if it can't be renamed; the table in use is the old one then.
     pub fn use_next(&self, rt: &(impl Files<File = File> + AllocGlobal)) -> io::Result<()> {

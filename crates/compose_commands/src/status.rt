@@ -1,16 +1,16 @@
 //! `status`: which table is in use, the one before it, and whether a service serves it.
 use crate::client::connect;
 use crate::deadline::Deadline;
-use crate::kept_serving::{builtin_names, stored_at};
+use crate::kept_serving::{names_at, stored_at};
 use crate::places::{socket_path, state_folder};
 use crate::state_folder::{StateFolder, read_if_there};
 use compose_arguments::StatusArguments;
 use compose_bundle::read_bundle;
 use compose_input::Fault;
-use compose_model::Rule;
 use compose_read::Sources;
 use compose_report::Outcome;
 use compose_service_runs::{Change, ServiceState, Status, StoredSummary, status_outcome};
+use compose_table_file::StoredTable;
 use compose_tree::{BuildTable, TableFault, read_first_table};
 use jiff::Timestamp;
 use std::alloc::Global;
@@ -64,20 +64,31 @@ fn summary_of<T: BuildTable>(
     Ok(Some(StoredSummary {
         origin: String::from_str(alloc, bundle.sources.name(0).unwrap_or(""))?,
         stored: date_of(rt, path)?,
-        sequences: sequences_of::<T>(alloc, path, &bundle.sources, stored.rule)?,
+        sequences: sequences_of::<T>(alloc, path, &bundle.sources, &stored)?,
         files: bundle.sources.count(),
+        names: name_count(&stored.names),
     }))
 }
 
-/// Returns the number of sequences of the table of these sources.
+/// Returns how many names these lines define; `None` if there are no lines, so that the names are
+/// the built-in ones.
+fn name_count(lines: &[u8]) -> Option<u32> {
+    if lines.is_empty() {
+        return None;
+    }
+    let defined = lines.split(|byte| *byte == b'\n').filter(|line| line.starts_with(b"#define"));
+    Some(u32::try_from(defined.count()).unwrap_or(u32::MAX))
+}
+
+/// Returns the number of sequences of the table of these sources, which this file keeps.
 fn sequences_of<T: BuildTable>(
     alloc: Global,
     path: &str,
     sources: &Sources,
-    rule: Rule,
+    stored: &StoredTable<'_>,
 ) -> Result<u32, Fault> {
-    let names = builtin_names(alloc)?;
-    let read: Result<T, TableFault> = read_first_table(alloc, &names, sources, rule);
+    let names = names_at(alloc, path, &stored.names)?;
+    let read: Result<T, TableFault> = read_first_table(alloc, &names, sources, stored.rule);
     match read {
         Ok(table) => Ok(table.leaf_count()),
         Err(TableFault::NoMemory) => Err(Fault::NoMemory),

@@ -34,7 +34,7 @@ const TRIES: u32 = 3;
 #[derive(Drop)]
 enum Wish<'a> {
     /// The table of these files.
-    Files(UpdateFiles, Wanted<'a>),
+    Files(UpdateFiles<'a>, Wanted<'a>),
     /// The table before the last change.
     Back,
 }
@@ -162,17 +162,19 @@ pub fn update_files<T: BuildTable, F: Folder>(
     rt: &(impl Clock + Env + Files<File = File> + Net + AllocGlobal),
     files: &mut ReadOnce<F>,
     form: Form,
+    names: &[&str],
     arguments: &UpdateArguments<'_>,
     fresh: &[&str],
 ) -> Result<Outcome, Fault> {
     let folder = state_folder(rt, arguments.taking.state)?;
     let socket = socket_path(rt, arguments.taking.socket)?;
     let environment = read_environment(rt, false)?;
-    let read = UpdateFiles::read(rt.alloc(), files, &environment, arguments)?;
+    let read = UpdateFiles::read(rt.alloc(), files, &environment, names, arguments)?;
     let note = String::from_str(rt.alloc(), &read.new.note)?;
     let used = used_folder(rt, &folder, socket.as_deref(), &arguments.taking);
     let wanted = Wanted {
         fresh,
+        has_names: !names.is_empty(),
         has_repertoire: arguments.repertoire.is_some(),
     };
     let updated = take::<T, _>(&used, &arguments.taking, Wish::Files(read, wanted));

@@ -20,6 +20,8 @@ pub struct StoredSummary {
     pub sequences: u32,
     /// The number of its files.
     pub files: usize,
+    /// The number of names in the files of names; `None` if the names are the built-in ones.
+    pub names: Option<u32>,
 }
 
 /// A file of the table in use that is not as it was when the table was stored.
@@ -88,12 +90,25 @@ fn push_table(text: &mut String, in_use: &Option<StoredSummary>) -> Result<(), A
         stored,
         sequences,
         files,
+        names,
     } = stored;
     let origin = Shown(origin);
     write!(
         text,
         "in use: {origin}\nstored: {stored}\nsequences: {sequences}\nfiles: {files}\n"
-    )
+    )?;
+    push_names(text, *names)
+}
+
+/// Adds the line about the names.
+fn push_names(text: &mut String, names: Option<u32>) -> Result<(), AllocError>
+    ensures { OnOk result
+        (string_bytes text.new ≡ string_bytes text.old ++ spec.names_line names) }
+{
+    match names {
+        Some(count) => write!(text, "names: {count}, of files\n"),
+        None => text.push_str("names: built in\n"),
+    }
 }
 
 /// Adds a line for each file that has changed.
