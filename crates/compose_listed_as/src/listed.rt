@@ -88,12 +88,7 @@ fn refused(
 }
 
 /// Appends the place of the last thing that the reader came upon, or the path of the root.
-fn push_last(
-    text: &mut String,
-    files: &[FileRead],
-    told: &[Told<'_>],
-) -> Result<(), AllocError>
-{
+fn push_last(text: &mut String, files: &[FileRead], told: &[Told<'_>]) -> Result<(), AllocError> {
     if let Some(last) = told.last() {
         return push_place(text, files, last);
     }
@@ -105,12 +100,7 @@ fn push_last(
 }
 
 /// Appends that the reader refuses the table, and why.
-fn push_refusal(
-    text: &mut String,
-    version: Version,
-    refusal: Refusal,
-) -> Result<(), AllocError>
-{
+fn push_refusal(text: &mut String, version: Version, refusal: Refusal) -> Result<(), AllocError> {
     text.push_str(": ")?;
     text.push_str(reader_name(version))?;
     text.push_str(" refuses the table: ")?;
