@@ -3,9 +3,7 @@ use crate::diff_arguments::{DiffArguments, diff_arguments};
 use crate::given_tables::{BothTables, TypeTable, both_tables, old_and_new, type_table};
 use crate::how_arguments::{HowArguments, how_arguments};
 use crate::lint_arguments::{LintArguments, lint_arguments};
-use crate::list_arguments::{
-    ListArguments, ListAsArguments, list_arguments, list_as_arguments,
-};
+use crate::list_arguments::{ListArguments, ListAsArguments, list_arguments, list_as_arguments};
 use crate::manifest_arguments::{ManifestArguments, manifest_arguments};
 use crate::merge_arguments::{MergeArguments, merge_arguments};
 use crate::name_lists::{argument_keys, fresh_names, given_fresh_names};
@@ -210,10 +208,7 @@ fn how_question<'a>(
 }
 
 /// Returns the question of `list`.
-fn list_question<'a>(
-    alloc: Global,
-    given: &ArgMatches<'a>,
-) -> Result<Question<'a>, AllocError> {
+fn list_question<'a>(alloc: Global, given: &ArgMatches<'a>) -> Result<Question<'a>, AllocError> {
     match list_as_arguments(given) {
         Some(arguments) => Ok(Question::ListAs(arguments)),
         None => Ok(Question::List(list_arguments(alloc, given)?)),

@@ -36,10 +36,7 @@ root_alone folder version root file path is = record { first = file; others = []
 
 or_left : (a b : Bool) → a ≡ true → (a || b) ≡ true
 or_left true b e = refl
-or_left false b e = absurd_bool e
-  where
-    absurd_bool : {X : Type 0} → false ≡ true → X
-    absurd_bool ()
+or_left false b e = let clash : false ≡ true = e in cc
 
 or_right : (a b : Bool) → b ≡ true → (a || b) ≡ true
 or_right true b e = refl
@@ -49,11 +46,7 @@ among_more : (files more : List FileRead) (path : List ℕ) → is_among files p
 among_more files more path e = list_any-append (λ f. bytes_eq f.path path) files more ∙ or_left (is_among files path) (is_among more path) e
 
 same_bytes : (xs ys : List ℕ) → xs ≡ ys → bytes_eq xs ys ≡ true
-same_bytes xs ys e = by (bytes_eq xs ys) (bytes_eq-Decides xs ys)
-  where
-    by : (b : Bool) → Decides b (xs ≡ ys) → b ≡ true
-    by true d = refl
-    by false d = absurd (d e)
+same_bytes xs ys e = (bytes_eq-Decides xs ys).1 e
 
 among_last : (files : List FileRead) (file : FileRead) (path : List ℕ) → file.path ≡ path → is_among (files ++ file ∷ []) path ≡ true
 among_last files file path e =

@@ -1,2 +1,2 @@
-mod Files
-mod Judging
+pub mod Files
+pub mod Judging

@@ -15,13 +15,13 @@ pub record Judged : Type 0 where
   pub fate : Fate
 
 -- each with its fate
-abbrev pub judged : List Told → List Fate → List Judged
-judged [] fates = []
-judged (t ∷ ts) [] = []
-judged (t ∷ ts) (f ∷ fs) = record { told = t; fate = f } ∷ judged ts fs
+abbrev pub with_fates : List Told → List Fate → List Judged
+with_fates [] fates = []
+with_fates (t ∷ ts) [] = []
+with_fates (t ∷ ts) (f ∷ fs) = record { told = t; fate = f } ∷ with_fates ts fs
 
 abbrev pub judged_by : Version → List Told → List Judged
-judged_by version told = judged told (fates (entries (most_nodes version) (entries_of told)))
+judged_by version told = with_fates told (fates (entries (most_nodes version) (entries_of told)))
 
 -- all that the reader comes upon from the first of these files on; includes may lead five deep
 abbrev pub all_judged : Version → List FileRead → List Judged

@@ -20,12 +20,16 @@ pub record IsTakenTable (version : Version) (names : KeysymNames) (files : List 
   pub reports : string_bytes listed.report ≡ report version files js
   pub taken : listed.is_refused ≡ false
 
+-- that the reader refuses the table, and why
+abbrev pub refusal_text : Version → Refusal → List ℕ
+refusal_text version refusal = codes ": " ++ (reader_name version ++ (codes " refuses the table: " ++ refusal_words refusal))
+
 -- why, and where; for example `composecheck: a:3: libxkbcommon 1.7 refuses the table: a file is empty: b`
 pub record IsRefusedTable (version : Version) (refusal : Refusal) (listed : ListedAs) : Type 0 where
   pub place : List ℕ
   pub behind : List ℕ
   pub lists : string_bytes listed.lines ≡ []
-  pub reports : string_bytes listed.report ≡ codes "composecheck: " ++ (place ++ (codes ": " ++ (reader_name version ++ (codes " refuses the table: " ++ (refusal_words refusal ++ behind)))))
+  pub reports : string_bytes listed.report ≡ codes "composecheck: " ++ (place ++ (refusal_text version refusal ++ behind))
   pub refused : listed.is_refused ≡ true
 
 abbrev pub IsListedBy : Version → KeysymNames → List FileRead → Option Refusal → ListedAs → Type 0
@@ -35,3 +39,7 @@ IsListedBy version names files (Some refusal) listed = IsRefusedTable version re
 -- of the table whose root is the first of these files; ten of a file's lines may be faulty
 abbrev pub IsListedAs : Version → KeysymNames → List FileRead → ListedAs → Type 0
 IsListedAs version names files listed = IsListedBy version names files (refusal_from files 10 5 0) listed
+
+-- something more at the end; a definition for private functions
+abbrev pub Appends : List ℕ → List ℕ → Type 0
+Appends old new = (more : List ℕ) × (new ≡ old ++ more)

@@ -62,12 +62,13 @@ fn is_followed(what: What<'_>) -> bool
 }
 
 /// Returns each with its fate. O(n).
-pub(crate) fn judged<'t>(
+#[tactic(auto, using(crate::proofs::Judging::judged_more, crate::proofs::Judging::no_fate))]
+pub(crate) fn with_fates<'t>(
     alloc: Global,
     told: &'t [Told<'t>],
     fates: &[Fate],
 ) -> Result<Vec<Judged<'t>>, AllocError>
-    ensures { IfOk result (λ all. all.items ≡ words.judged told.now fates.now) }
+    ensures { IfOk result (λ all. all.items ≡ words.with_fates told.now fates.now) }
 {
     let mut all = Vec::new(alloc);
     for at in 0..told.len() {

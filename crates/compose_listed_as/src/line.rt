@@ -109,12 +109,7 @@ fn push_keys(
 }
 
 /// Appends the key with this keysym between `<` and `>`, and a blank after it.
-fn push_key(
-    alloc: Global,
-    lines: &mut String,
-    names: &Names,
-    keysym: u32,
-) -> Result<(), AllocError>
+fn push_key(alloc: Global, lines: &mut String, names: &Names, keysym: u32) -> Result<(), AllocError>
     ensures { OnOk result
         (string_bytes lines.new ≡ string_bytes lines.old ++ words.key_text names.now keysym) }
 {

@@ -1,9 +1,9 @@
 //! A table as a reader has it.
 ghost use Rattle.std.specs.Prelude.{◌≡◌, ◌<◌, ◌++◌, ◌∷◌, [], None, Some, length, IfOk, OnOk, string_bytes, codes};
 ghost use Rattle.compose_listed_as.specs.Judged.{judged_by};
-ghost use Rattle.compose_listed_as.specs.Listed.{IsListedAs, IsRefusedTable, IsTakenTable};
+ghost use Rattle.compose_listed_as.specs.Listed.{Appends, IsListedAs, IsRefusedTable, IsTakenTable, refusal_text};
 
-use crate::judged::judged;
+use crate::judged::with_fates;
 use crate::line::{push_place, taken_lines, text_or_empty};
 use crate::report::{reader_name, report};
 use compose_readers::xkbcommon::{Reader, Version};
@@ -56,7 +56,7 @@ fn taken(
         (judged_by reader.now.version told.now) listed) }
 {
     let fates = fates(alloc, reader.version.most_nodes(), told)?;
-    let all = judged(alloc, told, &fates)?;
+    let all = with_fates(alloc, told, &fates)?;
     let lines = taken_lines(alloc, reader.names, files, &all)?;
     let report = report(alloc, reader.version, files, &all)?;
     Ok(ListedAs {
@@ -88,11 +88,8 @@ fn refused(
 }
 
 /// Appends the place of the last thing that the reader came upon, or the path of the root.
-fn push_last(
-    text: &mut String,
-    files: &[FileRead],
-    told: &[Told<'_>],
-) -> Result<(), AllocError>
+fn push_last(text: &mut String, files: &[FileRead], told: &[Told<'_>]) -> Result<(), AllocError>
+    ensures { OnOk result (Appends (string_bytes text.old) (string_bytes text.new)) }
 {
     if let Some(last) = told.last() {
         return push_place(text, files, last);
@@ -105,11 +102,9 @@ fn push_last(
 }
 
 /// Appends that the reader refuses the table, and why.
-fn push_refusal(
-    text: &mut String,
-    version: Version,
-    refusal: Refusal,
-) -> Result<(), AllocError>
+fn push_refusal(text: &mut String, version: Version, refusal: Refusal) -> Result<(), AllocError>
+    ensures { OnOk result
+        (string_bytes text.new ≡ string_bytes text.old ++ refusal_text version refusal) }
 {
     text.push_str(": ")?;
     text.push_str(reader_name(version))?;
@@ -118,7 +113,9 @@ fn push_refusal(
 }
 
 /// Appends the path that is included last, if the last thing is an include, and the end of the line.
-fn push_path(text: &mut String, told: &[Told<'_>]) -> Result<(), AllocError> {
+fn push_path(text: &mut String, told: &[Told<'_>]) -> Result<(), AllocError>
+    ensures { OnOk result (Appends (string_bytes text.old) (string_bytes text.new)) }
+{
     if let Some(last) = told.last() {
         if let What::Includes(path) = last.what {
             let path = Shown(text_or_empty(path));

@@ -94,11 +94,7 @@ fn included_paths(alloc: Global, file: &FileRead) -> Result<Vec<Vec<u8>>, AllocE
 }
 
 /// Appends the path that the end of a line includes, if it does.
-fn push_included(
-    alloc: Global,
-    paths: &mut Vec<Vec<u8>>,
-    end: &LineEnd,
-) -> Result<(), AllocError>
+fn push_included(alloc: Global, paths: &mut Vec<Vec<u8>>, end: &LineEnd) -> Result<(), AllocError>
     ensures { OnOk result
         (map (λ path. path.items) paths.new.items
         ≡ map (λ path. path.items) paths.old.items ++ words.included (end_of end.now)) }

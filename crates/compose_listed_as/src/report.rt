@@ -54,7 +54,13 @@ fn report_of(
     let mut text = String::new(alloc);
     push_others(&mut text, files, all, first_of(others))?;
     push_more(&mut text, others.len().saturating_sub(MOST))?;
-    push_summary(&mut text, version, taken_count(all), others.len(), files.len())?;
+    push_summary(
+        &mut text,
+        version,
+        taken_count(all),
+        others.len(),
+        files.len(),
+    )?;
     Ok(text)
 }
 
