@@ -1,6 +1,6 @@
 //! The commands that read files and answer.
 use crate::diff_arguments::{DiffArguments, diff_arguments};
-use crate::given_tables::{BothTables, TypeTable, both_tables, type_table};
+use crate::given_tables::{BothTables, TypeTable, both_tables, old_and_new, type_table};
 use crate::how_arguments::{HowArguments, how_arguments};
 use crate::lint_arguments::{LintArguments, lint_arguments};
 use crate::list_arguments::{ListArguments, list_arguments};
@@ -35,8 +35,10 @@ pub enum Question<'a> {
     },
     /// `explain`: how two tables differ.
     Explain {
-        /// The old and the new table.
-        tables: BothTables<'a>,
+        /// The old table.
+        old: TypeTable<'a>,
+        /// The new table, which is named in the same way.
+        new: TypeTable<'a>,
         /// The keys in `--fresh`.
         fresh: Vec<&'a str>,
         /// Whether all differences are printed.
@@ -150,11 +152,12 @@ fn explain_question<'a>(
     alloc: Global,
     given: &ArgMatches<'a>,
 ) -> Result<Option<Question<'a>>, AllocError> {
-    let Some(tables) = both_tables(given) else {
+    let Some((old, new)) = old_and_new(given) else {
         return Ok(None);
     };
     Ok(Some(Question::Explain {
-        tables,
+        old,
+        new,
         fresh: fresh_names(alloc, given, given.get_flag("files"))?,
         all: given.get_flag("all"),
     }))

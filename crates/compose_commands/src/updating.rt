@@ -12,8 +12,8 @@ use compose_answer::Ended;
 use compose_arguments::{TakingArguments, UpdateArguments};
 use compose_folder::{Folder, ReadOnce};
 use compose_input::Fault;
-use compose_program::{FaultForm, fault_in_form};
-use compose_report::Outcome;
+use compose_program::fault_in_form;
+use compose_report::{Form, Outcome};
 use compose_runs::UpdateFiles;
 use compose_service_runs::{
     HandOver, Handed, TableFolder, Taking, Wanted, decide_taking, take_alone, take_running,
@@ -161,7 +161,7 @@ impl<R: Clock + Files<File = File> + Net + AllocGlobal> UsedFolder<'_, R> {
 pub fn update_files<T: BuildTable, F: Folder>(
     rt: &(impl Clock + Env + Files<File = File> + Net + AllocGlobal),
     files: &mut ReadOnce<F>,
-    form: FaultForm,
+    form: Form,
     arguments: &UpdateArguments<'_>,
     fresh: &[&str],
 ) -> Result<Outcome, Fault> {

@@ -11,6 +11,7 @@ use Rattle.compose_input.specs.Names.{AreNames}
 use Rattle.compose_input.specs.Tables.{IsFoundOnSystem}
 use Rattle.compose_input.specs.declared.places.Places.{Places}
 use Rattle.compose_input.specs.declared.tables.TableFiles.{TableFiles}
+use Rattle.compose_given.specs.Names.{names_or_builtin}
 use Rattle.compose_given.specs.Environment.{IsPlaced}
 use Rattle.compose_runs.specs.declared.differing.DiffFiles.{DiffFiles}
 use Rattle.compose_given.specs.declared.environment.Environment.{Environment}

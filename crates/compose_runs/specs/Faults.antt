@@ -20,6 +20,7 @@ use Rattle.compose_input.specs.declared.fault.Fault.TheVariants as faults
 use Rattle.compose_input.specs.declared.fault.Fault.TheVariants.{Word, NoMemory}
 use Rattle.compose_input.specs.declared.places.Places.{Places}
 use Rattle.compose_input.specs.declared.tables.TableFiles.{TableFiles}
+use Rattle.compose_given.specs.Faults.{FailsChosenTable, FailsPlaced, HasFile, HasNames, OrMemory}
 use Rattle.compose_runs.specs.DiffFiles.{AreFoundFiles, IsFoundTable, place_arguments}
 use Rattle.compose_given.specs.Names.{names_or_builtin}
 use Rattle.compose_runs.specs.Differing.{is_colored}
@@ -58,7 +59,7 @@ HasPair folder environment names pair = (files : MigrationFiles) × AreFoundFile
 abbrev pub FailsType : Option (List Entry) → List (List ℕ) → List ℕ → Fault → Type 0
 FailsType folder names path fault = OrMemory (λ f. FailNames folder names f ⊎ (HasNames folder names × FailsListed folder (codes "table") path f)) fault
 
--- for `explain`: the names, the old table, the new one
+-- for two manifests: the names, the old table, the new one
 abbrev pub FailsMigration : Option (List Entry) → List (List ℕ) → List ℕ → List ℕ → Fault → Type 0
 FailsMigration folder names old new fault =
     OrMemory (λ f. FailNames folder names f ⊎ (HasNames folder names × (FailsListed folder (codes "old") old f ⊎ (HasListed folder old × FailsListed folder (codes "new") new f)))) fault

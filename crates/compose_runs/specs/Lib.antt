@@ -1,6 +1,5 @@
 pub mod Files
 pub mod Typing
-pub mod Explaining
 pub mod CheckFiles
 pub mod Checking
 pub mod Making

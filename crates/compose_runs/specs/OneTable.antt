@@ -11,6 +11,7 @@ use Rattle.compose_input.specs.Names.{AreNames}
 use Rattle.compose_input.specs.declared.places.Places.{Places}
 use Rattle.compose_report.specs.Outcomes.{IsNoted, IsWorded}
 use Rattle.compose_report.specs.declared.outcome.Outcome.{Outcome}
+use Rattle.compose_given.specs.Noted.{IsNotedTable, table_places}
 use Rattle.compose_given.specs.Names.{names_or_builtin}
 use Rattle.compose_given.specs.Environment.{IsPlaced}
 use Rattle.compose_given.specs.declared.environment.Environment.{Environment}

@@ -13,7 +13,6 @@
 
 mod checking;
 mod differing;
-mod explaining;
 mod files;
 mod linting;
 mod looking_up;
@@ -30,7 +29,6 @@ mod written_keys;
 
 pub use checking::{CheckPaths, CheckTexts, run_check, run_check_files};
 pub use differing::run_diff;
-pub use explaining::{run_explain, run_explain_files};
 pub use linting::run_lint;
 pub use looking_up::{run_how, run_list};
 pub use making::{MakeOptions, run_make, run_make_files};

@@ -23,7 +23,6 @@ returns g c =
         repertoire_text = c.deref.ensures.value;
         certificate = refl;
         certificate_text = c.deref-2.ensures.value;
-        all = parts.all;
       };
       reported = reported;
     }) c.worded_outcome.ensures
