@@ -175,11 +175,7 @@ fn rows_of(alloc: Global, names: &Names, input: TableInput<'_>) -> Result<Sequen
 }
 
 /// Returns the rows of a table, or why it is refused.
-fn read_rows(
-    alloc: Global,
-    names: &Names,
-    input: TableInput<'_>,
-) -> Result<Sequences, TableFault>
+fn read_rows(alloc: Global, names: &Names, input: TableInput<'_>) -> Result<Sequences, TableFault>
     ensures { (table : List Definition)
         → first_table names.now input.entry.sources.now input.entry.rule ≡ Ok table
         → IfOk result (λ rows. rows ≡ table) }

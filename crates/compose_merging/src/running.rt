@@ -12,9 +12,7 @@ use compose_answer::{Ended, Refusal};
 use compose_arguments::MergeArguments;
 use compose_details::{Given, GivenTable};
 use compose_folder::{Folder, ReadOnce};
-use compose_given::{
-    Environment, NotedTable, ReadParts, Wanted, WantedTable, joined, read_parts,
-};
+use compose_given::{Environment, NotedTable, ReadParts, Wanted, WantedTable, joined, read_parts};
 use compose_input::{Fault, NameFiles, TableFiles};
 use compose_migration::MigrationInput;
 use compose_report::{Outcome, worded_refusal};
@@ -84,7 +82,9 @@ fn merge_read<T: BuildTable>(
         outcome) }
 {
     let ReadParts {
-        names, mut tables, ..
+        names,
+        mut tables,
+        ..
     } = read;
     let Some(new) = tables.pop() else {
         return Err(AllocError);
@@ -162,7 +162,10 @@ fn merge_files<T: BuildTable>(
         }
         Err(MergingFault::TooLarge) => refused(alloc, "the merged table is too large for a table"),
         Err(MergingFault::NotReadBack) => {
-            refused(alloc, "what is printed of the merged table would not be read as this table")
+            refused(
+                alloc,
+                "what is printed of the merged table would not be read as this table",
+            )
         }
     }
 }
