@@ -1,10 +1,12 @@
 //! `merge`, from the folder to the outcome.
-ghost use Rattle.std.specs.Prelude.{◌≡◌, ◌++◌, ◌∷◌, [], map, IfOk, IfErr, string_bytes};
+ghost use Rattle.std.specs.Prelude.{◌≡◌, ◌++◌, ◌∷◌, [], map, IfOk, IfErr, OnOk, string_bytes};
 ghost use Rattle.compose_migration.specs.Values.{given_of};
 ghost use Rattle.compose_merging.specs.Merges.{AnswersMerge};
 ghost use Rattle.compose_merging.specs.Runs as words;
-ghost use Rattle.compose_merging.specs.Runs.{AreBoth, FailsMerge, IsKeptMerge, IsMergeOf, IsMergeOutcome, IsMergeRun, IsMergingPrinted, IsRefusalPrinted, IsSkippedMerge, Wants};
+ghost use Rattle.compose_merging.specs.Runs.{AreBoth, FailsMerge, IsKeptMerge, IsMergeOf, IsMergeOutcome, IsMergeRun, IsMergingPrinted, IsRefusalPrinted, IsSkippedMerge, KeepsNoted, Wants};
 ghost use Rattle.compose_report.specs.Outcomes.{PrintsErrors};
+ghost use Rattle.compose_skipped.specs.Kept.{skipped_faults};
+ghost use Rattle.compose_skipped.specs.Reported.{with_faults};
 
 use crate::asking::{MergeInput, Merging, MergingFault};
 use crate::merging::merge_tables;
@@ -111,19 +113,30 @@ fn merge_skipped<T: BuildTable>(
         (λ outcome. IsSkippedMerge names.now old new (map (λ name. name.now) fresh.now) outcome) }
 {
     let mut report = SkippedReport::new(alloc);
-    let old_table = kept_table(alloc, &names.lines, old.table, &mut report)?;
-    let old = NotedTable {
-        table: old_table,
-        notes: old.notes,
-    };
-    let new_table = kept_table(alloc, &names.lines, new.table, &mut report)?;
-    let new = NotedTable {
-        table: new_table,
-        notes: new.notes,
-    };
+    let old = kept_noted(alloc, names, old, &mut report)?;
+    let new = kept_noted(alloc, names, new, &mut report)?;
     let mut outcome = merge_noted::<T>(alloc, names, &old, &new, fresh)?;
-    outcome.errors.push_str(&report.into_text()?)?;
+    let skipped = report.into_text()?;
+    outcome.errors.push_str(&skipped)?;
     Ok(outcome)
+}
+
+/// Returns the table without its faulty lines, and adds these to the report.
+fn kept_noted(
+    alloc: Global,
+    names: &NameFiles<'_>,
+    noted: NotedTable,
+    report: &mut SkippedReport,
+) -> Result<NotedTable, AllocError>
+    ensures kept { IfOk result (λ kept. KeepsNoted names.now noted kept) }
+    ensures report { OnOk result
+        (report.new
+        ≡ with_faults report.old noted.table
+        (skipped_faults names.now.lines.items noted.table)) }
+{
+    let NotedTable { table, notes } = noted;
+    let table = kept_table(alloc, &names.lines, table, report)?;
+    Ok(NotedTable { table, notes })
 }
 
 /// Returns the outcome of `merge` on these tables, with notes on where they lie.
