@@ -83,11 +83,8 @@ fn merge_read<T: BuildTable>(
         → IsKeptMerge skip_faulty read.entry.names old new (map (λ name. name.now) fresh.now)
         outcome) }
 {
-    let ReadParts {
-        names,
-        mut tables,
-        ..
-    } = read;
+    let ReadParts { names, tables, .. } = read;
+    let mut tables = tables;
     let Some(new) = tables.pop() else {
         return Err(AllocError);
     };
