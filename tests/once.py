@@ -36,6 +36,7 @@ TWO_PATHS = ["find-two-names-of-one-file"]
 COMMANDS = [
     ("diff table changed", ["table", "changed"]),
     ("diff table table", ["table"]),
+    ("merge table changed", ["table", "changed"]),
     ("diff faulty table", ["faulty", "table"]),
     ("diff --names builtin --names names table changed", ["names", "table", "changed"]),
     ("diff --accept accepted table changed", ["accepted"]),

@@ -22,7 +22,7 @@ NOT_QUICK = {"calls", "edits_test", "installed", "limits", "newest_tables", "oth
 # Those that need the C libraries; with --quick they get unproved ones.
 WITH_LIBRARIES = {"client", "engine", "installed", "library", "shim"}
 # How many random ones a script tries with --quick, where that takes the longest.
-FEWER = {"diff": ["100"], "network": ["30"]}
+FEWER = {"diff": ["100"], "merge": ["40"], "network": ["30"]}
 LIBRARIES = "the C libraries"
 # The programs by what the heads of scripts call them.
 PROGRAMS = {"PROGRAM": "composecheck", "TRIALS": "compose_trials"}

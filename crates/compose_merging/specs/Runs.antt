@@ -100,14 +100,17 @@ pub record IsMergeOutcome (names : NameFiles) (old new : NotedTable) (fresh : Li
   pub is : IsMergeOf names old.table new.table fresh printed
   pub noted : IsNoted (string_bytes old.notes ++ string_bytes new.notes) printed outcome
 
+-- the same table without its faulty lines
+pub record KeepsNoted (names : NameFiles) (noted kept : NotedTable) : Type 0 where
+  pub is : IsKept (names_of names.lines.items) noted.table kept.table
+  pub notes : kept.notes ≡ noted.notes
+
 -- without their faulty lines, of which a report comes last
 pub record IsSkippedMerge (names : NameFiles) (old new : NotedTable) (fresh : List (List ℕ)) (outcome : Outcome) : Type 0 where
   pub kept_old : NotedTable
   pub kept_new : NotedTable
-  pub is_old : IsKept (names_of names.lines.items) old.table kept_old.table
-  pub is_new : IsKept (names_of names.lines.items) new.table kept_new.table
-  pub old_notes : kept_old.notes ≡ old.notes
-  pub new_notes : kept_new.notes ≡ new.notes
+  pub is_old : KeepsNoted names old kept_old
+  pub is_new : KeepsNoted names new kept_new
   pub printed : Outcome
   pub is : IsMergeOutcome names kept_old kept_new fresh printed
   pub output : outcome.output ≡ printed.output

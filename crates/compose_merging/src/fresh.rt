@@ -1,12 +1,9 @@
 //! Keys that could be fresh: first keys of new starts that no sequence of the old table has.
-ghost use Rattle.std.specs.Prelude.{◌≡◌, ◌<◌, ◌++◌, [], IfOk, IsTrue, length};
-ghost use Rattle.compose_model.specs.Certificate.{keys_rise};
-
 use crate::treatment::{Cause, Treatment};
-use compose_fresh::{check_fresh, is_among};
+use compose_fresh::check_fresh;
 use compose_read::Sequences;
 use compose_tree::ComposeTable;
-use keysym_core::{Keysym, NameFault, Names};
+use keysym_core::{Keysym, Names};
 use std::alloc::{AllocError, Global};
 
 /// Keys that could be fresh, and what they would take.
@@ -27,15 +24,26 @@ pub(crate) fn fresh_keys<T: ComposeTable>(
     treatments: &[Treatment],
 ) -> Result<FreshKeys, AllocError> {
     let firsts = first_keys(alloc, new, treatments)?;
-    let mut keys = Vec::new(alloc);
-    for index in 0..firsts.len() {
-        let key = firsts[index];
-        if is_new(&firsts, index) && check_fresh(old, &[key]).is_none() {
-            keys.push(key)?;
-        }
-    }
+    let keys = usable_keys(alloc, old, &firsts)?;
     let starts = count_among(&firsts, &keys);
     Ok(FreshKeys { keys, starts })
+}
+
+/// Returns those of the keys that could be fresh, each once; the same ones come one after another.
+fn usable_keys<T: ComposeTable>(
+    alloc: Global,
+    old: &T,
+    firsts: &[Keysym],
+) -> Result<Vec<Keysym>, AllocError> {
+    let mut keys = Vec::new(alloc);
+    let mut last = None;
+    for key in firsts {
+        if last != Some(*key) && check_fresh(old, &[*key]).is_none() {
+            keys.push(*key)?;
+        }
+        last = Some(*key);
+    }
+    Ok(keys)
 }
 
 /// Returns the first key of each new start, in their order, which is rising.
@@ -61,13 +69,6 @@ fn first_key(new: &Sequences, index: usize) -> Option<Keysym> {
         return None;
     }
     new.sequence(index).first().copied()
-}
-
-/// Whether the key at this index is another one than the key before it.
-fn is_new(keys: &[Keysym], index: usize) -> bool
-    requires { index < length keys.now }
-{
-    index == 0 || keys[index - 1] != keys[index]
 }
 
 /// Returns how many of the keys are among the others.

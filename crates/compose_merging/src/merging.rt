@@ -1,12 +1,11 @@
 //! The merge: both tables are read, merged, printed, and read once more.
-ghost use Rattle.std.specs.Prelude.{◌≡◌, ◌×◌, IfOk, IsTrue, List, Ok, filter, length, string_bytes};
+ghost use Rattle.std.specs.Prelude.{◌≡◌, IfErr, IfOk, IsTrue, List, Ok, string_bytes};
 ghost use Rattle.compose_model.specs.Certificate.{keys_rise};
 ghost use Rattle.compose_model.specs.Table.{Definition};
 ghost use Rattle.compose_tree.specs.TableReturns.{first_table};
 ghost use Rattle.compose_merging.specs.Merges.{AnswersMerge, Merges, asked};
 ghost use Rattle.compose_merging.specs.Printed.{listed_as};
 ghost use Rattle.compose_merging.specs.Steps.{AreRows, IsPlaced, IsTold, ReturnsFresh, placed_parts};
-ghost use Rattle.compose_merging.specs.Treatments as words;
 
 use crate::asking::{MergeInput, Merging, MergingFault};
 use crate::fresh::fresh_keys;
@@ -176,11 +175,7 @@ fn rows_of(alloc: Global, names: &Names, input: TableInput<'_>) -> Result<Sequen
 }
 
 /// Returns the rows of a table, or why it is refused.
-fn read_rows(
-    alloc: Global,
-    names: &Names,
-    input: TableInput<'_>,
-) -> Result<Sequences, TableFault>
+fn read_rows(alloc: Global, names: &Names, input: TableInput<'_>) -> Result<Sequences, TableFault>
     ensures { (table : List Definition)
         → first_table names.now input.entry.sources.now input.entry.rule ≡ Ok table
         → IfOk result (λ rows. rows ≡ table) }

@@ -1,6 +1,4 @@
 //! Why a sequence of the new table is left out, in words.
-ghost use Rattle.std.specs.Prelude.{◌≡◌, ◌++◌, OnOk, string_bytes};
-
 use crate::sides::Side;
 use crate::treatment::Cause;
 use compose_lex::quote;

@@ -96,7 +96,11 @@ fn push_more(report: &mut String, counts: LeftOutCounts) -> Result<(), AllocErro
     push_rest(report, counts.other_texts, "have another text in OLD")?;
     push_rest(report, counts.shorter, "begin a sequence of OLD")?;
     push_rest(report, counts.longer, "go on from a sequence of OLD")?;
-    push_rest(report, counts.new_starts, "begin with a key that begins nothing in OLD")
+    push_rest(
+        report,
+        counts.new_starts,
+        "begin with a key that begins nothing in OLD",
+    )
 }
 
 /// Appends how many more there are than lines, if there are more.
@@ -121,7 +125,10 @@ pub(crate) fn push_totals(
         taken,
         left_out,
     } = totals;
-    write!(report, "merge: {kept} kept, {taken} taken, {left_out} left out")?;
+    write!(
+        report,
+        "merge: {kept} kept, {taken} taken, {left_out} left out"
+    )?;
     push_fresh(alloc, report, names, fresh)?;
     report.push('\n')
 }

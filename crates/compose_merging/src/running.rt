@@ -1,10 +1,12 @@
 //! `merge`, from the folder to the outcome.
-ghost use Rattle.std.specs.Prelude.{◌≡◌, ◌++◌, ◌∷◌, [], map, IfOk, IfErr, string_bytes};
+ghost use Rattle.std.specs.Prelude.{◌≡◌, ◌++◌, ◌∷◌, [], map, IfOk, IfErr, OnOk, string_bytes};
 ghost use Rattle.compose_migration.specs.Values.{given_of};
 ghost use Rattle.compose_merging.specs.Merges.{AnswersMerge};
 ghost use Rattle.compose_merging.specs.Runs as words;
-ghost use Rattle.compose_merging.specs.Runs.{AreBoth, FailsMerge, IsKeptMerge, IsMergeOf, IsMergeOutcome, IsMergeRun, IsMergingPrinted, IsRefusalPrinted, IsSkippedMerge, Wants};
+ghost use Rattle.compose_merging.specs.Runs.{AreBoth, FailsMerge, IsKeptMerge, IsMergeOf, IsMergeOutcome, IsMergeRun, IsMergingPrinted, IsRefusalPrinted, IsSkippedMerge, KeepsNoted, Wants};
 ghost use Rattle.compose_report.specs.Outcomes.{PrintsErrors};
+ghost use Rattle.compose_skipped.specs.Kept.{skipped_faults};
+ghost use Rattle.compose_skipped.specs.Reported.{with_faults};
 
 use crate::asking::{MergeInput, Merging, MergingFault};
 use crate::merging::merge_tables;
@@ -12,9 +14,7 @@ use compose_answer::{Ended, Refusal};
 use compose_arguments::MergeArguments;
 use compose_details::{Given, GivenTable};
 use compose_folder::{Folder, ReadOnce};
-use compose_given::{
-    Environment, NotedTable, ReadParts, Wanted, WantedTable, joined, read_parts,
-};
+use compose_given::{Environment, NotedTable, ReadParts, Wanted, WantedTable, joined, read_parts};
 use compose_input::{Fault, NameFiles, TableFiles};
 use compose_migration::MigrationInput;
 use compose_report::{Outcome, worded_refusal};
@@ -83,9 +83,8 @@ fn merge_read<T: BuildTable>(
         → IsKeptMerge skip_faulty read.entry.names old new (map (λ name. name.now) fresh.now)
         outcome) }
 {
-    let ReadParts {
-        names, mut tables, ..
-    } = read;
+    let ReadParts { names, tables, .. } = read;
+    let mut tables = tables;
     let Some(new) = tables.pop() else {
         return Err(AllocError);
     };
@@ -111,19 +110,30 @@ fn merge_skipped<T: BuildTable>(
         (λ outcome. IsSkippedMerge names.now old new (map (λ name. name.now) fresh.now) outcome) }
 {
     let mut report = SkippedReport::new(alloc);
-    let old_table = kept_table(alloc, &names.lines, old.table, &mut report)?;
-    let old = NotedTable {
-        table: old_table,
-        notes: old.notes,
-    };
-    let new_table = kept_table(alloc, &names.lines, new.table, &mut report)?;
-    let new = NotedTable {
-        table: new_table,
-        notes: new.notes,
-    };
+    let old = kept_noted(alloc, names, old, &mut report)?;
+    let new = kept_noted(alloc, names, new, &mut report)?;
     let mut outcome = merge_noted::<T>(alloc, names, &old, &new, fresh)?;
-    outcome.errors.push_str(&report.into_text()?)?;
+    let skipped = report.into_text()?;
+    outcome.errors.push_str(&skipped)?;
     Ok(outcome)
+}
+
+/// Returns the table without its faulty lines, and adds these to the report.
+fn kept_noted(
+    alloc: Global,
+    names: &NameFiles<'_>,
+    noted: NotedTable,
+    report: &mut SkippedReport,
+) -> Result<NotedTable, AllocError>
+    ensures kept { IfOk result (λ kept. KeepsNoted names.now noted kept) }
+    ensures report { OnOk result
+        (report.new
+        ≡ with_faults report.old noted.table
+        (skipped_faults names.now.lines.items noted.table)) }
+{
+    let NotedTable { table, notes } = noted;
+    let table = kept_table(alloc, &names.lines, table, report)?;
+    Ok(NotedTable { table, notes })
 }
 
 /// Returns the outcome of `merge` on these tables, with notes on where they lie.
@@ -162,7 +172,10 @@ fn merge_files<T: BuildTable>(
         }
         Err(MergingFault::TooLarge) => refused(alloc, "the merged table is too large for a table"),
         Err(MergingFault::NotReadBack) => {
-            refused(alloc, "what is printed of the merged table would not be read as this table")
+            refused(
+                alloc,
+                "what is printed of the merged table would not be read as this table",
+            )
         }
     }
 }

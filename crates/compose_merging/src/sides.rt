@@ -1,6 +1,4 @@
 //! A table of a merge: its rows, and the lines that give them.
-ghost use Rattle.std.specs.Prelude.{◌≡◌};
-
 use compose_listing::ListedTable;
 use compose_places::CountingLine;
 use compose_read::Sequences;

@@ -1,5 +1,5 @@
 //! What a merge does with each sequence of the new table.
-ghost use Rattle.std.specs.Prelude.{◌≡◌, ◌<◌, ◌&&◌, [], ◌∷◌, IfOk, IsTrue, MatchOption, false, filter, length, map, true};
+ghost use Rattle.std.specs.Prelude.{◌≡◌, ◌<◌, [], ◌∷◌, IfOk, IsTrue, MatchOption, false, filter, length, true};
 ghost use Rattle.compose_model.specs.Certificate.{keys_rise};
 ghost use Rattle.compose_model.specs.Table.{is_sequence};
 ghost use Rattle.compose_merge.specs.Place.{fate};
