@@ -56,18 +56,21 @@ pub becomes : (a : Asked) (fresh : List (List ℕ)) (current : Option TableFile)
     → meant ≡ is_meant a fresh current → kept ≡ fresh_of current → IsUpdateRun files fresh (payload_of current) run → Decides meant kept (λ r. r ≡ run) files taking → Becomes a fresh current files taking
 becomes a fresh current files meant kept run (takings.Refused outcome) m k ran d = inl (subst (IsUpdateRun files fresh (payload_of current)) (sym d) ran)
 becomes a fresh current files meant kept run takings.Same m k ran d = absurd d
-becomes a fresh current files meant kept run (takings.Follows file load) m k ran d =
-    (
-      d.0, d.1, subst (IsUpdateRun files fresh (payload_of current)) (sym d.2) ran, subst IsFalse m d.3,
-      subst (λ (x : List ℕ). IsFile files x d.0.items file.items) k d.4, d.5,
-    )
+becomes a fresh current files meant kept run (takings.Follows file load) m k ran d = (
+  d.0,
+  d.1,
+  subst (IsUpdateRun files fresh (payload_of current)) (sym d.2) ran,
+  subst IsFalse m d.3,
+  subst (λ (x : List ℕ). IsFile files x d.0.items file.items) k d.4,
+  d.5,
+)
 becomes a fresh current files meant kept run (takings.Meant file) m k ran (stored, inl e, f) =
     (stored, inl (subst (IsUpdateRun files fresh (payload_of current)) (sym e) ran), subst (λ (x : List ℕ). IsFile files x stored.items file.items) k f)
-becomes a fresh current files meant kept run (takings.Meant file) m k ran (stored, inr h, f) =
-    (
-      stored, inr (h.0, subst (IsUpdateRun files fresh (payload_of current)) (sym h.1) ran, subst IsTrue m h.2),
-      subst (λ (x : List ℕ). IsFile files x stored.items file.items) k f,
-    )
+becomes a fresh current files meant kept run (takings.Meant file) m k ran (stored, inr h, f) = (
+  stored,
+  inr (h.0, subst (IsUpdateRun files fresh (payload_of current)) (sym h.1) ran, subst IsTrue m h.2),
+  subst (λ (x : List ℕ). IsFile files x stored.items file.items) k f,
+)
 
 -- ---- the names and the repertoire of the files
 
