@@ -498,24 +498,26 @@ def try_parts(program, tell):
 
 # ---- names and fresh keys
 
-HAMZA = "#define XK_dead_schwa 0xfe8a\n#define XK_dead_hamza 0xfe8d\n"
-NAMED = OLD + '<dead_hamza> <a> : "أ"\n'
+# A name that is not built in, and one that is, as in the header of a newer X11.
+MINE = 0xFE9F
+HEADER = "#define XK_dead_mine 0xfe9f\n#define XK_dead_hamza 0xfe8d\n"
+NAMED = OLD + '<dead_mine> <a> : "أ"\n'
 
 
 def try_names(program, tell):
     """The names with which a table was taken are kept: a start has them, and an update reads the next table by them."""
+    names = ("--names", "builtin", "--names", "new.h")
     with Room(program) as room:
-        room.write("new.h", HAMZA)
+        room.write("new.h", HEADER)
         room.write("named", NAMED)
-        room.write("named_more", NAMED + '<dead_hamza> <e> : "إ"\n')
+        room.write("named_more", NAMED + '<dead_mine> <e> : "إ"\n')
         room.write("named_follows", NAMED + '<Multi_key> <apostrophe> <a> : "ⓐ"\n')
         hint = "composecheck: hint: `--names builtin --names FILE` adds the names of a header of your own\n"
         status, out, err = room.update("named")
-        tell.expect("a name that is not built in", (status, out, err.startswith("composecheck: named:3:2: "), err.endswith(hint)), (2, "", True, True))
-        names = ("--names", "builtin", "--names", "new.h")
+        tell.expect("a name that is not built in", (status, out, err.startswith("composecheck: named:3:1: "), err.endswith(hint)), (2, "", True, True))
         tell.expect("it is read by the names of a file", room.update("named", *names), (0, "stored\n", ""))
         lines = room.kept_names()[0]
-        tell.expect("the names are kept", (lines.endswith(HAMZA), "XK_Multi_key" in lines), (True, True))
+        tell.expect("the names are kept", (lines.endswith(HEADER), "XK_Multi_key" in lines), (True, True))
         tell.expect("the same names", room.update("named", *names), (0, "unchanged\n", ""))
         tell.expect("the kept names", room.update("named"), (0, "unchanged\n", ""))
         tell.expect("a table that follows, by the kept names", (room.update("named_follows"), room.kept_names()[0]), ((0, "stored\n", ""), lines))
@@ -526,12 +528,13 @@ def try_names(program, tell):
         tell.expect("it types by the names", room.typed(0x27, 0x61), "ⓐ")
         with room.client() as client:
             client.open(7)
-            tell.expect("also the new key", [client.key(7, it).text for it in (0xFE8D, 0x61)], ["", "أ"])
+            tell.expect("also the new key", [client.key(7, it).text for it in (MINE, 0x61)], ["", "أ"])
         room.write("named_longer", read(room.path("named_follows")).decode() + '<Multi_key> <apostrophe> <b> : "ⓑ"\n')
         got = room.update("named_longer")
         tell.expect("an update beside the service, by the kept names", (got[0], bool(STORED.fullmatch(got[1])), got[2], room.kept_names()[0]), (0, True, "", lines))
-        tell.expect("other names beside the service are meant", room.update("old", "--names", "builtin", "--accept", "/dev/null")[0], 2)
-        room.start("--names", "builtin", "--names", "new.h")
+        unread = "composecheck: the table in use can't be read by the names that are given: give those that it was read by too\n"
+        tell.expect("names by which the table in use can't be read", room.update("old", "--names", "builtin"), (2, "", unread))
+        room.start(*names)
         tell.expect("a service that is given the same names", room.is_running(), True)
         tell.expect("a restart has the names", (room.start(), room.typed(0x27, 0x62)), (True, "ⓑ"))
         before = room.all_bytes()
@@ -539,20 +542,21 @@ def try_names(program, tell):
         tell.expect("a service that is given other names", (room.start("--names", "builtin"), room.ended, room.complained()), (False, 2, other))
         tell.expect("nothing changes", room.all_bytes(), before)
     with Room(program) as room:
-        room.write("new.h", HAMZA)
+        room.write("new.h", HEADER)
         room.write("named", NAMED)
         room.update("old")
         tell.expect("the built-in names are kept as no lines", (room.kept_names(), room.update("old", "--names", "builtin")), (("", []), (0, "unchanged\n", "")))
         tell.expect("status of the built-in names", "names: built in\n" in room.status()[1], True)
         room.start()
-        tell.expect("other names alone are meant", room.update("old", "--names", "builtin", "--names", "new.h"), (0, "stored\n", TAKEN))
-        tell.expect("they are kept", room.kept_names()[0].endswith(HAMZA), True)
+        patient = ("--timeout", "120")
+        tell.expect("other names alone are meant", room.update("old", *names, *patient), (0, "stored\n", TAKEN))
+        tell.expect("they are kept", room.kept_names()[0].endswith(HEADER), True)
         tell.expect("dry-run", room.update("old", "--names", "builtin", "--dry-run"), (0, "would be stored, and sessions would begin anew\n", ""))
-        tell.expect("a table with the new names", room.update("named", "--fresh", "dead_hamza"), (0, "stored\n", TAKEN))
+        tell.expect("a table with the new names", room.update("named", "--fresh", "dead_mine", *patient), (0, "stored\n", TAKEN))
         with room.client() as client:
             client.open(7)
-            tell.expect("the new key types", [client.key(7, it).text for it in (0xFE8D, 0x61)], ["", "أ"])
-        tell.expect("the table before it has the names too", (room.update("--back"), room.kept(), room.kept_names()[0].endswith(HAMZA)), ((0, "stored\n", TAKEN), [OLD], True))
+            tell.expect("the new key types", [client.key(7, it).text for it in (MINE, 0x61)], ["", "أ"])
+        tell.expect("the table before it has the names too", (room.update("--back", *patient), room.kept(), room.kept_names()[0].endswith(HEADER)), ((0, "stored\n", TAKEN), [OLD], True))
         tell.expect("--back takes no names", room.update("--back", "--names", "builtin")[0], 2)
 
 

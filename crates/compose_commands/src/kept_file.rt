@@ -109,7 +109,9 @@ impl<R: Files<File = File> + AllocGlobal> KeptFile<'_, R> {
     /// change stays.
     /// Errors: the reason if it can't be stored; nothing changes in the folder then.
     pub fn store_settings(&self, alloc: Global) -> io::Result<()> {
-        let file = self.settings.file(alloc, self.kept.rule, &self.kept.payload)?;
+        let file = self
+            .settings
+            .file(alloc, self.kept.rule, &self.kept.payload)?;
         self.folder.rewrite(self.rt, &file)
     }
 }

@@ -76,7 +76,9 @@ fn name_count(lines: &[u8]) -> Option<u32> {
     if lines.is_empty() {
         return None;
     }
-    let defined = lines.split(|byte| *byte == b'\n').filter(|line| line.starts_with(b"#define"));
+    let defined = lines
+        .split(|byte| *byte == b'\n')
+        .filter(|line| line.starts_with(b"#define"));
     Some(u32::try_from(defined.count()).unwrap_or(u32::MAX))
 }
 

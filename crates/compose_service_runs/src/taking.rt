@@ -221,8 +221,15 @@ fn is_other(wanted: Wanted<'_>, files: &UpdateFiles, current: &StoredTable<'_>) 
     ensures { result
         ≡ words.is_other (asked_by wanted.entry files.now) (Some (table_of current.now)) }
 {
-    needs_other(wanted.has_repertoire, &files.repertoire, &current.repertoire)
-        || needs_other(wanted.has_names, kept_names(&files.names.lines), &current.names)
+    needs_other(
+        wanted.has_repertoire,
+        &files.repertoire,
+        &current.repertoire,
+    ) || needs_other(
+        wanted.has_names,
+        kept_names(&files.names.lines),
+        &current.names,
+    )
 }
 
 /// Returns whether these bytes were given, and are others than those that are kept.
