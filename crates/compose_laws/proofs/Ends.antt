@@ -16,8 +16,8 @@ use Rattle.compose_migration.specs.declared.refusal.Refusal.{Refusal}
 use Rattle.compose_migration.specs.declared.refusal.Refusal.TheVariants as refusals
 use Rattle.compose_program.specs.Faults.{IsFaultInForm}
 use Rattle.compose_program.specs.Questions.{Answers}
-use Rattle.compose_program.specs.declared.faults.FaultForm.{FaultForm}
-use Rattle.compose_program.specs.declared.faults.FaultForm.TheVariants.{Line, Details, Words}
+use Rattle.compose_report.specs.declared.form.Form.{Form}
+use Rattle.compose_report.specs.declared.form.Form.TheVariants.{Line, Details, Words}
 use Rattle.compose_report.specs.Outcomes.{IsNoted, IsWorded, PrintsErrors, fault_end, output_text}
 use Rattle.compose_report.specs.declared.outcome.Outcome.{Outcome}
 use Rattle.compose_laws.specs.Runs.{Run, Ends, EndsWith}
@@ -53,7 +53,7 @@ fault_status (faults.Refused part text) = omega arith
 fault_status faults.Word = omega arith
 
 -- in each form the outcome prints a text on standard error alone
-pub fault_prints : (form : FaultForm) (fault : Fault) (outcome : Outcome) → IsFaultInForm form fault outcome → (text : List ℕ) × PrintsErrors text (fault_end fault) outcome
+pub fault_prints : (form : Form) (fault : Fault) (outcome : Outcome) → IsFaultInForm form fault outcome → (text : List ℕ) × PrintsErrors text (fault_end fault) outcome
 fault_prints Line fault outcome h = (fault_lines h.0 false fault, h.1)
 fault_prints Details fault outcome h = (fault_lines h.0 true fault, h.1)
 fault_prints Words fault outcome h = (fault_words h.0 fault, h.1)

@@ -4,6 +4,27 @@ use Rattle.std.specs.Prelude.{Bool, true, false, Option, Some, None, Result, Ok,
 use Rattle.std.specs.Option.{option_map}
 use Rattle.std.specs.declared.alloc.Global.{Global}
 use Rattle.std.specs.declared.string.String.{String}
+use Rattle.keysym_core.specs.Names.{KeysymNames}
+use Rattle.compose_explaining.specs.Explains.{IsExplainOf}
+use Rattle.compose_explaining.specs.declared.question.Explain.{Explain as Asking}
+use Rattle.compose_given.specs.declared.chosen.NotedTable.{NotedTable}
+use Rattle.compose_input.specs.declared.names.NameFiles.{NameFiles}
+use Rattle.compose_input.specs.declared.tables.TableFiles.{TableFiles}
+use Rattle.compose_listed_as.specs.Listed.{IsListedAs, IsListedBy}
+use Rattle.compose_listed_as.specs.Run.{PrintsListed, version_of, end_of as listed_ended}
+use Rattle.compose_listed_as.specs.declared.listed.ListedAs.{ListedAs}
+use Rattle.compose_merging.specs.Runs.{IsKeptMerge, IsMergeOutcome, IsPrinted}
+use Rattle.compose_merging.specs.declared.asking.Merging.{Merging}
+use Rattle.compose_merging.specs.declared.asking.MergingFault.{MergingFault}
+use Rattle.compose_merging.specs.declared.asking.MergingFault.TheVariants as mergings
+use Rattle.compose_readers.specs.Files.{FileRead}
+use Rattle.compose_readers.specs.Refusals.{refusal_from}
+use Rattle.compose_readers.specs.declared.walking.Refusal.{Refusal as ReaderRefusal}
+use Rattle.compose_readers.specs.declared.xkbcommon.Version.{Version}
+use Rattle.compose_report.specs.Told.{IsTold, arguments_of}
+use Rattle.compose_report.specs.declared.form.Form.{Form}
+use Rattle.compose_report.specs.declared.form.Form.TheVariants.{Line, Details, Words}
+use Rattle.compose_report.specs.declared.told.Told.{Told}
 use Rattle.compose_answer.specs.Ends.{end_of, status_of}
 use Rattle.compose_answer.specs.declared.answer.Answer.{Answer}
 use Rattle.compose_answer.specs.declared.answer.Answer.TheVariants.{Yes, No, Invalid, FreshNotAllowed}
@@ -14,7 +35,7 @@ use Rattle.compose_arguments.specs.declared.given_tables.BothTables.TheVariants.
 use Rattle.compose_arguments.specs.declared.given_tables.TypeTable.TheVariants.{Manifest as OneManifest, File}
 use Rattle.compose_arguments.specs.declared.lint_arguments.LintArguments.{LintArguments}
 use Rattle.compose_arguments.specs.declared.question.Question.{Question}
-use Rattle.compose_arguments.specs.declared.question.Question.TheVariants.{Keys, Check, Explain, Diff, How, List as ListTable, Lint, Make, Manifest}
+use Rattle.compose_arguments.specs.declared.question.Question.TheVariants.{Keys, Check, Explain, Diff, Merge, How, List as ListTable, ListAs, Lint, Make, Manifest}
 use Rattle.compose_details.specs.declared.given.Given.{Given}
 use Rattle.compose_diff_rows.specs.declared.asking.DiffFault.{DiffFault}
 use Rattle.compose_diff_rows.specs.declared.asking.DiffFault.TheVariants.{Input, Accept}
@@ -124,6 +145,42 @@ manifest_quiet : (found : List FoundSource) (outcome : Outcome) → IsWrittenMan
 manifest_quiet found outcome (inl p) = output_quiet outcome p.1
 manifest_quiet found outcome (inr p) = errors_quiet outcome p.1
 
+-- what is told, or a refusal, in this form
+told_quiet : (form : Form) (given : Given) (told : Result Told Refusal) (outcome : Outcome) → IsTold form given told outcome → IsQuiet outcome
+told_quiet form given (Ok told) outcome r = numbered_quiet true r.0 (arguments_of given) (string_bytes told.details) (Ok told.answer) outcome r.1
+told_quiet Line given (Err refusal) outcome r = numbered_quiet true r.0 (arguments_of given) [] (Err refusal) outcome r.1
+told_quiet Details given (Err refusal) outcome r = worded_quiet (Err refusal) outcome r
+told_quiet Words given (Err refusal) outcome r = worded_quiet (Err refusal) outcome r
+
+explained_quiet : (asked : Asking) (names : NameFiles) (tables : List NotedTable) (outcome : Outcome) → IsExplainOf asked names tables outcome → IsQuiet outcome
+explained_quiet asked names [] outcome r = absurd r
+explained_quiet asked names (old ∷ []) outcome r = absurd r
+explained_quiet asked names (old ∷ new ∷ []) outcome r = noted_quiet r.reported.printed outcome r.reported.noted (told_quiet asked.form r.given r.told r.reported.printed r.reported.is)
+explained_quiet asked names (old ∷ new ∷ other ∷ tables) outcome r = absurd r
+
+merged_quiet : (names : NameFiles) (old new : TableFiles) (fresh : List (List ℕ)) (merged : Result Merging MergingFault) (outcome : Outcome) → IsPrinted names old new fresh merged outcome → IsQuiet outcome
+merged_quiet names old new fresh (Ok merging) outcome r = answered_quiet ends.Yes outcome r.ends (omega arith)
+merged_quiet names old new fresh (Err (mergings.Input refusal)) outcome r = worded_quiet (Err refusal) outcome r.is
+merged_quiet names old new fresh (Err mergings.TooLarge) outcome r = errors_quiet outcome r
+merged_quiet names old new fresh (Err mergings.NotReadBack) outcome r = errors_quiet outcome r
+
+noted_merge_quiet : (names : NameFiles) (old new : NotedTable) (fresh : List (List ℕ)) (outcome : Outcome) → IsMergeOutcome names old new fresh outcome → IsQuiet outcome
+noted_merge_quiet names old new fresh outcome r = noted_quiet r.printed outcome r.noted (merged_quiet names old.table new.table fresh r.is.merged r.printed r.is.printed)
+
+merge_quiet : (skip : Bool) (names : NameFiles) (old new : NotedTable) (fresh : List (List ℕ)) (outcome : Outcome) → IsKeptMerge skip names old new fresh outcome → IsQuiet outcome
+merge_quiet false names old new fresh outcome r = noted_merge_quiet names old new fresh outcome r
+merge_quiet true names old new fresh outcome r = same_quiet r.printed outcome r.output r.file r.ended (noted_merge_quiet names r.kept_old r.kept_new fresh r.printed r.is)
+
+-- a table that another reader refuses has no lines
+listed_end : (listed : ListedAs) (version : Version) (names : KeysymNames) (files : List FileRead) (refusal : Option ReaderRefusal) (outcome : Outcome) (note : List ℕ)
+    → IsListedBy version names files refusal listed → PrintsListed note listed outcome → IsQuiet outcome
+listed_end listed version names files None outcome note is r = answered_quiet ends.Yes outcome (r.ended ∙ ap listed_ended is.taken) (omega arith)
+listed_end listed version names files (Some refusal) outcome note is r = λ h. record { output = ap string_bytes r.output ∙ is.lists; file = r.file }
+
+listed_quiet : {note : List ℕ} (listed : ListedAs) (outcome : Outcome) (names : KeysymNames) (files : List FileRead) (version : Version) → IsListedAs version names files listed → PrintsListed note listed outcome
+    → IsQuiet outcome
+listed_quiet {note} listed outcome names files version is r = listed_end listed version names files (refusal_from files 10 5 0) outcome note is r
+
 -- ---- every question
 
 quiet : (run : Run) (question : Question) (outcome : Outcome) → Answers run.folder run.environment run.options question outcome → IsQuiet outcome
@@ -132,15 +189,16 @@ quiet run (Keys (File table) keys) outcome r = followed_quiet r.is.printed outco
 quiet run (Check (Manifests tables) fresh repertoire certificate) outcome r = worded_quiet r.is.answered outcome r.is.reported
 quiet run (Check (Files pair) fresh repertoire certificate) outcome r =
     noted_quiet r.is.reported.printed outcome r.is.reported.noted (worded_quiet r.is.answered r.is.reported.printed r.is.reported.is.reported)
-quiet run (Explain (Manifests paths) fresh all) outcome r = worded_quiet r.is.answered outcome r.is.reported
-quiet run (Explain (Files pair) fresh all) outcome r = noted_quiet r.is.reported.printed outcome r.is.reported.noted (worded_quiet r.is.answered r.is.reported.printed r.is.reported.is.reported)
+quiet run (Explain old new fresh all) outcome h = let r = h.2 in explained_quiet h.0 r.read.names r.read.tables.items outcome r.is
 quiet run (Diff arguments fresh) outcome r =
     followed_quiet r.is.printed outcome r.is.followed
     (noted_quiet r.is.is.printed r.is.printed r.is.is.noted (diff_quiet r.is.kept.files arguments (words fresh.items) r.colored r.is.is.answered r.is.is.printed r.is.is.is_printed))
+quiet run (Merge arguments fresh) outcome r = merge_quiet arguments.skip_faulty r.read.names r.old r.new (words fresh.items) outcome r.is
 quiet run (How arguments texts) outcome r = followed_quiet r.is.printed outcome r.is.followed (how_quiet arguments.json r.is.kept.read (unwrap_or (option_copied arguments.repertoire) []) (unwrap_or r.repertoire []) (words texts.items) r.is.answered r.is.printed r.is.is_printed)
 quiet run (ListTable arguments) outcome r =
     followed_quiet r.is.printed outcome r.is.followed
     (noted_quiet r.is.is_printed.reported r.is.printed r.is.is_printed.noted (worded_quiet r.is.answered r.is.is_printed.reported r.is.is_printed.is))
+quiet run (ListAs arguments) outcome r = listed_quiet r.listed outcome r.is_listed.names r.is_listed.files (version_of arguments.reader) r.is_listed.is r.printed
 quiet run (Lint arguments) outcome r =
     followed_quiet r.is.noted outcome r.is.followed (noted_quiet r.is.printed r.is.noted r.is.is_noted (lint_quiet r.files arguments r.is.answered r.is.printed r.is.is_printed))
 quiet run (Make (Manifests paths) fresh all repertoire output) outcome h = let r = h.5 in written_quiet r.printed outcome r.written (worded_quiet r.is.answered r.printed r.is.reported)

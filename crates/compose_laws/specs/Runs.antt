@@ -4,14 +4,22 @@ use Rattle.compose_answer.specs.Ends.{status_of}
 use Rattle.compose_arguments.specs.declared.diff_arguments.DiffArguments.{DiffArguments}
 use Rattle.compose_arguments.specs.declared.given_tables.BothTables.{BothTables}
 use Rattle.compose_arguments.specs.declared.given_tables.BothTables.TheVariants.{Manifests, Files}
+use Rattle.compose_arguments.specs.declared.given_tables.TypeTable.{TypeTable}
 use Rattle.compose_arguments.specs.declared.question.Question.{Question}
 use Rattle.compose_check.specs.Input.{Input}
 use Rattle.compose_diff_rows.specs.Answers.{Asked}
+use Rattle.compose_explaining.specs.Explains.{input_of}
 use Rattle.compose_folder.specs.Content.{Entry}
+use Rattle.compose_given.specs.GivenTable.{IsGivenTable}
+use Rattle.compose_given.specs.Names.{names_for}
+use Rattle.compose_given.specs.declared.chosen.NotedTable.{NotedTable}
+use Rattle.compose_input.specs.Names.{AreNames}
+use Rattle.compose_input.specs.declared.names.NameFiles.{NameFiles}
 use Rattle.compose_migration.specs.Migration.{GivenMigration}
+use Rattle.compose_program.specs.Faults.{is_file}
 use Rattle.compose_program.specs.Questions.{names_of}
 use Rattle.compose_program.specs.Runs.{IsRun}
-use Rattle.compose_program.specs.declared.faults.FaultForm.{FaultForm}
+use Rattle.compose_report.specs.declared.form.Form.{Form}
 use Rattle.compose_report.specs.declared.outcome.Outcome.{Outcome}
 use Rattle.compose_runs.specs.CheckFiles.{AreCheckFiles, AreFoundCheckFiles, check_given}
 use Rattle.compose_runs.specs.DiffFiles.{AreDiffFiles, AreFoundFiles}
@@ -19,7 +27,7 @@ use Rattle.compose_runs.specs.Differing.{diff_asked}
 use Rattle.compose_runs.specs.Files.{AreMigrationFiles, migration_given}
 use Rattle.compose_runs.specs.Skipping.{IsKeptPair}
 use Rattle.compose_runs.specs.declared.checking.CheckTexts.{CheckTexts}
-use Rattle.compose_runs.specs.declared.environment.Environment.{Environment}
+use Rattle.compose_given.specs.declared.environment.Environment.{Environment}
 use Rattle.compose_runs.specs.declared.options.Options.{Options}
 
 -- what a run has besides its question: the folder, the environment, the options of every command,
@@ -28,7 +36,7 @@ pub record Run : Type 0 where
   pub folder : Option (List Entry)
   pub environment : Environment
   pub options : Options
-  pub form : FaultForm
+  pub form : Form
 
 -- the outcome of this question
 abbrev pub Ends : Run → Question → Outcome → Type 0
@@ -47,7 +55,14 @@ DefinesTables run (Manifests paths) fresh given =
 DefinesTables run (Files pair) fresh given =
     (files : _) × AreFoundFiles run.folder run.environment (names_of run.options) pair files × (given ≡ migration_given files fresh)
 
--- the input of a check: these, the repertoire and the certificate
+-- the same, where each table is named for itself, as `explain` has them
+abbrev pub DefinesBoth : Run → TypeTable → TypeTable → List (List ℕ) → GivenMigration → Type 0
+DefinesBoth run old new fresh given =
+    (names : NameFiles) × AreNames run.folder (names_for (is_file old) (names_of run.options)) names
+    × (old_read : NotedTable) × IsGivenTable run.folder run.environment old old_read × (new_read : NotedTable) × IsGivenTable run.folder run.environment new new_read
+    × (given ≡ input_of names old_read.table new_read.table fresh)
+
+-- the input of a check: both tables, the repertoire and the certificate
 abbrev pub DefinesCheck : Run → BothTables → CheckTexts → Input → Type 0
 DefinesCheck run (Manifests tables) texts input =
     (files : _) × AreCheckFiles run.folder (names_of run.options) (record { tables = tables; repertoire = texts.repertoire; certificate = texts.certificate }) files × (input ≡ check_given files)

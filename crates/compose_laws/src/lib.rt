@@ -18,6 +18,7 @@ ghost use Rattle.std.specs.declared.vec.Vec.{Vec};
 ghost use Rattle.compose_answer.specs.Ends.{status_of};
 ghost use Rattle.compose_arguments.specs.declared.diff_arguments.DiffArguments.{DiffArguments};
 ghost use Rattle.compose_arguments.specs.declared.given_tables.BothTables.{BothTables};
+ghost use Rattle.compose_arguments.specs.declared.given_tables.TypeTable.{TypeTable};
 ghost use Rattle.compose_arguments.specs.declared.question.Question.{Question};
 ghost use Rattle.compose_arguments.specs.declared.question.Question.TheVariants.{Check, Diff, Explain, Make};
 ghost use Rattle.compose_check.specs.Input.{Input};
@@ -27,7 +28,7 @@ ghost use Rattle.compose_migration.specs.Migration.{GivenMigration};
 ghost use Rattle.compose_program.specs.Questions.{words};
 ghost use Rattle.compose_report.specs.declared.outcome.Outcome.{Outcome};
 ghost use Rattle.compose_runs.specs.declared.checking.CheckTexts.{CheckTexts};
-ghost use Rattle.compose_laws.specs.Runs.{Run, Ends, EndsWith, DefinesTables, DefinesCheck, DefinesDiff};
+ghost use Rattle.compose_laws.specs.Runs.{Run, Ends, EndsWith, DefinesTables, DefinesBoth, DefinesCheck, DefinesDiff};
 ghost use Rattle.compose_laws.specs.Promised.{IsPromised, IsPromisedBut, IsCertified, HasNone, KeepsFrom, LosesNothing, LosesOnlyIntended, IsSilent};
 
 /// If `check` ends with status 0, the new table changes nobody's typing, but for the fresh keysyms
@@ -86,13 +87,13 @@ pub fn law_diff()
 /// If `explain` ends with status 0, with `--all` or without, the new table changes nobody's typing
 /// but for the keys in `--fresh`. If it ends with status 1, it changes the typing of some keys.
 pub fn law_explain()
-    ensures keeps { (run : Run) (tables : BothTables) (fresh : Vec (Bor (List ℕ)) Global)
-        (all : Bool) (outcome : Outcome) → EndsWith 0 run (Explain tables fresh all) outcome
-        → (given : GivenMigration) × DefinesTables run tables (words fresh.items) given
+    ensures keeps { (run : Run) (old new : TypeTable) (fresh : Vec (Bor (List ℕ)) Global)
+        (all : Bool) (outcome : Outcome) → EndsWith 0 run (Explain old new fresh all) outcome
+        → (given : GivenMigration) × DefinesBoth run old new (words fresh.items) given
         × KeepsFrom given }
-    ensures differs { (run : Run) (tables : BothTables) (fresh : Vec (Bor (List ℕ)) Global)
-        (all : Bool) (outcome : Outcome) → EndsWith 1 run (Explain tables fresh all) outcome
-        → (given : GivenMigration) × DefinesTables run tables (words fresh.items) given
+    ensures differs { (run : Run) (old new : TypeTable) (fresh : Vec (Bor (List ℕ)) Global)
+        (all : Bool) (outcome : Outcome) → EndsWith 1 run (Explain old new fresh all) outcome
+        → (given : GivenMigration) × DefinesBoth run old new (words fresh.items) given
         × (KeepsFrom given → ⊥) }
 {}
 
