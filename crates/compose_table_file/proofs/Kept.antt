@@ -55,17 +55,19 @@ name_of name rule h = go (bytes_eq name (mark Longest)) (bytes_eq name (mark Ref
     go false false el er e = cc
 
 two_parts : (n f : Source) (names fresh : List ℕ)
-    → cond (bytes_eq n.name (codes "names") && bytes_eq f.name (codes "fresh")) (Some (n.bytes, f.bytes)) None ≡ Some (names, fresh)
+    → cond {A = Option (List ℕ × List ℕ)} (bytes_eq n.name (codes "names") && bytes_eq f.name (codes "fresh")) (Some (n.bytes, f.bytes)) None ≡ Some (names, fresh)
     → (n ≡ record { name = codes "names"; bytes = names }) × (f ≡ record { name = codes "fresh"; bytes = fresh })
 two_parts n f names fresh h = go (bytes_eq n.name (codes "names")) (bytes_eq f.name (codes "fresh")) refl refl h
   where
     source : (s : Source) (name bytes : List ℕ) → s.name ≡ name → s.bytes ≡ bytes → s ≡ record { name = name; bytes = bytes }
     source s name bytes e d =
         ap (λ x. let t : Source = record { name = x; bytes = s.bytes } in t) e ∙ ap (λ x. let t : Source = record { name = name; bytes = x } in t) d
-    go : (a b : Bool) → bytes_eq n.name (codes "names") ≡ a → bytes_eq f.name (codes "fresh") ≡ b → cond (a && b) (Some (n.bytes, f.bytes)) None ≡ Some (names, fresh)
+    go : (a b : Bool) → bytes_eq n.name (codes "names") ≡ a → bytes_eq f.name (codes "fresh") ≡ b → cond {A = Option (List ℕ × List ℕ)} (a && b) (Some (n.bytes, f.bytes)) None ≡ Some (names, fresh)
         → (n ≡ record { name = codes "names"; bytes = names }) × (f ≡ record { name = codes "fresh"; bytes = fresh })
     go true true ea eb e =
-        let both : (n.bytes, f.bytes) ≡ (names, fresh) = same_Some (n.bytes, f.bytes) (names, fresh) e in
+        let found : List ℕ × List ℕ = (n.bytes, f.bytes) in
+        let given : List ℕ × List ℕ = (names, fresh) in
+        let both : found ≡ given = same_Some found given e in
         (
           source n (codes "names") names ((bytes_eq-Decides n.name (codes "names")).0 ea) (ap (λ (p : List ℕ × List ℕ). p.0) both),
           source f (codes "fresh") fresh ((bytes_eq-Decides f.name (codes "fresh")).0 eb) (ap (λ (p : List ℕ × List ℕ). p.1) both),
