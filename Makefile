@@ -14,6 +14,7 @@
 # make release        what the page of a release holds, in packages/release: the archive, apt/ with the packages, sums, and with LLVM=FOLDER an archive of modules
 # make test-packages  looks at what the packages hold
 # make desk           types into windows through IBus and fcitx5, also in GNOME Shell and KWin, on displays that nobody sees (docs/TYPING.md)
+# make pages          writes docs/made anew, what each crate promises and defines, from the sources: after a doc, a contract or a comment in specs/ changed
 # make names          writes the built-in names anew from HEADERS (those in packaging/xorgproto), and prints what changed
 # make compose_trials proves and builds ./compose_trials, which `make real` and `make bench` need too
 # make compose_as_reader proves and builds ./compose_as_reader, which `make real` needs too
@@ -189,6 +190,9 @@ test-packages: composecheck
 desk: composecheck lib
 	python3 tests/desk/run.py ./composecheck
 
+pages:
+	python3 tools/pages.py
+
 HEADERS = packaging/xorgproto/keysymdef.h packaging/xorgproto/XF86keysym.h
 names:
 	python3 packaging/names.py $(HEADERS) share/composecheck/short-unicode-names.h crates/builtin_names/src/lines.rt
@@ -219,4 +223,4 @@ bench: composecheck compose_trials $(LIBRARY)
 clean:
 	rm -rf composecheck compose_trials compose_as_reader packages build crates/*/out
 
-.PHONY: all help try lib lib-client install-lib install-client install-ibus install-fcitx5 peers rim quick test test-anew test-whole install uninstall dist deb release test-packages desk names real bench clean
+.PHONY: all help try lib lib-client install-lib install-client install-ibus install-fcitx5 peers rim quick test test-anew test-whole install uninstall dist deb release test-packages desk pages names real bench clean

@@ -112,7 +112,7 @@ def files_of(program, prefix):
         files[f"lib/systemd/user/{name}"] = named(f"share/composecheck/{name}")
     for name, place in COMPLETIONS.items():
         files[place] = read(f"{TOP}/share/completions/{name}")
-    for name in ("FORMATS.md", "PROTOCOL.md"):
+    for name in ("FORMATS.md", "OUTPUT.md", "PROTOCOL.md"):
         files[f"share/doc/composecheck/{name}"] = read(f"{TOP}/docs/{name}")
     files["share/doc/composecheck/LICENSE"] = read(f"{TOP}/LICENSE")
     return files

@@ -2,9 +2,10 @@
 """documents.py [FOLDER]: what the documents of the repository, or of a copy of it in FOLDER, name is there:
 
   - links lead to a file, and to a heading of it,
+  - the pages of docs/made are those that tools/pages.py makes of the sources, and the documents that people write have at most 250 KiB,
   - each function, clause and definition that docs/PROVED.md, docs/DEFINITIONS.md and docs/PROMISE.md name in backquotes is in the sources of its crate, and each
-    crate has its row in docs/ARCHITECTURE.md, its section in docs/PROVED.md, and, if it has specs, one in docs/DEFINITIONS.md,
-  - each crate, file, target of make and option that a document names exists, and so does each fault of FORMATS, PROTOCOL and the manual,
+    crate is in one row of docs/ARCHITECTURE.md,
+  - each crate, file, target of make and option that a document names exists, and so does each fault of OUTPUT, PROTOCOL and the manual,
     under its number, and each limit among the numbers of the crates' sources,
   - README has at most 9,216 bytes, the version of the program is that of README, CHANGELOG and the manual, and the headers of which `--version` says
     that the built-in names are those are the ones that packaging/xorgproto has, by its page and by the guide,
@@ -20,12 +21,14 @@ import sys
 
 TOP = os.path.abspath(sys.argv[1]) if len(sys.argv) > 1 else os.path.dirname(os.path.dirname(os.path.abspath(__file__)))
 MOST_README = 9216
+# Of README.md, CONTRIBUTING.md and docs/*.md together.
+MOST_WRITTEN = 250 * 1024
 MANUALS = ["docs/composecheck.1", "docs/composecheck.5"]
 MOST_COLUMNS = 100
 # Words that the documents used in senses of their own: plain English has print, report, after, is, idle, checked, costly and again for them.
 RETIRED = re.compile(r"\b(?:told|tell(?:s|ing)?|said|so many|behind|stands(?! for\b)|stood|rests|rested|look(?:s|ed)? at|dear(?:er)?|anew)\b", re.I)
 # Documents whose numbers with a thousands' comma are limits of the program.
-WITH_LIMITS = ["README.md", "docs/FORMATS.md", "docs/GUIDE.md", "docs/PROTOCOL.md", "docs/SERVICE.md", *MANUALS]
+WITH_LIMITS = ["README.md", "docs/FORMATS.md", "docs/GUIDE.md", "docs/OUTPUT.md", "docs/PROTOCOL.md", "docs/SERVICE.md", *MANUALS]
 # Options of other programs stand in commands that begin so.
 FOREIGN = re.compile(r"\b(?:rt|systemctl|dpkg-deb|taskset|valgrind|perf|python3|git|sed|cc) [^`\n]*")
 FILE = re.compile(r"(?<![\w./$~%-])(?:[\w-]+/)*[\w-]+\.(?:py|sh|md|rt|antt|txt|service|socket|case|edit|c|h)\b(?!\()")
@@ -33,7 +36,7 @@ FILE = re.compile(r"(?<![\w./$~%-])(?:[\w-]+/)*[\w-]+\.(?:py|sh|md|rt|antt|txt|s
 OTHER_FILES = {"SHORTER_PROOFS.md", "keysymdef.h", "XF86keysym.h", "report.md", "files.py", "first.c", "report.c", "stdio.h", "string.h"}
 FOLDERS = ["", "docs/", "share/composecheck/", "tests/", "tools/", "bench/", "packaging/", "lib/", "crates/*/"]
 # Paths in which a word in capitals stands for any, and the file that the worked change of CONTRIBUTING doesn't need.
-PLACEHOLDER = re.compile(r"(?:^|/)(?:NAME|FILE|WHAT_IS_WRONG)\b|is_invisible")
+PLACEHOLDER = re.compile(r"(?:^|/)(?:NAME|FILE|WHAT_IS_WRONG)\b|is_unsafe")
 CITATION = re.compile(r"\bet al\b|\barXiv\b|\bdoi\b|\bthis paper\b|\bthe paper\b|\bpapers\b|\bissue \d|(?<![\w&])#\d+\b|\bTheorem \d|\bSection \d|\[\d+\](?!\()", re.I)
 WORD = re.compile(r"(?:[A-Z]\w*::)?[A-Za-z_][\w'-]*")
 # Words and the crate that has them: `follows` of `check` (`compose_check`), or `serve` of `compose_serve`.
@@ -71,7 +74,6 @@ class Crates:
         self.texts = {it: self.text_of(it, "src/**/*.rt", "specs/**/*.antt") for it in self.names}
         self.proofs = {it: self.text_of(it, "proofs/**/*.antt", "must-fail/*.edit") for it in self.names}
         self.words = {it: set(re.findall(r"[A-Za-z_][\w'-]*", text)) for it, text in self.texts.items()}
-        self.with_specs = [it for it in self.names if os.path.isdir(os.path.join(TOP, "crates", it, "specs"))]
         self.every = "\n".join(self.texts.values())
         self.numbers = {int(it.replace("_", ""), 0) for it in re.findall(r"\b(?:0x[\da-f][\da-f_]*|[1-9][\d_]*)\b", self.every, re.I)}
         self.numbers |= {2 ** int(it) for it in re.findall(r"\b2 \^ (\d+)\b", self.every)}
@@ -121,11 +123,6 @@ def quoted(text):
     return re.findall(r"`([^`\n]+)`", re.sub(r"^```.*?^```$", "", text, flags=re.M | re.S))
 
 
-def crate_rows(text):
-    """Returns the crates of each row of a table that begins with names in backquotes."""
-    return [quoted(first) for first in re.findall(rf"^\| ({NAMES}) \|", text, re.M)]
-
-
 def crate_sections(text):
     """Returns of each section whose heading is names in backquotes these names, and the items of its list, or its whole text if it has none."""
     found = []
@@ -162,25 +159,28 @@ def check_laws(results, document, text, crates):
             results.expect(document, f"`{word}` stands in no source of {crate}", crate not in crates.names or crates.have([crate], word))
 
 
-def named_in(text):
-    """Returns the crates that the sections of a document are about."""
-    return [it for own, _ in crate_sections(text) for it in own]
-
-
 def check_crates(results, texts, crates):
     folders = {os.path.basename(it) for it in glob.glob(os.path.join(TOP, "crates", "*"))}
     for document, text in texts.items():
         for word in re.findall(r"\bcompose_[a-z_]+\b(?!\.[a-z])|\bkeysym_core\b|\bbuiltin_names\b", text):
             known = word in folders or word in crates.every
             results.expect(document, f"there is no crate {word}", known)
-    rows = [it for own in crate_rows(texts["docs/ARCHITECTURE.md"]) for it in own]
-    for document, named, of_crates in (
-        ("docs/ARCHITECTURE.md", rows, crates.names),
-        ("docs/PROVED.md", named_in(texts["docs/PROVED.md"]), crates.names),
-        ("docs/DEFINITIONS.md", named_in(texts["docs/DEFINITIONS.md"]), crates.with_specs),
-    ):
-        for crate in of_crates:
-            results.expect(document, f"{crate} has no row and no section, or more than one", named.count(crate) == 1)
+    rows = "".join(re.findall(r"^\|.*$", texts["docs/ARCHITECTURE.md"], re.M))
+    for crate in crates.names:
+        results.expect("docs/ARCHITECTURE.md", f"{crate} is in no row, or more than once", rows.count(f"`{crate}`") == 1)
+
+
+def check_made(results, texts):
+    """The pages that a script makes are those that it makes now, and what people write stays short enough to be read."""
+    sys.path.insert(0, os.path.join(TOP, "tools"))
+    import pages
+
+    made, there = pages.pages(), {f"{pages.FOLDER}/{it}" for it in os.listdir(os.path.join(TOP, pages.FOLDER)) if it not in pages.OTHERS}
+    for path in sorted(there | set(made)):
+        results.expect(path, "it isn't what `make pages` makes", path in there and read(path) == made.get(path))
+    check_links(results, {it: made[it] for it in made})
+    written = sum(len(text.encode()) for it, text in texts.items() if it in ("README.md", "CONTRIBUTING.md") or it.startswith("docs/") and it not in MANUALS)
+    results.expect("docs", f"README, CONTRIBUTING and docs have {written} bytes, more than {MOST_WRITTEN}", written <= MOST_WRITTEN)
 
 
 def names_below(folder):
@@ -264,24 +264,9 @@ def check_contributing(results, texts, crates):
     """The indented lines that are code stand in the sources, but for the worked change, whose lines have what is new in them."""
     sources = crates.every + "\n".join(crates.proofs.values())
     for line in re.findall(r"^    (\S.*)$", texts["CONTRIBUTING.md"], re.M):
-        if "0xad" in line or "is_invisible" in line:
+        if "200e" in line or "is_unsafe" in line:
             continue
         results.expect("CONTRIBUTING.md", f"the line stands in no source: {line}", line in sources)
-
-
-def check_dependencies(results, text):
-    """The last column of the table of crates has those that a crate depends on, but for those that others among them depend on."""
-    lines = re.findall(r"^(\w+):(.*)$", read("crates.txt"), re.M)
-    direct = {crate: {it for it in rest.split() if it in dict(lines)} for crate, rest in lines}
-
-    def below(crates):
-        return set().union(*(direct[it] | below(direct[it]) for it in crates))
-
-    for crate, said in re.findall(r"^\| `(\w+)` \| .* \| ([\w, -]+) \|$", text, re.M):
-        named = {it if it in direct else f"compose_{it}" for it in said.split(", ")} if said not in ("-", "what they test") else set()
-        if said != "what they test" and crate in direct:
-            holds = named <= direct[crate] and named | below(named) == below({crate})
-            results.expect("docs/ARCHITECTURE.md", f"{crate} depends on something else", holds)
 
 
 def check_citations(results, texts):
@@ -312,7 +297,7 @@ def main():
     for document, text in texts.items():
         check_laws(results, document, text, crates)
     check_crates(results, texts, crates)
-    check_dependencies(results, texts["docs/ARCHITECTURE.md"])
+    check_made(results, texts)
     check_files(results, texts)
     check_commands(results, texts, crates)
     check_faults(results, texts, crates)

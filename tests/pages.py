@@ -20,8 +20,8 @@ INLINE = ("b", "kbd", "del", "ins")
 # ---- what a page has to show
 
 def shown(text):
-    """A text with the numbers of what a reader can't see."""
-    return "".join(f"U+{ord(it):04X}" if re.fullmatch("[\0-\x1f\x7f-\x9f\u061c\u200b\u200e\u200f\u202a-\u202e\u2060-\u2064\u2066-\u2069\ufeff]", it) else it for it in text)
+    """A text with the numbers of what may steer a terminal or the direction of writing."""
+    return "".join(f"U+{ord(it):04X}" if re.fullmatch("[\0-\x1f\x7f-\x9f\u202a-\u202e\u2066-\u2069]", it) else it for it in text)
 
 
 def numbers(text):

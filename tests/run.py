@@ -33,7 +33,7 @@ class Script:
 
     def __init__(self, name, takes, does):
         self.name, self.does = name, " ".join(does.split())
-        self.takes = [it for it in takes.split() if not it.startswith("[")]
+        self.takes = re.sub(r"\[[^\]]*\]", "", takes).split()
         self.needs = [*self.takes, *([LIBRARIES] if name in WITH_LIBRARIES else [])]
 
     def command(self, programs, words):

@@ -3,7 +3,7 @@
 
   build.py NAME ..
 
-Nothing is built that is not proved, so a first build takes long: it says about how many minutes are left, by the seconds that docs/GATE.md has for each
+Nothing is built that is not proved, so a first build takes long: it says about how many minutes are left, by the seconds that docs/made/TIMES.md has for each
 crate and by how fast this machine was so far. What is proved is kept where the gate keeps it (proofs.py), so that neither proves what the other has, and
 a build that was stopped goes on from there. What is built is left in crates/*/out: the programs and static libraries alone (tools/fill.py puts the
 libraries there too, for `rt check`)."""

@@ -19,7 +19,7 @@ printed in one piece.
 Where the machine has two or three processors and at least 2.7 GB for each, it has as many checks run side by side: `rt ci` plans for more
 memory than a check needs, and would run one at a time.
 
-At the end it prints what each crate took that was proved or tried, as the table of docs/GATE.md. The last line is `N passed, M failed`
+At the end it prints what each crate took that was proved or tried, as the table of docs/made/TIMES.md. The last line is `N passed, M failed`
 over all."""
 import concurrent.futures
 import os

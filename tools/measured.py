@@ -1,4 +1,4 @@
-"""The processor time that each crate takes: measured as its checks and its tests run, printed as the table of docs/GATE.md, and read from
+"""The processor time that each crate takes: measured as its checks and its tests run, printed as the table of docs/made/TIMES.md, and read from
 there."""
 import collections
 import os
@@ -6,7 +6,7 @@ import re
 import sys
 
 TOP = os.path.dirname(os.path.dirname(os.path.abspath(__file__)))
-TABLE = os.path.join(TOP, "docs", "GATE.md")
+TABLE = os.path.join(TOP, "docs", "made", "TIMES.md")
 HEAD = "| Crate | Proof s | Its tests s | Edits s | Edits | Proof, wall s | Most memory GB |"
 KINDS = ("proof", "tests", "edits")
 # Runs a command, and adds a line to a file: the crate, the kind of check, its processor seconds, its wall seconds and its memory in bytes. It gives way
@@ -67,7 +67,7 @@ def table_of(found, edits):
 
 
 def rows_known():
-    """Returns the rows of the table of docs/GATE.md: what stands in the columns of each crate."""
+    """Returns the rows of the table of docs/made/TIMES.md: what stands in the columns of each crate."""
     if not os.path.isfile(TABLE):
         return {}
     with open(TABLE, encoding="utf-8") as file:
