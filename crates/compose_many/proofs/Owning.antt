@@ -1,6 +1,7 @@
 -- The owners of the open sessions.
 use Rattle.std.proofs.Common.{◌≡◌, ℕ, ◌<◌, ◌≤◌, List, [], ◌∷◌, ◌++◌, Bool, true, false, cond, length, map, refl, sym, ◌∙◌, ap, subst, append-nil, append_assoc, eq-eqb, arith}
 use Rattle.std.specs.Prelude.{not, Option, Some, None}
+use Rattle.std.specs.Option.{option_or}
 use Rattle.compose_wire.specs.Messages.{Body, close, ReplyBody, opened, fed, was_reset, closed, loaded, state, refused}
 use Rattle.compose_wire.specs.Requests.{body_of}
 use Rattle.compose_wire.specs.Replies.{HasAnswerValue}
@@ -17,7 +18,7 @@ use Rattle.compose_machine.specs.Laws.{Exchange, IsHistory}
 use Rattle.compose_many.specs.Connection.{ConnectionState, Event, closes, AllHappen, exchange_of, closed_of, received, exchanges, closings, sent}
 use Rattle.compose_many.specs.Service.{NumberedEvent, events_of, numbered}
 use Rattle.compose_many.specs.Turns.{IsTurn}
-use Rattle.compose_many.specs.Owners.{owners_noted, owners_when, owners_after, owners_by, owners_of, without, first_own, ClosesOwn, ClosesAs, EndedWithItsSessions, ClosedNone, ClosedAtEnd}
+use Rattle.compose_many.specs.Owners.{owners_noted, owners_when, owners_after, owners_by, owners_of, without, last_own, ClosesOwn, ClosesAs, EndedWithItsSessions, ClosedNone, ClosedAtEnd}
 use Rattle.compose_many.specs.declared.owners.Owner.{Owner}
 use Rattle.compose_many.proofs.Happening.{flat-both, map-both, history-both}
 use Rattle.compose_many.proofs.Serving.{those_of, none_of, events_of-both}
@@ -147,7 +148,7 @@ ended_own c all before h none none_more own = record {
 
 -- ---- closing one session after another
 
--- these sessions were closed, each the connection's first; further ones are closed after them
+-- these sessions were closed, each the connection's last; further ones are closed after them
 pub record ClosedSoFar (c : ℕ) (reading : Reading) (old now : ServiceState) (first owners : List Owner) : Type 0 where
   pub closed : List Exchange
   pub run : IsHistory reading old closed now
@@ -163,8 +164,8 @@ after_close : (c : ℕ) (owners : List Owner) (x : Exchange) → x.request.body 
 after_close c owners x e = ap (λ (b : Body). owners_when c x.request.session owners b x.reply.answer) e
 
 module _ (c : ℕ) (reading : Reading) (old now new : ServiceState) (first owners owners' : List Owner) (s : ClosedSoFar c reading old now first owners) where
-  -- the first session that is left is closed
-  pub closed_more : (n : ℕ) → first_own c owners ≡ Some n → (x : Exchange) → x.request.session ≡ n → x.request.body ≡ close → Step reading now x.request x.reply new → owners' ≡ without n owners
+  -- the last session that is left is closed
+  pub closed_more : (n : ℕ) → last_own c owners ≡ Some n → (x : Exchange) → x.request.session ≡ n → x.request.body ≡ close → Step reading now x.request x.reply new → owners' ≡ without n owners
       → ClosedSoFar c reading old new first owners'
   closed_more n is x same body step rest =
       let after : owners' ≡ owners_after c owners x = rest ∙ ap (λ (m : ℕ). without m owners) (sym same) ∙ sym (after_close c owners x body) in
@@ -178,7 +179,7 @@ module _ (c : ℕ) (reading : Reading) (old now new : ServiceState) (first owner
       }
 
   -- no session is left
-  pub closed_all : first_own c owners ≡ None → ClosesAs c first owners reading old now
+  pub closed_all : last_own c owners ≡ None → ClosesAs c first owners reading old now
   closed_all none = (s.closed, subst (λ (h : List Exchange). ClosesOwn c first h) (append-nil s.closed) (s.each [] none), s.run, s.owners_are)
 
 fewer : (n : ℕ) (owners : List Owner) → length (without n owners) ≤ length owners
@@ -190,9 +191,9 @@ fewer n (o ∷ owners) = by (o.session == n) (fewer n owners)
     by false le = omega (arith, le)
 
 -- there are fewer owners once a session that has one is closed
-pub fewer_left : (c n : ℕ) (owners : List Owner) → first_own c owners ≡ Some n → length (without n owners) < length owners
+pub fewer_left : (c n : ℕ) (owners : List Owner) → last_own c owners ≡ Some n → length (without n owners) < length owners
 fewer_left c n [] h = absurd (cc)
-fewer_left c n (o ∷ owners) h = by (o.connection == c) (fewer_left c n owners) h
+fewer_left c n (o ∷ owners) h = by (last_own c owners) (fewer_left c n owners) (o.connection == c) h
   where
     own : (b : Bool) → b ≡ true → length (cond (not b) (o ∷ without n owners) (without n owners)) < length {A = Owner} (o ∷ owners)
     own true e = let le = fewer n owners in omega (arith, le)
@@ -202,7 +203,19 @@ fewer_left c n (o ∷ owners) h = by (o.connection == c) (fewer_left c n owners)
     other true lt = omega (arith, lt)
     other false lt = omega (arith, lt)
 
-    by : (b : Bool) → (first_own c owners ≡ Some n → length (without n owners) < length owners) → cond b (Some o.session) (first_own c owners) ≡ Some n
+    by : (later : Option ℕ) → (later ≡ Some n → length (without n owners) < length owners) → (b : Bool) → option_or later (cond b (Some o.session) None) ≡ Some n
         → length (cond (not (o.session == n)) (o ∷ without n owners) (without n owners)) < length {A = Owner} (o ∷ owners)
-    by true f e = let same : o.session ≡ n = cc in own (o.session == n) (eq-eqb o.session n same)
-    by false f e = other (o.session == n) (f e)
+    by (Some m) f b e = other (o.session == n) (f e)
+    by None f true e = let same : o.session ≡ n = cc in own (o.session == n) (eq-eqb o.session n same)
+    by None f false e = absurd (cc)
+
+-- of owners and one after them, a connection's last session is that of the one after them, if it is the connection's
+pub last_of_more : (c : ℕ) (owners : List Owner) (o : Owner) → last_own c (owners ++ o ∷ []) ≡ cond (o.connection == c) (Some o.session) (last_own c owners)
+last_of_more c [] o = refl
+last_of_more c (first ∷ owners) o =
+    ap (λ (l : Option ℕ). option_or l (cond (first.connection == c) (Some first.session) None)) (last_of_more c owners o) ∙ by (o.connection == c)
+  where
+    by : (b : Bool) → option_or (cond b (Some o.session) (last_own c owners)) (cond (first.connection == c) (Some first.session) None)
+        ≡ cond b (Some o.session) (option_or (last_own c owners) (cond (first.connection == c) (Some first.session) None))
+    by true = refl
+    by false = refl

@@ -1,5 +1,6 @@
 -- The owners of the open sessions, and which sessions are closed when a connection ends (this project's profile).
 use Rattle.std.specs.Prelude.{◌≡◌, ◌⊎◌, ℕ, ◌==◌, Bool, true, false, not, if◌then◌else◌, List, [], ◌∷◌, ◌++◌, map, filter, fold, Option, Some, None, IsSome}
+use Rattle.std.specs.Option.{option_or}
 use Rattle.compose_wire.specs.Messages.{Body, open_session, close, ReplyBody, opened}
 use Rattle.compose_wire.specs.declared.request.Body.{Body as ProgramBody}
 use Rattle.compose_wire.specs.declared.request.Body.TheVariants.{Open, Close}
@@ -7,7 +8,7 @@ use Rattle.compose_wire.specs.declared.reply.ReplyBody.{ReplyBody as ProgramAnsw
 use Rattle.compose_wire.specs.declared.reply.ReplyBody.TheVariants.{Opened}
 use Rattle.compose_machine.specs.Machine.{ServiceState, Reading, session_of}
 use Rattle.compose_machine.specs.Laws.{Exchange, IsHistory}
-use Rattle.compose_many.specs.Connection.{Event, closes, exchange_of, exchanges, closings}
+use Rattle.compose_many.specs.Connection.{closes, exchange_of, exchanges, closings}
 use Rattle.compose_many.specs.Service.{NumberedEvent, events_of, numbered}
 use Rattle.compose_many.specs.declared.owners.Owner.{Owner}
 
@@ -47,22 +48,22 @@ owners_noted c n owners _ _ = owners
 
 -- ---- what is closed when a connection ends
 
--- the session of this connection that was opened first
-abbrev pub first_own : ℕ → List Owner → Option ℕ
-first_own c [] = None
-first_own c (o ∷ owners) = if o.connection == c then Some o.session else first_own c owners
+-- the session of this connection that was opened last
+abbrev pub last_own : ℕ → List Owner → Option ℕ
+last_own c [] = None
+last_own c (o ∷ owners) = option_or (last_own c owners) (if o.connection == c then Some o.session else None)
 
--- a Close is answered for the first session of the connection c, and so on, until it has none
+-- a Close is answered for the last session of the connection c, and so on, until it has none
 abbrev pub ClosesOwn : ℕ → List Owner → List Exchange → Type 0
-ClosesOwn c owners [] = first_own c owners ≡ None
-ClosesOwn c owners (x ∷ h) = (first_own c owners ≡ Some x.request.session) × (x.request.body ≡ close) × ClosesOwn c (owners_after c owners x) h
+ClosesOwn c owners [] = last_own c owners ≡ None
+ClosesOwn c owners (x ∷ h) = (last_own c owners ≡ Some x.request.session) × (x.request.body ≡ close) × ClosesOwn c (owners_after c owners x) h
 
 -- a Close was answered for each session of the connection c, and nothing else happened
 abbrev pub ClosesAs : ℕ → List Owner → List Owner → Reading → ServiceState → ServiceState → Type 0
 ClosesAs c owners owners' reading old new = (h : List Exchange) × ClosesOwn c owners h × IsHistory reading old h new × (owners' ≡ owners_by c owners h)
 
--- the connection c ended, and then a Close was answered for each of its open sessions, in the order in which they were
--- opened; no session was closed for it before, and nothing happened on it later
+-- the connection c ended, and then a Close was answered for each of its open sessions, the one that was opened last
+-- first; no session was closed for it before, and nothing happened on it later
 pub record EndedWithItsSessions (c : ℕ) (all : List NumberedEvent) : Type 0 where
   pub before : List NumberedEvent
   pub closed : List Exchange
@@ -86,7 +87,7 @@ ClosedAtEnd false c all = ClosedNone c all
 
 -- a connection that ended with its sessions owns none, whatever happened on others since
 abbrev pub EndedOwnNone : Type 0
-EndedOwnNone = (c : ℕ) (all : List NumberedEvent) → EndedWithItsSessions c all → first_own c (owners_of all) ≡ None
+EndedOwnNone = (c : ℕ) (all : List NumberedEvent) → EndedWithItsSessions c all → last_own c (owners_of all) ≡ None
 
 -- if each connection ended with its sessions, or nothing happened on it, no session is open but those that were open
 -- before

@@ -3,7 +3,7 @@ ghost use Rattle.std.specs.Prelude.{◌≡◌, ◌<◌, ◌≤◌, not, ◌==◌
 ghost use Rattle.compose_wire.specs.Messages.{close};
 ghost use Rattle.compose_machine.specs.Machine.{Step};
 ghost use Rattle.compose_machine.specs.Laws.{Exchange};
-ghost use Rattle.compose_many.specs.Owners.{without, with_owner, owners_noted, first_own, ClosesAs};
+ghost use Rattle.compose_many.specs.Owners.{without, with_owner, owners_noted, last_own, ClosesAs};
 
 use compose_serve::Responder;
 use compose_wire::{Body, Reply, ReplyBody as Answered, Request};
@@ -70,23 +70,25 @@ fn forget(owners: &mut Vec<Owner>, session: u32)
     );
 }
 
-/// Returns the session of this connection that was opened first. O(owners).
-fn first_own(owners: &[Owner], number: u64) -> Option<u32>
-    ensures { result ≡ first_own number owners.now }
+/// Returns the session of this connection that was opened last. O(owners that came later).
+fn last_own(owners: &[Owner], number: u64) -> Option<u32>
+    ensures { result ≡ last_own number owners.now }
 {
-    'owners: for owner in owners {
+    let mut rest = owners;
+    'owners: while let Some((owner, before)) = rest.split_last() {
         if owner.connection == number {
             return Some(owner.session);
         }
+        rest = before;
     }
     None
 }
 
-/// Answers a Close for each session that this connection owns, in the order in which they were
-/// opened, and drops the replies.
+/// Answers a Close for each session that this connection owns, the one that was opened last first,
+/// and drops the replies.
 ///
 /// Afterwards the connection owns no session. O(sessions of the connection × owners), plus the cost
-/// of the answers.
+/// of the answers: a service closes a session the quicker the fewer were opened later.
 pub fn close_own<A: Responder>(owners: &mut Vec<Owner>, service: &mut A, alloc: Global, number: u64)
     ensures { ClosesAs number owners.old.items owners.new.items A.reading (A.state service.old) (A.state service.new) }
 {
@@ -95,7 +97,7 @@ pub fn close_own<A: Responder>(owners: &mut Vec<Owner>, service: &mut A, alloc: 
         answer: Answered::Opened,
     };
     'sessions: loop {
-        let Some(session) = first_own(owners.as_slice(), number) else {
+        let Some(session) = last_own(owners.as_slice(), number) else {
             return;
         };
         close(owners, service, alloc, session, &mut reply);

@@ -88,9 +88,31 @@ impl fmt::Display for ShownCharacter {
     }
 }
 
-/// Returns whether a terminal may interpret the character as a command.
-fn is_unsafe(number: u32) -> bool
+/// Returns whether the character with this number is a control character, changes the direction of
+/// writing, or is shown by no terminal. O(1).
+pub fn is_unsafe(number: u32) -> bool
     ensures { result ≡ words.is_unsafe number }
 {
-    matches!(number, 0..=0x1f | 0x7f..=0x9f | 0x202a..=0x202e | 0x2066..=0x2069)
+    is_control(number) || turns_direction(number) || is_invisible(number)
+}
+
+/// Returns whether it is a control character.
+fn is_control(number: u32) -> bool
+    ensures { result ≡ words.is_control number }
+{
+    matches!(number, 0..=0x1f | 0x7f..=0x9f)
+}
+
+/// Returns whether it changes the direction of writing.
+fn turns_direction(number: u32) -> bool
+    ensures { result ≡ words.turns_direction number }
+{
+    matches!(number, 0x61c | 0x200e..=0x200f | 0x202a..=0x202e | 0x2066..=0x2069)
+}
+
+/// Returns whether no terminal shows it.
+fn is_invisible(number: u32) -> bool
+    ensures { result ≡ words.is_invisible number }
+{
+    matches!(number, 0x200b | 0x2060..=0x2064 | 0xfeff)
 }
