@@ -5,8 +5,8 @@ use Rattle.compose_input.specs.declared.tables.TableFiles.{TableFiles}
 use Rattle.compose_details.specs.declared.given.GivenTable.{GivenTable}
 use Rattle.compose_details.specs.declared.given.Given.{Given}
 
--- the names, the arguments that have to name keysyms, and the tables; and the paths and the texts of the repertoire and
--- the certificate
+-- the names, the arguments that have to name keysyms, and the tables; and the paths and the texts
+-- of the repertoire and the certificate
 pub record GivenParts : Type 0 where
   pub names : NameFiles
   pub arguments : List (List ℕ)

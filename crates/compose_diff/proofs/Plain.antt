@@ -1,4 +1,5 @@
--- What is printed has no control characters: no escape, and no newline but the one that ends a line.
+-- What is printed has no control characters: no escape, and no newline but the one that ends a
+-- line.
 use Rattle.std.proofs.Common.{◌≡◌, ℕ, zero, suc, ◌+◌, ◌/◌, ◌%◌, ◌≤◌, Bool, true, false, List, [], ◌∷◌, ◌++◌, flat_map, refl, ◌∙◌, arith, inl, inr, ◌⊎◌, le-leb, leb-false}
 use Rattle.std.specs.Prelude.{◌==◌, ◌||◌, nat_lt, nat_le, codes, Option, Some, None}
 use Rattle.std.specs.List.{list_all}

@@ -22,7 +22,8 @@ AreShown true e xs = AreDifferences e.move.names e.fresh e.move.old e.move.new x
 AreShown false e [] = ⊥
 AreShown false e (x ∷ xs) = (xs ≡ []) × IsLeast e.move.names e.fresh e.move.old e.move.new x
 
--- the text below `no`: the places of the shown differences, and a hint if one helps; nothing below `yes`
+-- the text below `no`: the places of the shown differences, and a hint if one helps; nothing below
+-- `yes`
 abbrev pub IsBelow : Bool → Lined → Lined → Explainable → Answer → List ℕ → Type 0
 IsBelow all old new e (No text) details = (xs : List Evidence) × AreShown all e xs × (details ≡ hinted_texts e.move.names old new xs)
 IsBelow all old new e answer details = details ≡ []

@@ -1,4 +1,5 @@
--- What a command reads: names, then tables, then other files, in this order (defined by this project).
+-- What a command reads: names, then tables, then other files, in this order (defined by this
+-- project).
 use Rattle.std.specs.Prelude.{◌≡◌, ◌⊎◌, ℕ, Bool, List, [], ◌∷◌, ◌++◌, map, Option, Result, Ok, Err}
 use Rattle.std.specs.declared.alloc.Global.{Global}
 use Rattle.std.specs.declared.vec.Vec.{Vec}

@@ -1,5 +1,5 @@
--- The line of a definition that is taken, as `list` prints the line of a sequence: in the form of a Compose file
--- (Compose(5), "FILE DESCRIPTION"), with its place as a comment.
+-- The line of a definition that is taken, as `list` prints the line of a sequence: in the form of a
+-- Compose file (Compose(5), "FILE DESCRIPTION"), with its place as a comment.
 use Rattle.std.specs.Prelude.{ℕ, Bool, false, ◌==◌, if◌then◌else◌, List, [], ◌∷◌, ◌++◌, length, flat_map, Option, Some, None, slice_get, codes}
 use Rattle.std.specs.Fmt.{decimal, digits}
 use Rattle.std.specs.Option.{option_map_or}
@@ -25,7 +25,8 @@ key_name names k = if is_keysym k then printed names k else codes "0x" ++ digits
 abbrev pub key_text : KeysymNames → ℕ → List ℕ
 key_text names k = codes "<" ++ (key_name names k ++ codes "> ")
 
--- a text in quotes, or if it is empty, the name of the keysym without a text; bytes that are no text by their codes
+-- a text in quotes, or if it is empty, the name of the keysym without a text; bytes that are no
+-- text by their codes
 abbrev pub utf8_result : List ℕ → List ℕ
 utf8_result text = if length text == 0 then codes "VoidSymbol" else quote text
 

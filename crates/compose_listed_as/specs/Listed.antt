@@ -24,7 +24,8 @@ pub record IsTakenTable (version : Version) (names : KeysymNames) (files : List 
 abbrev pub refusal_text : Version → Refusal → List ℕ
 refusal_text version refusal = codes ": " ++ (reader_name version ++ (codes " refuses the table: " ++ refusal_words refusal))
 
--- why, and where; for example `composecheck: a:3: libxkbcommon 1.7 refuses the table: a file is empty: b`
+-- why, and where; for example `composecheck: a:3: libxkbcommon 1.7 refuses the table: a file is
+-- empty: b`
 pub record IsRefusedTable (version : Version) (refusal : Refusal) (listed : ListedAs) : Type 0 where
   pub place : List ℕ
   pub behind : List ℕ

@@ -1,5 +1,5 @@
--- The files that a reader reads for a table: those to which includes lead from its root (Compose(5), "FILE DESCRIPTION"),
--- each with what the folder has at its path.
+-- The files that a reader reads for a table: those to which includes lead from its root
+-- (Compose(5), "FILE DESCRIPTION"), each with what the folder has at its path.
 use Rattle.std.specs.Prelude.{◌≡◌, ◌⊎◌, ℕ, Bool, true, false, bytes_eq, List, [], ◌∷◌, ◌++◌, flat_map, Option, None, IsTrue}
 use Rattle.std.specs.List.{list_any, All}
 use Rattle.std.specs.Str.{is_utf8}

@@ -37,8 +37,8 @@ version_of Libxkbcommon1_7 = V1_7
 
 -- ---- the table
 
--- the files to which includes lead from this path, and the table that the reader has of them, with the names that are
--- built in
+-- the files to which includes lead from this path, and the table that the reader has of them, with
+-- the names that are built in
 pub record IsListedAt (folder : Option (List Entry)) (version : Version) (path : List ℕ) (listed : ListedAs) : Type 0 where
   pub files : List FileRead
   pub are_files : AreReached folder version path files

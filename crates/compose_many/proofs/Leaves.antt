@@ -138,7 +138,8 @@ nobodys s (o ∷ owners) none h =
     let no : true ≡ false = sym (eq-eqb o.connection o.connection refl) ∙ others.0 in
     absurd (cc)
 
--- if each connection ended with its sessions, or nothing happened on it, no session is open but those that were before
+-- if each connection ended with its sessions, or nothing happened on it, no session is open but
+-- those that were before
 pub no_session_stays : NoSessionStays
 no_session_stays reading first now all h ended n some =
     elim (stays_owned n (IsSome (session_of first.sessions n)) reading now all first [] h (λ p. inl p) some) [

@@ -126,7 +126,8 @@ module _ (c : ℕ) (all : List NumberedEvent) (events : List Event) where
     last = events_other c n p.later events e ∙ p.last;
   }
 
-  -- the sessions that were closed for a connection that ended stay the same, whatever happens on another one
+  -- the sessions that were closed for a connection that ended stay the same, whatever happens on
+  -- another one
   pub closed_other : (own : Bool) (n : ℕ) → c == n ≡ false → ClosedAtEnd own n all → ClosedAtEnd own n (all ++ numbered c events)
   closed_other true n e p = ended_other n e p
   closed_other false n e p = none_closed_other n e p
@@ -209,7 +210,8 @@ fewer_left c n (o ∷ owners) h = by (last_own c owners) (fewer_left c n owners)
     by None f true e = let same : o.session ≡ n = cc in own (o.session == n) (eq-eqb o.session n same)
     by None f false e = absurd (cc)
 
--- of owners and one after them, a connection's last session is that of the one after them, if it is the connection's
+-- of owners and one after them, a connection's last session is that of the one after them, if it is
+-- the connection's
 pub last_of_more : (c : ℕ) (owners : List Owner) (o : Owner) → last_own c (owners ++ o ∷ []) ≡ cond (o.connection == c) (Some o.session) (last_own c owners)
 last_of_more c [] o = refl
 last_of_more c (first ∷ owners) o =

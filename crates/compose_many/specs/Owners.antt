@@ -1,4 +1,5 @@
--- The owners of the open sessions, and which sessions are closed when a connection ends (this project's profile).
+-- The owners of the open sessions, and which sessions are closed when a connection ends (this
+-- project's profile).
 use Rattle.std.specs.Prelude.{◌≡◌, ◌⊎◌, ℕ, ◌==◌, Bool, true, false, not, if◌then◌else◌, List, [], ◌∷◌, ◌++◌, map, filter, fold, Option, Some, None, IsSome}
 use Rattle.std.specs.Option.{option_or}
 use Rattle.compose_wire.specs.Messages.{Body, open_session, close, ReplyBody, opened}
@@ -18,12 +19,13 @@ use Rattle.compose_many.specs.declared.owners.Owner.{Owner}
 abbrev pub without : ℕ → List Owner → List Owner
 without n owners = filter (λ o. not (o.session == n)) owners
 
--- a session that is opened on the connection c is owned by c; the others stay in the order in which they were opened
+-- a session that is opened on the connection c is owned by c; the others stay in the order in which
+-- they were opened
 abbrev pub with_owner : ℕ → ℕ → List Owner → List Owner
 with_owner n c owners = without n owners ++ record { session = n; connection = c } ∷ []
 
--- the owners after this answer to a request for the session n on the connection c: a session that was opened is owned
--- by c, and one for which a Close was answered has no owner, whoever opened it
+-- the owners after this answer to a request for the session n on the connection c: a session that
+-- was opened is owned by c, and one for which a Close was answered has no owner, whoever opened it
 abbrev pub owners_when : ℕ → ℕ → List Owner → Body → ReplyBody → List Owner
 owners_when c n owners open_session opened = with_owner n c owners
 owners_when c n owners close answer = without n owners
@@ -62,8 +64,8 @@ ClosesOwn c owners (x ∷ h) = (last_own c owners ≡ Some x.request.session) ×
 abbrev pub ClosesAs : ℕ → List Owner → List Owner → Reading → ServiceState → ServiceState → Type 0
 ClosesAs c owners owners' reading old new = (h : List Exchange) × ClosesOwn c owners h × IsHistory reading old h new × (owners' ≡ owners_by c owners h)
 
--- the connection c ended, and then a Close was answered for each of its open sessions, the one that was opened last
--- first; no session was closed for it before, and nothing happened on it later
+-- the connection c ended, and then a Close was answered for each of its open sessions, the one that
+-- was opened last first; no session was closed for it before, and nothing happened on it later
 pub record EndedWithItsSessions (c : ℕ) (all : List NumberedEvent) : Type 0 where
   pub before : List NumberedEvent
   pub closed : List Exchange
@@ -77,8 +79,8 @@ pub record EndedWithItsSessions (c : ℕ) (all : List NumberedEvent) : Type 0 wh
 abbrev pub ClosedNone : ℕ → List NumberedEvent → Type 0
 ClosedNone c all = closings (events_of c all) ≡ []
 
--- the sessions that were closed for a connection c that ended: with true, sessions end with their connection, and with
--- false, they do not
+-- the sessions that were closed for a connection c that ended: with true, sessions end with their
+-- connection, and with false, they do not
 abbrev pub ClosedAtEnd : Bool → ℕ → List NumberedEvent → Type 0
 ClosedAtEnd true c all = EndedWithItsSessions c all
 ClosedAtEnd false c all = ClosedNone c all
@@ -89,8 +91,8 @@ ClosedAtEnd false c all = ClosedNone c all
 abbrev pub EndedOwnNone : Type 0
 EndedOwnNone = (c : ℕ) (all : List NumberedEvent) → EndedWithItsSessions c all → last_own c (owners_of all) ≡ None
 
--- if each connection ended with its sessions, or nothing happened on it, no session is open but those that were open
--- before
+-- if each connection ended with its sessions, or nothing happened on it, no session is open but
+-- those that were open before
 abbrev pub NoSessionStays : Type 0
 NoSessionStays = (reading : Reading) (first now : ServiceState) (all : List NumberedEvent) → IsHistory reading first (exchanges (map (λ (e : NumberedEvent). e.event) all)) now
     → ((c : ℕ) → EndedWithItsSessions c all ⊎ (events_of c all ≡ [])) → (n : ℕ) → IsSome (session_of now.sessions n) → IsSome (session_of first.sessions n)

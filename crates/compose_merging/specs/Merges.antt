@@ -22,8 +22,8 @@ use Rattle.compose_merging.specs.declared.asking.MergingFault.TheVariants.{Input
 
 -- ---- the merge of two tables as they are written, with these fresh keysyms
 
--- the lines of all sequences of the old one and of those of the new one that are taken, which are read to the merged
--- table, with nothing accepted; and the numbers of sequences
+-- the lines of all sequences of the old one and of those of the new one that are taken, which are
+-- read to the merged table, with nothing accepted; and the numbers of sequences
 pub record IsMerging (names : KeysymNames) (fresh : List ℕ) (old new : Written) (merging : Merging) : Type 0 where
   pub lines : string_bytes merging.table ≡ table_text old new (treatments names fresh old.table new.table)
   pub reads : ReadsBack names (merged names fresh [] old.table new.table) (string_bytes merging.table)

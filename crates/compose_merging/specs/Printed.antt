@@ -1,4 +1,5 @@
--- The merged table as a Compose file without includes (Compose(5), "FILE DESCRIPTION"), and the reading of it.
+-- The merged table as a Compose file without includes (Compose(5), "FILE DESCRIPTION"), and the
+-- reading of it.
 use Rattle.std.specs.Prelude.{◌≡◌, ◌<◌, ℕ, List, [], ◌∷◌, ◌++◌, codes, filter, flat_map, map, length, Result, Ok, Err}
 use Rattle.keysym_core.specs.Names.{KeysymNames}
 use Rattle.compose_model.specs.Table.{Definition}
@@ -28,18 +29,21 @@ use Rattle.compose_merging.specs.declared.treatment.Treatment.{Treatment}
 abbrev pub listed_as : {T : Type 0} → (T → List Definition) → ListedTable T → Written
 listed_as view l = record { table = view l.table.now; lines = l.lines.now; paths = map (λ path. path.now) l.paths.now }
 
--- the lines of these leaves, as `list` prints them: each with its place in the sources of this table as a comment
+-- the lines of these leaves, as `list` prints them: each with its place in the sources of this
+-- table as a comment
 abbrev pub leaf_lines : Written → List LeafId → List ℕ
 leaf_lines written leaves = flat_map (leaf_line Lines written.table written.lines written.paths) leaves
 
--- the leaves of a table, and those of the new table that are taken if these are the treatments of its leaves
+-- the leaves of a table, and those of the new table that are taken if these are the treatments of
+-- its leaves
 abbrev pub all_leaves : List Definition → List LeafId
 all_leaves table = leaf_ids (length (leaves table))
 
 abbrev pub taken_leaves : List Definition → List Treatment → List LeafId
 taken_leaves table treatments = filter (is_taken_leaf treatments) (all_leaves table)
 
--- those of all sequences of the old table, and then those of the sequences of the new one that are taken
+-- those of all sequences of the old table, and then those of the sequences of the new one that are
+-- taken
 abbrev pub table_text : Written → Written → List Treatment → List ℕ
 table_text old new treatments = leaf_lines old (all_leaves old.table) ++ leaf_lines new (taken_leaves new.table treatments)
 
@@ -49,7 +53,8 @@ table_text old new treatments = leaf_lines old (all_leaves old.table) ++ leaf_li
 abbrev pub source_of : List ℕ → List Source
 source_of text = record { name = codes "merged"; bytes = text } ∷ []
 
--- by the reader that refuses overlaps, with these names, the text is read to the rows of these definitions
+-- by the reader that refuses overlaps, with these names, the text is read to the rows of these
+-- definitions
 pub record ReadsBack (names : KeysymNames) (definitions : List Definition) (text : List ℕ) : Type 0 where
   pub rows : List Definition
   pub settles : settled Refuse definitions ≡ Ok rows

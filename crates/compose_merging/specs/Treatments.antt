@@ -1,4 +1,5 @@
--- What becomes of each sequence of the new table, if all of the old one are kept (this project's profile).
+-- What becomes of each sequence of the new table, if all of the old one are kept (this project's
+-- profile).
 use Rattle.std.specs.Prelude.{ℕ, Bool, true, false, if◌then◌else◌, List, [], ◌∷◌, map, get_or}
 use Rattle.std.specs.Option.{option_map_or}
 use Rattle.keysym_core.specs.Names.{KeysymNames}

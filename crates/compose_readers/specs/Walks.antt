@@ -1,4 +1,5 @@
--- What a reader comes upon from a root on: the lines of an included file stand where it is included.
+-- What a reader comes upon from a root on: the lines of an included file stand where it is
+-- included.
 use Rattle.std.specs.Prelude.{ℕ, zero, suc, ◌+◌, bytes_eq, List, [], ◌∷◌, ◌++◌, map, Option, Some, None, slice_get}
 use Rattle.std.specs.List.{position}
 use Rattle.std.specs.Option.{option_map_or, option_and_then}

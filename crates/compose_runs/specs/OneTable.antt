@@ -29,8 +29,8 @@ abbrev pub is_refused : Result Answer Refusal → Bool
 is_refused (Ok answer) = false
 is_refused (Err refusal) = true
 
--- the input: the files of names and the table, these key names, and the repertoire at this path with
--- this text
+-- the input: the files of names and the table, these key names, and the repertoire at this path
+-- with this text
 abbrev pub table_given : TableRead → List (List ℕ) → List ℕ → List ℕ → GivenParts
 table_given read keys repertoire text = record (parts_of read.names keys (read.table ∷ [])) { repertoire = repertoire; repertoire_text = text }
 

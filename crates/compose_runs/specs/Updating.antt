@@ -56,8 +56,8 @@ IsIntendedList folder None None = Unit {0}
 IsIntendedList folder (Some path) (Some meant) = (string_bytes meant.path ≡ path) × IsHeld folder path (File meant.lines.items)
 IsIntendedList folder path meant = ⊥
 
--- the given names, or else the built-in ones, the Compose file as it is on the system (the longest of
--- its overlapping sequences counts), the repertoire, and the list of intended changes
+-- the given names, or else the built-in ones, the Compose file as it is on the system (the longest
+-- of its overlapping sequences counts), the repertoire, and the list of intended changes
 pub record AreUpdateFiles (folder : Option (List Entry)) (environment : Environment) (names : List (List ℕ)) (arguments : UpdateArguments) (files : UpdateFiles) : Type 0 where
   pub places : Places
   pub are_places : IsPlaced environment (update_places arguments) places

@@ -41,7 +41,8 @@ pub none_meant : (a : Asked) (fresh : List (List ℕ)) → false ≡ is_meant a 
 none_meant a [] = refl
 none_meant a (name ∷ fresh) = refl
 
--- whether a change is meant beside a table in use: without fresh keys the names and the repertoire decide
+-- whether a change is meant beside a table in use: without fresh keys the names and the repertoire
+-- decide
 pub empty_meant : {A : Type 0} (name : A → List ℕ) (a : Asked) (fresh : List A) (current : TableFile) (other : Bool) → true ≡ (length fresh == 0)
     → other ≡ is_other a (Some current) → other ≡ is_meant a (map name fresh) (Some current)
 empty_meant name a [] current other e o = o

@@ -145,8 +145,8 @@ pub record IsExchange (sent : ClientRequests) (before after : Option (List Turn)
 
 -- ---- why an exchange stops
 
--- these replies answered the first requests, and none of them is a refusal; for the next request the other side gives
--- this fault
+-- these replies answered the first requests, and none of them is a refusal; for the next request
+-- the other side gives this fault
 pub record StopsAt {P : Type 0} (turns : P → Option (List Turn)) (gives : P → Request → Fault → Type 0) (requests : List Request) (before : P) (fault : Fault) : Type 0 where
   pub peer : P
   pub replies : List Reply

@@ -1,5 +1,5 @@
--- What becomes of a table that `update` is to take into use, and what is stored, loaded or handed over
--- then (this project's profile: docs/SERVICE.md).
+-- What becomes of a table that `update` is to take into use, and what is stored, loaded or handed
+-- over then (this project's profile: docs/SERVICE.md).
 use Rattle.std.specs.Prelude.{◌≡◌, ◌⊎◌, ◌||◌, ◌&&◌, not, if◌then◌else◌, ℕ, Bool, true, false, List, [], ◌∷◌, ◌++◌, Option, Some, None, option_map, Result, Ok, Err, string_bytes, codes, IsTrue, IsFalse}
 use Rattle.std.specs.Str.{bytes_eq}
 use Rattle.std.specs.declared.alloc.AllocError.{AllocError}
@@ -39,14 +39,15 @@ more files file = option_map (λ before. before ++ file ∷ []) files
 
 -- ---- what becomes of a table
 
--- the table in use, by the bytes of its file; none if no file is stored. A file that can't be read is not taken for none
+-- the table in use, by the bytes of its file; none if no file is stored. A file that can't be read
+-- is not taken for none
 abbrev pub IsInUse : Result (Option (Vec ℕ Global)) Fault → Option TableFile → Type 0
 IsInUse (Ok None) current = current ≡ None
 IsInUse (Ok (Some bytes)) (Some table) = FileHas bytes.items table
 IsInUse stored current = ⊥
 
--- what an update was given: names and a repertoire, each with whether it was; without an option the names are the built-in
--- ones
+-- what an update was given: names and a repertoire, each with whether it was; without an option the
+-- names are the built-in ones
 pub record Asked : Type 0 where
   pub has_names : Bool
   pub names : List ℕ
@@ -60,7 +61,8 @@ asked_by wanted files = record { has_names = wanted.has_names; names = files.nam
 abbrev pub kept_names : List ℕ → List ℕ
 kept_names lines = if bytes_eq lines LINES.now then [] else lines
 
--- the lines of the names by which the new table is read: those that were given, or otherwise those of the table in use
+-- the lines of the names by which the new table is read: those that were given, or otherwise those
+-- of the table in use
 abbrev pub names_needed : Asked → Option TableFile → List ℕ
 names_needed a None = a.names
 names_needed a (Some table) = if a.has_names || is_empty table.names then a.names else table.names
@@ -81,8 +83,8 @@ abbrev pub is_other : Asked → Option TableFile → Bool
 is_other a None = false
 is_other a (Some table) = has_other_repertoire a table || has_other_names a table
 
--- the change is meant although the table follows: it names fresh keys, people need other characters than before, or the
--- table is read by other names
+-- the change is meant although the table follows: it names fresh keys, people need other characters
+-- than before, or the table is read by other names
 abbrev pub is_meant : Asked → List (List ℕ) → Option TableFile → Bool
 is_meant a [] current = is_other a current
 is_meant a (name ∷ fresh) None = false
@@ -91,7 +93,8 @@ is_meant a (name ∷ fresh) (Some table) = true
 abbrev pub payload_of : Option TableFile → Option (List ℕ)
 payload_of current = option_map (λ (table : TableFile). table.payload) current
 
--- the keysyms that a load may list as fresh are those of the table in use; none if there is no such table
+-- the keysyms that a load may list as fresh are those of the table in use; none if there is no such
+-- table
 abbrev pub fresh_of : Option TableFile → List ℕ
 fresh_of None = []
 fresh_of (Some table) = table.fresh
@@ -114,8 +117,8 @@ IsLoad files None load = load ≡ None
 IsLoad files (Some certificate) None = ⊥
 IsLoad files (Some certificate) (Some load) = LoadsTable files.new certificate [] load
 
--- what becomes of the table of these files by a decision of `update` that has this property: it is refused; it follows the
--- table in use; or it is meant
+-- what becomes of the table of these files by a decision of `update` that has this property: it is
+-- refused; it follows the table in use; or it is meant
 abbrev pub Decides : Bool → List ℕ → (UpdateRun → Type 0) → UpdateFiles → Taking → Type 0
 Decides meant fresh Ran files (takings.Refused outcome) = Ran (runs.Refused outcome)
 Decides meant fresh Ran files takings.Same = ⊥
@@ -145,8 +148,8 @@ Becomes a fresh current files (takings.Refused outcome) =
     Decides (is_meant a fresh current) (fresh_of current) (IsUpdateRun files fresh (payload_of current)) files (takings.Refused outcome) ⊎ IsUnread a current files outcome
 Becomes a fresh current files taking = Decides (is_meant a fresh current) (fresh_of current) (IsUpdateRun files fresh (payload_of current)) files taking
 
--- of the files only the lines of the names and the repertoire change: the names to those by which the table is read, the
--- repertoire to what people need
+-- of the files only the lines of the names and the repertoire change: the names to those by which
+-- the table is read, the repertoire to what people need
 pub record Needs (names repertoire : List ℕ) (old new : UpdateFiles) : Type 0 where
   pub lines : new.names.lines.items ≡ names
   pub table : new.new ≡ old.new
@@ -200,7 +203,8 @@ meant_note = codes "note: typing changes as it is meant to\n"
 abbrev pub taken_note : List ℕ
 taken_note = codes "note: typing changes as it is meant to; the running service has taken the table, and its sessions begin anew\n"
 
--- a file is stored, and that is printed after this note; or it can't be stored, or memory ran out: then nothing is
+-- a file is stored, and that is printed after this note; or it can't be stored, or memory ran out:
+-- then nothing is
 abbrev pub Stores : List ℕ → List ℕ → Option (List (List ℕ)) → Option (List (List ℕ)) → Result (Result Outcome ErrorKind) AllocError → Type 0
 Stores note file old new (Ok (Ok outcome)) = PrintsNoted note (codes "stored\n") outcome × (new ≡ more old file)
 Stores note file old new (Ok (Err why)) = new ≡ old
@@ -219,7 +223,8 @@ TakesHere taking old new (Ok (Ok outcome)) = TakesAlone taking old new outcome
 TakesHere taking old new (Ok (Err why)) = new ≡ old
 TakesHere taking old new (Err e) = new ≡ old
 
--- what is printed by the end of the exchange: once the load is answered with yes, that the table is stored
+-- what is printed by the end of the exchange: once the load is answered with yes, that the table is
+-- stored
 abbrev pub PrintsLoaded : Ended → Outcome → Outcome → Type 0
 PrintsLoaded Yes exchanged outcome = (string_bytes outcome.output ≡ string_bytes exchanged.output ++ codes "stored\n") × (outcome.ended ≡ Yes)
 PrintsLoaded ended exchanged outcome = outcome ≡ exchanged
@@ -242,7 +247,8 @@ OnOkOk (Ok (Ok outcome)) P = P outcome
 OnOkOk (Ok (Err why)) P = Unit {0}
 OnOkOk (Err e) P = Unit {0}
 
--- while a service runs, only a table that follows is loaded, and only one that is meant is handed over
+-- while a service runs, only a table that follows is loaded, and only one that is meant is handed
+-- over
 abbrev pub TakesRunning : Taking → Option (List Turn) → Option (List Turn) → Option (List (List ℕ)) → Option (List (List ℕ)) → Outcome → Type 0
 TakesRunning (takings.Refused refused) turns turns' handed handed' outcome = (outcome ≡ refused) × (turns' ≡ turns) × (handed' ≡ handed)
 TakesRunning takings.Same turns turns' handed handed' outcome = PrintsNoted [] unchanged outcome × (turns' ≡ turns) × (handed' ≡ handed)

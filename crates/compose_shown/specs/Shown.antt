@@ -13,7 +13,8 @@ is_control c = is_between 0 0x1f c || is_between 0x7f 0x9f c
 abbrev pub turns_direction : ℕ → Bool
 turns_direction c = is_between 0x61c 0x61c c || is_between 0x200e 0x200f c || is_between 0x202a 0x202e c || is_between 0x2066 0x2069 c
 
--- a character that no terminal shows: a space without width, an operator without a sign, a byte order mark
+-- a character that no terminal shows: a space without width, an operator without a sign, a byte
+-- order mark
 abbrev pub is_invisible : ℕ → Bool
 is_invisible c = is_between 0x200b 0x200b c || is_between 0x2060 0x2064 c || is_between 0xfeff 0xfeff c
 

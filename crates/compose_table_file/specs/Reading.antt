@@ -36,8 +36,8 @@ pub record HasNoKeysyms (bytes : List ℕ) : Type 0 where
   pub has : parts bundle.sources ≡ Some (names, fresh)
   pub none : AreNoKeysyms fresh
 
--- the file keeps the table; or the bytes are no bundle, as those of a file that is cut off; or a part of form 2 is missing
--- or is none; or memory ran out
+-- the file keeps the table; or the bytes are no bundle, as those of a file that is cut off; or a
+-- part of form 2 is missing or is none; or memory ran out
 abbrev pub ReadsTable : List ℕ → Result StoredTable StoredFault → Type 0
 ReadsTable bytes (Ok t) = FileHas bytes (table_of t)
 ReadsTable bytes (Err Form) = (b : Bundle) → IsBundle bytes b → ⊥

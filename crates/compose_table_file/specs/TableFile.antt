@@ -9,9 +9,9 @@ use Rattle.compose_model.specs.declared.Rule.TheVariants.{Longest, Refuse}
 use Rattle.compose_read.specs.Lines.{Source}
 use Rattle.compose_bundle.specs.Bundle.{Bundle, IsBundle}
 
--- what is kept of the table in use: the rule for overlaps, the text of a repertoire, the lines of the files of names (none
--- if the names are the built-in ones), the keysyms that a load may list as fresh, and the payload of the load that brought
--- the table
+-- what is kept of the table in use: the rule for overlaps, the text of a repertoire, the lines of
+-- the files of names (none if the names are the built-in ones), the keysyms that a load may list as
+-- fresh, and the payload of the load that brought the table
 pub record TableFile : Type 0 where
   pub rule : Rule
   pub repertoire : List ℕ
@@ -32,8 +32,8 @@ AreKeysyms keysyms = AllByRecursion (λ k. k ≤ max_keysym) keysyms
 abbrev pub fresh_bytes : List ℕ → List ℕ
 fresh_bytes fresh = flat_map (to_be_bytes w32) fresh
 
--- a bundle of three sources: the repertoire, under a name that marks the rule; `names`; and `fresh`. The payload is in the
--- place of the certificate
+-- a bundle of three sources: the repertoire, under a name that marks the rule; `names`; and
+-- `fresh`. The payload is in the place of the certificate
 abbrev pub file_of : TableFile → Bundle
 file_of t = record {
   sources =
@@ -60,9 +60,9 @@ abbrev pub first_bytes : List Source → List ℕ
 first_bytes [] = []
 first_bytes (s ∷ sources) = s.bytes
 
--- what a bundle of an earlier form keeps, by the rule that it marks and its bytes: in form 1 the repertoire is the content
--- of the first source; a bundle without a mark is itself the payload. The names are the built-in ones, and no load may
--- list a fresh keysym
+-- what a bundle of an earlier form keeps, by the rule that it marks and its bytes: in form 1 the
+-- repertoire is the content of the first source; a bundle without a mark is itself the payload. The
+-- names are the built-in ones, and no load may list a fresh keysym
 abbrev pub kept_before : Option Rule → List ℕ → Bundle → TableFile
 kept_before (Some rule) bytes b = record { rule = rule; repertoire = first_bytes b.sources; names = []; fresh = []; payload = b.certificate }
 kept_before None bytes b = record { rule = Longest; repertoire = []; names = []; fresh = []; payload = bytes }
