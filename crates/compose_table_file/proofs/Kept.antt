@@ -34,7 +34,7 @@ same_table a b rule repertoire names fresh payload =
 same_file : (a b : TableFile) → AreKeysyms a.fresh → AreKeysyms b.fresh → file_of a ≡ file_of b → a ≡ b
 same_file a b ka kb e =
     let both : (a.names, fresh_bytes a.fresh) ≡ (b.names, fresh_bytes b.fresh) =
-        same_Some (a.names, fresh_bytes a.fresh) (b.names, fresh_bytes b.fresh) (ap (λ (x : Bundle). parts x.sources) e) in
+    same_Some (a.names, fresh_bytes a.fresh) (b.names, fresh_bytes b.fresh) (ap (λ (x : Bundle). parts x.sources) e) in
     same_table a b (same_Some a.rule b.rule (sym (marked a) ∙ ap (λ (x : Bundle). rule_marked mark x.sources) e ∙ marked b)) (ap (λ (x : Bundle). first_bytes x.sources) e)
     (ap (λ (p : List ℕ × List ℕ). p.0) both) (same_keysyms a.fresh b.fresh ka kb (ap (λ (p : List ℕ × List ℕ). p.1) both)) (ap (λ (x : Bundle). x.certificate) e)
 
@@ -62,13 +62,13 @@ two_parts n f names fresh h = go (bytes_eq n.name (codes "names")) (bytes_eq f.n
     source : (s : Source) (name bytes : List ℕ) → s.name ≡ name → s.bytes ≡ bytes → s ≡ record { name = name; bytes = bytes }
     source s name bytes e d =
         ap (λ x. let t : Source = record { name = x; bytes = s.bytes } in t) e ∙ ap (λ x. let t : Source = record { name = name; bytes = x } in t) d
+
     go : (a b : Bool) → bytes_eq n.name (codes "names") ≡ a → bytes_eq f.name (codes "fresh") ≡ b → cond {A = Option (List ℕ × List ℕ)} (a && b) (Some (n.bytes, f.bytes)) None ≡ Some (names, fresh)
         → (n ≡ record { name = codes "names"; bytes = names }) × (f ≡ record { name = codes "fresh"; bytes = fresh })
     go true true ea eb e =
         let found : List ℕ × List ℕ = (n.bytes, f.bytes) in
         let given : List ℕ × List ℕ = (names, fresh) in
-        let both : found ≡ given = same_Some found given e in
-        (
+        let both : found ≡ given = same_Some found given e in (
           source n (codes "names") names ((bytes_eq-Decides n.name (codes "names")).0 ea) (ap (λ (p : List ℕ × List ℕ). p.0) both),
           source f (codes "fresh") fresh ((bytes_eq-Decides f.name (codes "fresh")).0 eb) (ap (λ (p : List ℕ × List ℕ). p.1) both),
         )

@@ -17,8 +17,8 @@ fits k l = omega (arith, l)
 pub one_start : (k j : ℕ) (x y : List ℕ) → k ≤ max_keysym → j ≤ max_keysym → to_be_bytes w32 k ++ x ≡ to_be_bytes w32 j ++ y → (k ≡ j) × (x ≡ y)
 one_start k j x y lk lj e = (
   sym (from_be_bytes-to_be_bytes_4 k (fits k lk))
-  ∙ ap (from_be_bytes w32) (sym (take-append_seam (to_be_bytes w32 k) x) ∙ ap (take 4) e ∙ take-append_seam (to_be_bytes w32 j) y)
-  ∙ from_be_bytes-to_be_bytes_4 j (fits j lj),
+      ∙ ap (from_be_bytes w32) (sym (take-append_seam (to_be_bytes w32 k) x) ∙ ap (take 4) e ∙ take-append_seam (to_be_bytes w32 j) y)
+      ∙ from_be_bytes-to_be_bytes_4 j (fits j lj),
   sym (drop-append_seam (to_be_bytes w32 k) x) ∙ ap (drop 4) e ∙ drop-append_seam (to_be_bytes w32 j) y,
 )
 

@@ -8,7 +8,7 @@ ghost use Rattle.compose_table_file.specs.Reading.{ReadsTable, WritesTable, tabl
 use crate::fresh::{fresh_bytes, read_fresh};
 use compose_bundle::{BundleFault, read_bundle, write_bundle};
 use compose_model::Rule;
-use compose_read::Sources;
+use compose_read::{SourceFault, Sources};
 use keysym_core::Keysym;
 use std::alloc::{AllocError, Global};
 use thiserror::Error;
@@ -68,24 +68,27 @@ pub enum StoredFault {
 pub fn write_table(alloc: Global, table: &TableParts<'_>) -> Result<Vec<u8>, StoredFault>
     ensures { WritesTable result (table_of_parts table.entry.now) }
 {
-    let Ok(fresh) = fresh_bytes(alloc, table.fresh) else {
+    let Ok(sources) = sources_of(alloc, table) else {
         return Err(StoredFault::NoMemory);
     };
-    let mut parts = Sources::new(alloc);
-    if parts.add_borrowed(mark(table.rule), table.repertoire).is_err() {
-        return Err(StoredFault::NoMemory);
-    }
-    if parts.add_borrowed("names", table.names).is_err() {
-        return Err(StoredFault::NoMemory);
-    }
-    if parts.add_borrowed("fresh", &fresh).is_err() {
-        return Err(StoredFault::NoMemory);
-    }
-    match write_bundle(alloc, &parts, table.payload) {
+    match write_bundle(alloc, &sources, table.payload) {
         Ok(bytes) => Ok(bytes),
         Err(BundleFault::TooLarge) => Err(StoredFault::TooLarge),
         Err(_) => Err(StoredFault::NoMemory),
     }
+}
+
+/// Returns the sources of the file of a table.
+fn sources_of<'a>(alloc: Global, table: &TableParts<'a>) -> Result<Sources<'a>, SourceFault>
+    ensures { IfOk result
+        (λ sources. sources ≡ (file_of (table_of_parts table.entry.now)).sources) }
+{
+    let fresh = fresh_bytes(alloc, table.fresh)?;
+    let mut sources = Sources::new(alloc);
+    sources.add_borrowed(mark(table.rule), table.repertoire)?;
+    sources.add_borrowed("names", table.names)?;
+    sources.add("fresh", fresh)?;
+    Ok(sources)
 }
 
 /// Reads the file that keeps a table, also in the forms of earlier versions: form 1, which has no
@@ -127,10 +130,7 @@ fn read_parts<'b>(
         Ok(fresh) => fresh,
         Err(fault) => return Err(fault),
     };
-    match (
-        first_bytes(alloc, sources),
-        Vec::from_slice(alloc, names),
-    ) {
+    match (first_bytes(alloc, sources), Vec::from_slice(alloc, names)) {
         (Ok(repertoire), Ok(names)) => Ok(StoredTable {
             rule,
             repertoire,
@@ -218,7 +218,10 @@ fn first_rule_of(sources: &Sources) -> Option<Rule>
 fn parts_of<'a>(sources: &'a Sources) -> Option<(&'a [u8], &'a [u8])>
     ensures { option_map (λ p. (p.0.now, p.1.now)) result ≡ words.parts sources.now }
 {
-    if sources.count() != 3 || sources.name(1) != Some("names") || sources.name(2) != Some("fresh") {
+    if sources.count() != 3
+        || sources.name(1) != Some("names")
+        || sources.name(2) != Some("fresh")
+    {
         return None;
     }
     Some((sources.bytes(1), sources.bytes(2)))
