@@ -6,9 +6,10 @@ ghost use Rattle.compose_shown.specs.Shown.{shown_character, shown_in_lines, sho
 
 use std::fmt;
 
-/// A text, printed so that it cannot control a terminal. A control character (U+0000 to U+001F,
-/// U+007F to U+009F) or a character that changes the direction of writing (U+202A to U+202E, U+2066
-/// to U+2069) is printed as an escape such as `\u{202e}`, any other as it is.
+/// A text, printed so that it cannot control a terminal, and that nothing in it is unseen. A control
+/// character (U+0000 to U+001F, U+007F to U+009F), a character that changes the direction of writing
+/// (U+061C, U+200E, U+200F, U+202A to U+202E, U+2066 to U+2069) or one that no terminal shows
+/// (U+200B, U+2060 to U+2064, U+FEFF) is printed as an escape such as `\u{202e}`, any other as it is.
 #[derive(Clone, Copy, Debug)]
 pub struct Shown<'a>(pub &'a str);
 
