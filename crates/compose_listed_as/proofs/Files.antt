@@ -1,8 +1,10 @@
 -- Files that are read one after another.
-use Rattle.std.proofs.Common.{◌≡◌, ◌∙◌, ℕ, zero, suc, ◌+◌, ◌<◌, ◌≤◌, Bool, true, false, cond, not, ◌&&◌, ◌||◌, List, [], ◌∷◌, ◌++◌, length, take, drop, map, get_or, refl, sym, ap, subst, append_assoc, arith}
-use Rattle.std.specs.Prelude.{◌⊎◌, inl, inr, Option, bytes_eq, flat_map}
+use Rattle.std.proofs.Common.{◌≡◌, ◌∙◌, inl, inr, add-one, ℕ, zero, suc, ◌+◌, ◌<◌, ◌≤◌, Bool, true, false, cond, not, ◌&&◌, ◌||◌, List, [], ◌∷◌, ◌++◌, length, take, map, get_or, refl, sym, ap, subst, append_assoc, arith}
+use Rattle.std.specs.Prelude.{Option, bytes_eq, flat_map}
 use Rattle.std.specs.List.{list_any, All, slice_index_or}
-use Rattle.std.proofs.lemmas.List.{append-nil, take_all, take_more, map-append}
+use Rattle.std.specs.declared.vec.Vec.{Vec}
+use Rattle.std.specs.declared.alloc.Global.{Global}
+use Rattle.std.proofs.lemmas.List.{append-nil, get_or-map, length-map, take_all, take_more, map-append}
 use Rattle.std.proofs.lemmas.List.Elements.{All-append, All-nil}
 use Rattle.std.proofs.lemmas.List.Folds.{list_any-append}
 use Rattle.std.proofs.lemmas.Slice.Eq.{bytes_eq-Decides}
@@ -10,8 +12,8 @@ use Rattle.compose_folder.specs.Content.{Entry}
 use Rattle.compose_input.specs.Search.{opened}
 use Rattle.compose_readers.specs.Files.{FileRead}
 use Rattle.compose_readers.specs.declared.xkbcommon.Version.{Version}
-use Rattle.compose_listed_as.specs.Reached.{IsFile, IsMissing, IsThere, AreLedTo, AreReached, includes_of, is_among, is_included}
-use Rattle.compose_listed_as.specs.Reading.{AreReachedBy, AddsFile, AddsPath, includes_before}
+use Rattle.compose_listed_as.specs.Reached.{IsFile, IsThere, AreLedTo, AreReached, includes_of, is_among, is_included}
+use Rattle.compose_listed_as.specs.Reading.{AreReachedBy, AddsPath, includes_before}
 
 -- ---- the root
 
@@ -113,11 +115,41 @@ included_at (f ∷ files) more (suc at) k d e within inside =
     ∙ or_right (list_any (bytes_eq path) (includes_of f)) (list_any (bytes_eq path) (flat_map includes_of (files ++ more))) (included_at files more at k d e (omega (arith, within)) inside)
 
 -- the includes of one file more
+before_suc : (files more : List FileRead) (at : ℕ) (d : FileRead) → at < length files → includes_before files at ++ includes_of (get_or files at d) ≡ includes_before (files ++ more) (suc at)
+before_suc [] more at d within = absurd (omega (arith, within))
+before_suc (f ∷ files) more zero d within = sym (append-nil (includes_of f))
+before_suc (f ∷ files) more (suc at) d within =
+    append_assoc (includes_of f) (includes_before files at) (includes_of (get_or files at d)) ∙ ap (λ paths. includes_of f ++ paths) (before_suc files more at d (omega (arith, within)))
+
 pub before_more : (files more : List FileRead) (at : ℕ) (d : FileRead) → at < length files → includes_before files at ++ includes_of (get_or files at d) ≡ includes_before (files ++ more) (at + 1)
-before_more [] more at d within = absurd (omega (arith, within))
-before_more (f ∷ files) more zero d within = sym (append-nil (includes_of f))
-before_more (f ∷ files) more (suc at) d within =
-    append_assoc (includes_of f) (includes_before files at) (includes_of (get_or files at d)) ∙ ap (λ paths. includes_of f ++ paths) (before_more files more at d (omega (arith, within)))
+before_more files more at d within = before_suc files more at d within ∙ ap (includes_before (files ++ more)) (sym (add-one at))
+
+-- the files are those that were there, and others
+pub grown_more : (folder : Option (List Entry)) (version : Version) (root path : List ℕ) (old between new more : List FileRead) → between ≡ old ++ more → AddsPath folder version root path between new
+    → (others : List FileRead) × (new ≡ old ++ others)
+grown_more folder version root path old between new more is (inl same) = (more, same.0 ∙ is)
+grown_more folder version root path old between new more is (inr added) =
+    let file = added.1.0 in (more ++ file ∷ [], added.1.1 ∙ ap (λ files. files ++ file ∷ []) is ∙ append_assoc old more (file ∷ []))
+
+-- the paths that were looked at, and one more
+pub looked_more : (before : List (List ℕ)) (paths : List (Vec ℕ Global)) (i : ℕ) (path : Vec ℕ Global) → i < length paths → path ≡ get_or paths i path
+    → (before ++ map (λ p. p.items) (take i paths)) ++ path.items ∷ [] ≡ before ++ map (λ p. p.items) (take (i + 1) paths)
+looked_more before paths i path within is =
+    let items : Vec ℕ Global → List ℕ = λ p. p.items in
+    append_assoc before (map items (take i paths)) (path.items ∷ [])
+    ∙ ap (λ xs. before ++ xs)
+    (sym (map-append items (take i paths) (path ∷ [])) ∙ ap (map items) (ap (λ p. take i paths ++ p ∷ []) is ∙ sym (take_more paths i path within)))
+
+-- the path at this index is included
+pub included_path : (files more : List FileRead) (at : ℕ) (file : FileRead) (paths : List (Vec ℕ Global)) (i : ℕ) (path : Vec ℕ Global) → at < length files → file ≡ get_or files at file
+    → map (λ p. p.items) paths ≡ includes_of file → i < length paths → path ≡ get_or paths i path → is_included (files ++ more) path.items ≡ true
+included_path files more at file paths i path within is are inside at_index =
+    let items : Vec ℕ Global → List ℕ = λ p. p.items in
+    let own : map items paths ≡ includes_of (get_or files at file) = are ∙ ap includes_of is in
+    let many : i < length (includes_of (get_or files at file)) = omega (arith, inside, length-map paths items, ap length own) in
+    let name : get_or (includes_of (get_or files at file)) i path.items ≡ path.items =
+    ap (λ xs. get_or xs i path.items) (sym own) ∙ get_or-map items paths i path path.items inside ∙ ap items (sym at_index) in
+    subst (λ p. is_included (files ++ more) p ≡ true) name (included_at files more at i file path.items within many)
 
 -- all files have been looked at
 pub all_looked : (folder : Option (List Entry)) (version : Version) (root : List ℕ) (files : List FileRead) (at : ℕ) → length files ≤ at → AreReachedBy folder version root (includes_before files at) files

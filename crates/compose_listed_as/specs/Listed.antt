@@ -1,5 +1,5 @@
 -- A table as a reader has it, or why the reader refuses it.
-use Rattle.std.specs.Prelude.{◌≡◌, ℕ, true, false, List, [], ◌∷◌, ◌++◌, flat_map, Option, Some, None, string_bytes, codes}
+use Rattle.std.specs.Prelude.{◌≡◌, ℕ, true, false, List, [], ◌++◌, flat_map, Option, Some, None, string_bytes, codes}
 use Rattle.keysym_core.specs.Names.{KeysymNames}
 use Rattle.compose_readers.specs.Files.{FileRead}
 use Rattle.compose_readers.specs.Refusals.{refusal_from}

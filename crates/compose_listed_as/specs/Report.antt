@@ -1,5 +1,5 @@
 -- What a reader doesn't take, in words (this project's profile).
-use Rattle.std.specs.Prelude.{ℕ, ◌-◌, ◌==◌, Bool, false, nat_lt, if◌then◌else◌, List, [], ◌∷◌, ◌++◌, length, take, flat_map, Option, Some, None, slice_get, codes}
+use Rattle.std.specs.Prelude.{ℕ, ◌+◌, ◌-◌, ◌==◌, Bool, false, nat_lt, if◌then◌else◌, List, [], ◌∷◌, ◌++◌, length, take, flat_map, slice_get, codes}
 use Rattle.std.specs.Fmt.{decimal}
 use Rattle.std.specs.Option.{option_map_or}
 use Rattle.compose_readers.specs.Definitions.{Definition}
@@ -23,9 +23,12 @@ reader_name V1_7 = codes "libxkbcommon 1.7"
 abbrev pub is_longer : Definition → Told → Bool
 is_longer d t = option_map_or (λ (e : Definition). nat_lt (length d.keys) (length e.keys)) (entry_of t.what) false
 
+abbrev pub longer_text : Bool → List ℕ
+longer_text has_more_keys = if has_more_keys then codes "the longer sequence of " else []
+
 -- the definition that counts, by its place
 abbrev pub counting_text : List FileRead → Definition → Told → List ℕ
-counting_text files d t = (if is_longer d t then codes "the longer sequence of " else []) ++ place_text files t
+counting_text files d t = longer_text (is_longer d t) ++ place_text files t
 
 -- the one with this index
 abbrev pub by_text : List FileRead → List Judged → Definition → ℕ → List ℕ
@@ -59,10 +62,15 @@ more_line count = if count == 0 then [] else codes "and " ++ (decimal count ++ c
 abbrev pub files_text : ℕ → List ℕ
 files_text count = if count == 1 then codes "1 file\n" else decimal count ++ codes " files\n"
 
+abbrev pub counts_text : Version → ℕ → ℕ → List ℕ
+counts_text version taken all = reader_name version ++ (codes " takes " ++ (decimal taken ++ (codes " of " ++ (decimal all ++ codes " definitions of "))))
+
 -- for example `libxkbcommon 1.7 takes 217 of 224 definitions of 3 files`
 abbrev pub summary_line : Version → ℕ → ℕ → ℕ → List ℕ
-summary_line version taken other files =
-    reader_name version ++ (codes " takes " ++ (decimal taken ++ (codes " of " ++ (decimal (taken + other) ++ (codes " definitions of " ++ files_text files)))))
+summary_line version taken other files = counts_text version taken (taken + other) ++ files_text files
+
+abbrev pub end_text : Version → ℕ → ℕ → ℕ → List ℕ
+end_text version taken other files = more_line (other - 20) ++ summary_line version taken other files
 
 abbrev pub report : Version → List FileRead → List Judged → List ℕ
-report version files js = first_lines files js ++ (more_line (length (others js) - 20) ++ summary_line version (taken_count js) (length (others js)) (length files))
+report version files js = first_lines files js ++ end_text version (taken_count js) (length (others js)) (length files)

@@ -10,12 +10,12 @@ use std::marker::Model;
 
 /// What a reader comes upon, and what becomes of it.
 #[derive(Drop)]
-pub(crate) struct Judged<'t> {
-    pub(crate) told: &'t Told<'t>,
+pub(crate) struct Judged<'j, 't> {
+    pub(crate) told: &'j Told<'t>,
     pub(crate) fate: Fate,
 }
 
-impl<'t> Model for Judged<'t> {
+impl<'j, 't> Model for Judged<'j, 't> {
     ghost use Rattle.compose_listed_as.specs.Judged as words;
 
     ghost Value = { words.Judged };
@@ -23,7 +23,7 @@ impl<'t> Model for Judged<'t> {
     ghost view = { λ j. record { told = j.told.now; fate = j.fate } };
 }
 
-impl<'t> Judged<'t> {
+impl<'j, 't> Judged<'j, 't> {
     ghost use Rattle.compose_listed_as.specs.Judged as words;
 
     /// Returns whether it is a definition that is taken.
@@ -37,7 +37,8 @@ impl<'t> Judged<'t> {
     fn is_other(&self) -> bool
         ensures { result ≡ words.is_other self.now }
     {
-        !is_taken(self.fate) && !is_followed(self.told.what)
+        let told = self.told;
+        !is_taken(self.fate) && !is_followed(told.what)
     }
 }
 
@@ -53,7 +54,7 @@ fn is_taken(fate: Fate) -> bool
 
 /// Returns whether it is an include.
 fn is_followed(what: What<'_>) -> bool
-    ensures { result ≡ words.is_followed (what_of what) }
+    ensures { result ≡ words.is_followed (what_of what.entry) }
 {
     match what {
         What::Includes(_) => true,
@@ -63,11 +64,11 @@ fn is_followed(what: What<'_>) -> bool
 
 /// Returns each with its fate. O(n).
 #[tactic(auto, using(crate::proofs::Judging::judged_more, crate::proofs::Judging::no_fate))]
-pub(crate) fn with_fates<'t>(
+pub(crate) fn with_fates<'j, 't>(
     alloc: Global,
-    told: &'t [Told<'t>],
+    told: &'j [Told<'t>],
     fates: &[Fate],
-) -> Result<Vec<Judged<'t>>, AllocError>
+) -> Result<Vec<Judged<'j, 't>>, AllocError>
     ensures { IfOk result (λ all. all.items ≡ words.with_fates told.now fates.now) }
 {
     let mut all = Vec::new(alloc);
@@ -84,10 +85,10 @@ pub(crate) fn with_fates<'t>(
 }
 
 /// Returns those that aren't taken, nor followed as includes. O(n).
-pub(crate) fn others<'j, 't>(
+pub(crate) fn others<'a, 'j, 't>(
     alloc: Global,
-    all: &'j [Judged<'t>],
-) -> Result<Vec<&'j Judged<'t>>, AllocError>
+    all: &'a [Judged<'j, 't>],
+) -> Result<Vec<&'a Judged<'j, 't>>, AllocError>
     ensures { IfOk result (λ others. map (λ j. j.now) others.items ≡ words.others all.now) }
 {
     let mut others = Vec::new(alloc);
@@ -100,7 +101,7 @@ pub(crate) fn others<'j, 't>(
 }
 
 /// Returns the number of definitions that are taken. O(n).
-pub(crate) fn taken_count(all: &[Judged<'_>]) -> usize
+pub(crate) fn taken_count(all: &[Judged<'_, '_>]) -> usize
     ensures { result ≡ words.taken_count all.now }
 {
     all.iter().filter(|one| one.is_taken()).count()

@@ -21,7 +21,7 @@ pub(crate) fn taken_lines(
     alloc: Global,
     names: &Names,
     files: &[FileRead],
-    all: &[Judged<'_>],
+    all: &[Judged<'_, '_>],
 ) -> Result<String, AllocError>
     ensures { IfOk result
         (λ lines. string_bytes lines ≡ flat_map (words.taken_line names.now files.now) all.now) }
@@ -39,7 +39,7 @@ fn push_taken(
     lines: &mut String,
     names: &Names,
     files: &[FileRead],
-    one: &Judged<'_>,
+    one: &Judged<'_, '_>,
 ) -> Result<(), AllocError>
     ensures { OnOk result
         (string_bytes lines.new
@@ -225,5 +225,8 @@ fn path_at(files: &[FileRead], index: usize) -> &str
 pub(crate) fn text_or_empty(bytes: &[u8]) -> &str
     ensures { result.now ≡ words.text_or_empty bytes.now }
 {
-    str::from_utf8(bytes).unwrap_or("")
+    match str::from_utf8(bytes) {
+        Ok(text) => text,
+        Err(_) => "",
+    }
 }

@@ -1,5 +1,5 @@
 //! The files that a reader reads for a table.
-ghost use Rattle.std.specs.Prelude.{◌≡◌, ◌<◌, ◌≤◌, ◌++◌, [], Err, length, map, option_map, IfOk, IfErr, OnOk, get_or};
+ghost use Rattle.std.specs.Prelude.{◌≡◌, ◌+◌, ◌<◌, ◌≤◌, ◌++◌, [], Err, length, map, option_map, IfOk, IfErr, OnOk, get_or};
 ghost use Rattle.compose_input.specs.Search as search;
 ghost use Rattle.compose_input.specs.Texts.{IsRead};
 ghost use Rattle.compose_listed_as.specs.Reached as words;

@@ -1,5 +1,5 @@
 //! What a reader doesn't take, in words.
-ghost use Rattle.std.specs.Prelude.{◌≡◌, ◌++◌, ◌-◌, map, take, length, flat_map, IfOk, OnOk, string_bytes};
+ghost use Rattle.std.specs.Prelude.{◌≡◌, ◌++◌, ◌-◌, map, take, length, flat_map, IfOk, OnOk, string_bytes, codes};
 ghost use Rattle.compose_listed_as.specs.Judged as judged_words;
 ghost use Rattle.compose_listed_as.specs.Report as words;
 ghost use Rattle.compose_readers.specs.Seen.{what_of};
@@ -30,7 +30,7 @@ pub(crate) fn report(
     alloc: Global,
     version: Version,
     files: &[FileRead],
-    all: &[Judged<'_>],
+    all: &[Judged<'_, '_>],
 ) -> Result<String, AllocError>
     ensures { IfOk result
         (λ text. string_bytes text ≡ words.report version files.now all.now) }
@@ -44,8 +44,8 @@ fn report_of(
     alloc: Global,
     version: Version,
     files: &[FileRead],
-    all: &[Judged<'_>],
-    others: &[&Judged<'_>],
+    all: &[Judged<'_, '_>],
+    others: &[&Judged<'_, '_>],
 ) -> Result<String, AllocError>
     requires { map (λ j. j.now) others.now ≡ judged_words.others all.now }
     ensures { IfOk result
@@ -53,8 +53,7 @@ fn report_of(
 {
     let mut text = String::new(alloc);
     push_others(&mut text, files, all, first_of(others))?;
-    push_more(&mut text, others.len().saturating_sub(MOST))?;
-    push_summary(
+    push_end(
         &mut text,
         version,
         taken_count(all),
@@ -64,8 +63,24 @@ fn report_of(
     Ok(text)
 }
 
+/// Appends how many of the others follow, and how many definitions are taken, of this number of
+/// taken ones, others and files.
+fn push_end(
+    text: &mut String,
+    version: Version,
+    taken: usize,
+    other: usize,
+    files: usize,
+) -> Result<(), AllocError>
+    ensures { OnOk result
+        (string_bytes text.new ≡ string_bytes text.old ++ words.end_text version taken other files) }
+{
+    push_more(text, other.saturating_sub(MOST))?;
+    push_summary(text, version, taken, other, files)
+}
+
 /// Returns those that have a line.
-fn first_of<'o, 'j, 't>(others: &'o [&'j Judged<'t>]) -> &'o [&'j Judged<'t>]
+fn first_of<'o, 'a, 'j, 't>(others: &'o [&'a Judged<'j, 't>]) -> &'o [&'a Judged<'j, 't>]
     ensures { result.now ≡ take 20 others.now }
 {
     &others[..others.len().min(MOST)]
@@ -75,8 +90,8 @@ fn first_of<'o, 'j, 't>(others: &'o [&'j Judged<'t>]) -> &'o [&'j Judged<'t>]
 fn push_others(
     text: &mut String,
     files: &[FileRead],
-    all: &[Judged<'_>],
-    others: &[&Judged<'_>],
+    all: &[Judged<'_, '_>],
+    others: &[&Judged<'_, '_>],
 ) -> Result<(), AllocError>
     ensures { OnOk result
         (string_bytes text.new
@@ -93,17 +108,18 @@ fn push_others(
 fn push_other(
     text: &mut String,
     files: &[FileRead],
-    all: &[Judged<'_>],
-    one: &Judged<'_>,
+    all: &[Judged<'_, '_>],
+    one: &Judged<'_, '_>,
 ) -> Result<(), AllocError>
     ensures { OnOk result
         (string_bytes text.new
         ≡ string_bytes text.old ++ words.other_line files.now all.now one.now) }
 {
     text.push_str("composecheck: ")?;
-    push_place(text, files, one.told)?;
+    let told = one.told;
+    push_place(text, files, told)?;
     text.push_str(": ")?;
-    push_reason(text, files, all, one.fate, one.told.what)?;
+    push_reason(text, files, all, one.fate, told.what)?;
     text.push('\n')
 }
 
@@ -111,13 +127,13 @@ fn push_other(
 fn push_reason(
     text: &mut String,
     files: &[FileRead],
-    all: &[Judged<'_>],
+    all: &[Judged<'_, '_>],
     fate: Fate,
     what: What<'_>,
 ) -> Result<(), AllocError>
     ensures { OnOk result
         (string_bytes text.new
-        ≡ string_bytes text.old ++ words.reason files.now all.now fate (what_of what)) }
+        ≡ string_bytes text.old ++ words.reason files.now all.now fate (what_of what.entry)) }
 {
     match what {
         What::Defines(definition) => push_fate(text, files, all, definition, fate),
@@ -133,7 +149,7 @@ fn push_reason(
 fn push_fate(
     text: &mut String,
     files: &[FileRead],
-    all: &[Judged<'_>],
+    all: &[Judged<'_, '_>],
     definition: &Definition,
     fate: Fate,
 ) -> Result<(), AllocError>
@@ -143,23 +159,45 @@ fn push_fate(
 {
     match fate {
         Fate::Taken => text.push_str("taken"),
-        Fate::Overridden(by) => {
-            text.push_str("overridden by ")?;
-            push_by(text, files, all, definition, by)
-        }
+        Fate::Overridden(by) => push_overridden(text, files, all, definition, by),
         Fate::Behind(by) => {
             text.push_str("behind ")?;
             push_by(text, files, all, definition, by)
         }
-        Fate::Full => text.push_str("left out: the table is full"),
+        Fate::Full => push_full(text),
     }
+}
+
+/// Appends that this definition overrides it.
+fn push_overridden(
+    text: &mut String,
+    files: &[FileRead],
+    all: &[Judged<'_, '_>],
+    definition: &Definition,
+    by: usize,
+) -> Result<(), AllocError>
+    ensures { OnOk result
+        (string_bytes text.new
+        ≡ string_bytes text.old
+        ++ (codes "overridden by " ++ words.by_text files.now all.now definition.now by)) }
+{
+    text.push_str("overridden by ")?;
+    push_by(text, files, all, definition, by)
+}
+
+/// Appends that the table has no room for it.
+fn push_full(text: &mut String) -> Result<(), AllocError>
+    ensures { OnOk result
+        (string_bytes text.new ≡ string_bytes text.old ++ codes "left out: the table is full") }
+{
+    text.push_str("left out: the table is full")
 }
 
 /// Appends which definition counts in the place of this one.
 fn push_by(
     text: &mut String,
     files: &[FileRead],
-    all: &[Judged<'_>],
+    all: &[Judged<'_, '_>],
     definition: &Definition,
     by: usize,
 ) -> Result<(), AllocError>
@@ -184,10 +222,19 @@ fn push_counting(
         (string_bytes text.new
         ≡ string_bytes text.old ++ words.counting_text files.now definition.now told.now) }
 {
-    if is_longer(definition, told) {
+    push_longer(text, is_longer(definition, told))?;
+    push_place(text, files, told)
+}
+
+/// Appends that it has more keys, if it has.
+fn push_longer(text: &mut String, has_more_keys: bool) -> Result<(), AllocError>
+    ensures { OnOk result
+        (string_bytes text.new ≡ string_bytes text.old ++ words.longer_text has_more_keys) }
+{
+    if has_more_keys {
         text.push_str("the longer sequence of ")?;
     }
-    push_place(text, files, told)
+    Ok(())
 }
 
 /// Returns whether what is told is a definition with more keys than this one.
@@ -225,12 +272,26 @@ fn push_summary(
         (string_bytes text.new
         ≡ string_bytes text.old ++ words.summary_line version taken other files) }
 {
-    let name = reader_name(version);
     let Some(all) = taken.checked_add(other) else {
         return Err(AllocError);
     };
-    write!(text, "{name} takes {taken} of {all} definitions of ")?;
+    push_counts(text, version, taken, all)?;
     push_files(text, files)
+}
+
+/// Appends how many of all definitions are taken.
+fn push_counts(
+    text: &mut String,
+    version: Version,
+    taken: usize,
+    all: usize,
+) -> Result<(), AllocError>
+    ensures { OnOk result
+        (string_bytes text.new ≡ string_bytes text.old ++ words.counts_text version taken all) }
+{
+    let name = reader_name(version);
+    write!(text, "{name} takes {taken} of {all} definitions of ")?;
+    Ok(())
 }
 
 /// Appends how many files there are.

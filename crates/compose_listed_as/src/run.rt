@@ -1,5 +1,7 @@
 //! `list --as`: a Compose file as another reader has it.
-ghost use Rattle.std.specs.Prelude.{◌≡◌, ◌<◌, length, option_copied, IfOk, IfErr, string_bytes};
+ghost use Rattle.std.specs.Prelude.{◌≡◌, ◌<◌, length, option_copied, IfOk, IfErr, Ok, string_bytes};
+ghost use Rattle.builtin_names.specs.declared.lines.TheConstants.{LINES};
+ghost use Rattle.keysym_core.specs.Header.{names_of};
 ghost use Rattle.compose_input.specs.Texts.{IsRead};
 ghost use Rattle.compose_listed_as.specs.Run as words;
 ghost use Rattle.compose_listed_as.specs.Run.{FailsListAs, IsListAsRun, IsListedAt, PrintsListed};
@@ -14,7 +16,7 @@ use compose_input::{Fault, Places};
 use compose_readers::xkbcommon::{Meanings, Reader, Version};
 use compose_report::Outcome;
 use keysym_core::Names;
-use std::alloc::Global;
+use std::alloc::{AllocError, Global};
 
 /// Returns the outcome of `list --as`: the definitions that the reader takes, and a report of what
 /// it doesn't, or why it refuses the table. Takes the time of `read_files` and of `list_as`.
@@ -74,23 +76,66 @@ fn listed_at<F: Folder>(
     ensures fault { IfErr result (λ fault. IsRead files.old.holds path.now (Err fault)) }
 {
     let locale = places.locale_table(files, alloc)?;
-    let names = Names::built_in();
+    let setting = setting_of(alloc, places, locale)?;
+    listed_in(alloc, files, &setting, version, path)
+}
+
+/// What a reader reads beside files.
+#[derive(Drop)]
+struct Setting {
+    /// The names of keys.
+    names: Names,
+    /// The user's home folder, the path of the locale's table, and the system's folder.
+    home: Option<String>,
+    locale: Option<String>,
+    system: String,
+}
+
+/// Returns the names that are built in, and what the paths of includes are made of; the locale's
+/// table has this path.
+fn setting_of(
+    alloc: Global,
+    places: Places<'_>,
+    locale: Option<String>,
+) -> Result<Setting, AllocError>
+    ensures { IfOk result (λ setting. names_of LINES.now ≡ Ok setting.names) }
+{
+    let home = match places.home {
+        Some(home) => Some(String::from_str(alloc, home)?),
+        None => None,
+    };
+    Ok(Setting {
+        names: Names::built_in(),
+        home,
+        locale,
+        system: String::from_str(alloc, places.system)?,
+    })
+}
+
+/// Returns the same, with these names and paths.
+fn listed_in<F: Folder>(
+    alloc: Global,
+    files: &mut ReadOnce<F>,
+    setting: &Setting,
+    version: Version,
+    path: &str,
+) -> Result<ListedAs, Fault>
+    requires { names_of LINES.now ≡ Ok setting.now.names }
+    ensures kept { files.new.holds ≡ files.old.holds }
+    ensures listed { IfOk result (λ listed. IsListedAt files.old.holds version path.now listed) }
+    ensures fault { IfErr result (λ fault. IsRead files.old.holds path.now (Err fault)) }
+{
     let reader = Reader {
         version,
-        names: &names,
-        meanings: meanings_of(places, locale.as_deref()),
+        names: &setting.names,
+        meanings: Meanings {
+            home: bytes_of(setting.home.as_deref()),
+            locale: bytes_of(setting.locale.as_deref()),
+            system: setting.system.as_bytes(),
+        },
     };
     let read = read_files(alloc, files, &reader, path)?;
     Ok(list_as(alloc, &reader, &read)?)
-}
-
-/// Returns what the paths of includes are made of; the locale's table has this path.
-fn meanings_of<'a>(places: Places<'a>, locale: Option<&'a str>) -> Meanings<'a> {
-    Meanings {
-        home: bytes_of(places.home),
-        locale: bytes_of(locale),
-        system: places.system.as_bytes(),
-    }
 }
 
 /// Returns the bytes of a text, if there is one.

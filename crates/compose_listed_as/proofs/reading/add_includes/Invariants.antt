@@ -8,5 +8,5 @@ abbrev pub invariant-loop-path : goal.invariant-loop-path
 invariant-loop-path g l = record {
   kept : l.files.holds ≡ l.fn.files.holds;
   grown : (more : List FileRead) × (l.read.items ≡ l.fn.read.items ++ more);
-  reached : AreReachedBy l.fn.files.holds l.reader.version l.root (includes_before l.fn.read.items l.at ++ map (λ path. path.items) (take l.path-index l.paths)) l.read.items;
+  reached : AreReachedBy l.fn.files.holds l.reader.version l.root (includes_before l.fn.read.items l.at ++ map (λ path. path.items) (take l.path-index l.path-items)) l.read.items;
 }
