@@ -1,3 +1,4 @@
+pub mod Settled
 pub mod Treatments
 pub mod Printed
 pub mod Faults

@@ -1,23 +1,22 @@
 -- The merged table as a Compose file without includes (Compose(5), "FILE DESCRIPTION"), and the
 -- reading of it.
-use Rattle.std.specs.Prelude.{◌≡◌, ◌<◌, ℕ, List, [], ◌∷◌, ◌++◌, codes, filter, flat_map, map, length, Result, Ok, Err}
+use Rattle.std.specs.Prelude.{◌≡◌, ◌<◌, ℕ, List, [], ◌∷◌, ◌++◌, codes, filter, flat_map, map, length, Ok}
 use Rattle.keysym_core.specs.Names.{KeysymNames}
 use Rattle.compose_model.specs.Table.{Definition}
 use Rattle.compose_model.specs.Nodes.{leaves, nodes}
 use Rattle.compose_model.specs.declared.Rule.TheVariants.{Refuse}
 use Rattle.compose_read.specs.Lines.{Source}
-use Rattle.compose_read.specs.Read.{definitions_of}
 use Rattle.compose_read.specs.Settle.{settled}
 use Rattle.compose_tree.specs.TableReturns.{first_table}
 use Rattle.compose_tree.specs.declared.table.LeafId.{LeafId}
 use Rattle.compose_lookup.specs.TextIndex.{leaf_ids}
-use Rattle.compose_places.specs.Counting.{WrittenLine}
 use Rattle.compose_listing.specs.Leaves.{leaf_line}
 use Rattle.compose_listing.specs.declared.form.ListForm.TheVariants.{Lines}
 use Rattle.compose_diff_rows.specs.Rows.{Written}
 use Rattle.compose_listing.specs.declared.listed.ListedTable.{ListedTable}
 use Rattle.compose_migration.specs.declared.refusal.Refusal.TheVariants as refusals
 use Rattle.compose_tree.specs.Targets.{max_nodes}
+use Rattle.compose_merging.specs.Settled.{rows_of}
 use Rattle.compose_merging.specs.Treatments.{is_taken_leaf}
 use Rattle.compose_merging.specs.declared.asking.MergingFault.{MergingFault}
 use Rattle.compose_merging.specs.declared.asking.MergingFault.TheVariants.{Input, TooLarge, NotReadBack}
@@ -61,10 +60,8 @@ pub record ReadsBack (names : KeysymNames) (definitions : List Definition) (text
   pub read : first_table names (source_of text) Refuse ≡ Ok rows
 
 -- the definitions that are read of the text are settled to these rows
-pub record ReadsRows (names : KeysymNames) (text : List ℕ) (rows : List Definition) : Type 0 where
-  pub definitions : List Definition
-  pub read : definitions_of names (source_of text) (codes "merged") ≡ Ok definitions
-  pub settles : settled Refuse definitions ≡ Ok rows
+abbrev pub ReadsRows : KeysymNames → List ℕ → List Definition → Type 0
+ReadsRows names text rows = rows_of names (source_of text) (codes "merged") Refuse ≡ Ok rows
 
 -- why what is printed is not read to the rows of these definitions
 abbrev pub FailsBack : KeysymNames → List Definition → List ℕ → MergingFault → Type 0

@@ -6,7 +6,6 @@ use Rattle.compose_arguments.specs.declared.given_tables.TypeTable.{TypeTable}
 use Rattle.compose_arguments.specs.declared.merge_arguments.MergeArguments.{MergeArguments}
 use Rattle.compose_details.specs.Given.{IsGiven, parts_of}
 use Rattle.compose_details.specs.declared.given.Given.{Given}
-use Rattle.compose_given.specs.GivenTable.{IsGivenTable}
 use Rattle.compose_given.specs.Reads.{AreParts, FailsReads, reads_of}
 use Rattle.compose_given.specs.declared.chosen.NotedTable.{NotedTable}
 use Rattle.compose_given.specs.declared.environment.Environment.{Environment}

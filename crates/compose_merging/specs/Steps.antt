@@ -37,7 +37,7 @@ ReturnsFresh move (Err refusal) = IsRefused refusal (compared move)
 
 -- the rows are those of the table
 abbrev pub AreRows : {T : Type 0} → (T → List Definition) → Side T → Type 0
-AreRows view side = side.rows.now ≡ view side.listed.table.now
+AreRows view side = side.rows ≡ view side.listed.table.now
 
 -- the merge with this text, and the numbers of sequences
 pub record IsTold (old : List Definition) (treatments : List Treatment) (text : List ℕ) (merging : Merging) : Type 0 where

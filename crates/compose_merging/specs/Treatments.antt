@@ -8,7 +8,6 @@ use Rattle.compose_merge.specs.Place.{fate}
 use Rattle.compose_merge.specs.declared.fate.Fate.{Fate}
 use Rattle.compose_merge.specs.declared.fate.Fate.TheVariants as fates
 use Rattle.compose_tree.specs.declared.table.LeafId.{LeafId}
-use Rattle.compose_merging.specs.declared.treatment.Cause.{Cause}
 use Rattle.compose_merging.specs.declared.treatment.Cause.TheVariants as causes
 use Rattle.compose_merging.specs.declared.treatment.Treatment.{Treatment}
 use Rattle.compose_merging.specs.declared.treatment.Treatment.TheVariants.{Same, Taken, LeftOut}

@@ -21,6 +21,7 @@ mod reasons;
 mod report;
 mod running;
 mod same_rows;
+mod settled;
 mod sides;
 mod treatment;
 

@@ -11,6 +11,7 @@ use crate::asking::{MergeInput, Merging, MergingFault};
 use crate::fresh::fresh_keys;
 use crate::printed::{check_back, table_text};
 use crate::report::{Totals, push_all_left_out, push_totals};
+use crate::settled::read_settled;
 use crate::sides::Side;
 use crate::treatment::{Treatment, count_left_out, count_taken, treatments};
 use compose_answer::Refusal;
@@ -19,7 +20,7 @@ use compose_listing::ListedTable;
 use compose_merge::merge;
 use compose_migration::{Migration, TableInput};
 use compose_places::PlacedTable;
-use compose_read::{Sequences, read_definitions, settle};
+use compose_read::Sequences;
 use compose_tree::{BuildTable, ComposeTable, TableFault};
 use keysym_core::{Keysym, Names};
 use std::alloc::{AllocError, Global};
@@ -63,7 +64,7 @@ fn merge_read<T: BuildTable>(
             lines: &migration.old.lines,
             paths: input.old_paths,
         },
-        rows: &old,
+        rows: old,
     };
     let new_side = Side {
         listed: ListedTable {
@@ -72,7 +73,7 @@ fn merge_read<T: BuildTable>(
             lines: &migration.new.lines,
             paths: input.new_paths,
         },
-        rows: &new,
+        rows: new,
     };
     merge_sides(alloc, &migration.names, &fresh, &old_side, &new_side)
 }
@@ -91,8 +92,10 @@ fn merge_sides<T: BuildTable>(
     ensures { Merges names.now fresh.now (listed_as T.definitions old.now.listed)
         (listed_as T.definitions new.now.listed) result }
 {
-    let rows = merge::<T>(alloc, names, fresh, &[], old.rows, new.rows)?;
-    let treatments = treatments(alloc, old.listed.table, names, fresh, new.rows)?;
+    // The contract of this call says that the old table has not too many nodes.
+    let _ = old.listed.table.node_count();
+    let rows = merge::<T>(alloc, names, fresh, &[], &old.rows, &new.rows)?;
+    let treatments = treatments(alloc, old.listed.table, names, fresh, &new.rows)?;
     let table = table_text(alloc, &old.listed, &new.listed, &treatments)?;
     check_back::<T>(alloc, names, &table, &rows)?;
     Ok(told(alloc, names, old, new, &treatments, table)?)
@@ -108,7 +111,7 @@ fn told<T: ComposeTable>(
     table: String,
 ) -> Result<Merging, AllocError>
     ensures { IfOk result
-        (λ merging. IsTold old.now.rows.now treatments.now (string_bytes table) merging) }
+        (λ merging. IsTold old.now.rows treatments.now (string_bytes table) merging) }
 {
     let kept = old.rows.len();
     let taken = count_taken(treatments);
@@ -139,7 +142,7 @@ fn report_text<T: ComposeTable>(
 ) -> Result<String, AllocError> {
     let mut report = String::new(alloc);
     push_all_left_out(alloc, &mut report, old, new, treatments)?;
-    let fresh = fresh_keys(alloc, old.listed.table, new.rows, treatments)?;
+    let fresh = fresh_keys(alloc, old.listed.table, &new.rows, treatments)?;
     push_totals(alloc, &mut report, names, totals, &fresh)?;
     Ok(report)
 }
@@ -183,7 +186,5 @@ fn read_rows(alloc: Global, names: &Names, input: TableInput<'_>) -> Result<Sequ
     let Some(root) = input.sources.name(0) else {
         return Err(TableFault::NoMemory);
     };
-    let definitions = read_definitions(alloc, names, input.sources, root)?;
-    let rows = settle(alloc, definitions, input.rule)?;
-    Ok(rows)
+    read_settled(alloc, names, input.sources, root, input.rule)
 }

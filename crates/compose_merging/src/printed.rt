@@ -11,11 +11,12 @@ ghost use Rattle.compose_merging.specs.Treatments.{is_taken_leaf};
 
 use crate::asking::MergingFault;
 use crate::same_rows::are_same;
+use crate::settled::read_settled;
 use crate::treatment::{Treatment, is_taken};
 use compose_answer::Refusal;
 use compose_listing::{ListForm, ListedTable, push_leaves};
 use compose_model::Rule;
-use compose_read::{Sequences, Sources, read_definitions, settle};
+use compose_read::{Sequences, SourceFault, Sources};
 use compose_tree::{BuildFault, BuildTable, ComposeTable, LeafId, TableFault};
 use keysym_core::Names;
 use std::alloc::{AllocError, Global};
@@ -127,11 +128,17 @@ fn read_back(alloc: Global, names: &Names, text: &str) -> Result<Sequences, Tabl
         (λ fault. fault ≢ TableFault.NoMemory
         → (rows : List Definition) → first_table names.now (source_of text.now) Refuse ≢ Ok rows) }
 {
-    let mut sources = Sources::new(alloc);
-    if sources.add_borrowed("merged", text.as_bytes()).is_err() {
+    let Ok(sources) = merged_source(alloc, text.as_bytes()) else {
         return Err(TableFault::NoMemory);
-    }
-    let definitions = read_definitions(alloc, names, &sources, "merged")?;
-    let rows = settle(alloc, definitions, Rule::Refuse)?;
-    Ok(rows)
+    };
+    read_settled(alloc, names, &sources, "merged", Rule::Refuse)
+}
+
+/// Returns the text as the only source.
+fn merged_source(alloc: Global, text: &[u8]) -> Result<Sources<'_>, SourceFault>
+    ensures { IfOk result (λ sources. sources ≡ source_of text.now) }
+{
+    let mut sources = Sources::new(alloc);
+    sources.add_borrowed("merged", text)?;
+    Ok(sources)
 }

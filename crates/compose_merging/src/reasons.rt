@@ -68,7 +68,7 @@ fn push_beside<T: ComposeTable>(
     row: usize,
     cause: Cause,
 ) -> Result<(), AllocError> {
-    let Some(other) = row_beside(old.rows, new.rows, row) else {
+    let Some(other) = row_beside(&old.rows, &new.rows, row) else {
         return Ok(());
     };
     match cause {

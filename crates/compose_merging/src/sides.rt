@@ -9,7 +9,7 @@ pub(crate) struct Side<'a, T> {
     /// The table, with the lines that count.
     pub(crate) listed: ListedTable<'a, T>,
     /// Its rows.
-    pub(crate) rows: &'a Sequences,
+    pub(crate) rows: Sequences,
 }
 
 impl<'a, T> Side<'a, T> {

@@ -109,7 +109,7 @@ fn has_text<T: ComposeTable>(table: &T, sequence: &[Keysym], text: &str) -> bool
     // The contract of this call says that the table is settled.
     let _ = table.node_count();
     match leaf_of(table, sequence) {
-        Some(leaf) => table.text(leaf) == text,
+        Some(leaf) => text == table.text(leaf),
         None => false,
     }
 }
