@@ -130,7 +130,7 @@ not_promised_but allowed input answered answer e no h p = by answer no (subst (�
     by (Invalid fault) n r = yes_not_no fault p.parts r.0 p.yes r.2 (ok_same p.parts r.0 (allowed_parts allowed input) p.read r.1)
     by (FreshNotAllowed keysym) n r =
         some_not_none keysym p.parts.keys p.parts.certificate.fresh
-            (ap (λ (q : Parts). first_not_among q.keys q.certificate.fresh) (ok_same p.parts r.0 (allowed_parts allowed input) p.read r.1) ∙ r.2.1) p.no_other
+        (ap (λ (q : Parts). first_not_among q.keys q.certificate.fresh) (ok_same p.parts r.0 (allowed_parts allowed input) p.read r.1) ∙ r.2.1) p.no_other
 
 -- ---- from a run
 

@@ -174,7 +174,7 @@ module _ (asked : Asked) (e : Explainable) (answer : Answer) (read : compared_pa
     typed s there other =
         let some = or_left (is_sequence old s) (is_sequence new s) there in
         (in_words e.move.names old new diff.tables.0 free_old s there).0
-            (kept_if s (change e.move.names e.fresh old new s) (happens s some) (harmless s some other) there)
+        (kept_if s (change e.move.names e.fresh old new s) (happens s some) (harmless s some other) there)
 
     starts : (s : List ℕ) → is_added old new s ≡ true → not (is_intended asked e lines s) ≡ true → not (is_new_start e.move.names e.fresh old new s) ≡ true
     starts s added other =

@@ -74,7 +74,7 @@ explained_of given e h =
   where
     by_fault : (move : Parts) (fresh : List ℕ) (unmet : Option CheckFault) (many : Bool) → migration_of given ≡ Ok move → first_unmet (fresh_conditions move.old fresh) ≡ unmet
         → (let r : Result Explainable NoAnswer =
-          option_map_or (λ why. Err why) (option_map_or (λ fault. Some (no_fresh fault)) unmet (if many then Some too_many_fresh else None)) (Ok (record { move = move; fresh = fresh })) in r)
+        option_map_or (λ why. Err why) (option_map_or (λ fault. Some (no_fresh fault)) unmet (if many then Some too_many_fresh else None)) (Ok (record { move = move; fresh = fresh })) in r)
         ≡ Ok e
         → Explained given e
     by_fault move fresh (Some fault) many read met k = absurd (cc)
@@ -172,7 +172,7 @@ module _ (run : Run) (old new : TypeTable) (fresh : List (List ℕ)) (all : Bool
   names_read : AreNames run.folder (names_for (is_file old) (names_of run.options)) names
   names_read =
       subst (λ (given : Bor (List (Bor (List ℕ)))). AreNames run.folder (names_for (is_file old) (words given.now)) names) (wants.names ∙ is_asked.are_names)
-          (subst (λ b. AreNames run.folder (names_for b (words wanted.names.now)) names) (wants.are_files ∙ is_asked.are_files) are_names)
+      (subst (λ b. AreNames run.folder (names_for b (words wanted.names.now)) names) (wants.are_files ∙ is_asked.are_files) are_names)
 
   module _ (a b : NotedTable) (are_tables : AreTables run.folder run.environment wanted.tables.now (a ∷ b ∷ [])) where
     pub defines : DefinesBoth run old new fresh (input_of names a.table b.table fresh)

@@ -216,7 +216,7 @@ impossible given repertoire needs h fails certificate p =
     let m = made_of given repertoire needs h in
     let c = parts_from given m.move repertoire certificate m.range p.parts m.is_move m.is_range p.read in
     fails_kept m.move m.range c.0 (subst Fails (sym m.whole) fails) (subst (λ (q : checks.Parts). IsKept q) (sym c.1) p.kept)
-        (subst (λ (q : checks.Parts). KeepsTyping q.names q.keys q.old q.new) (sym c.1) p.keeps)
+    (subst (λ (q : checks.Parts). KeepsTyping q.names q.keys q.old q.new) (sym c.1) p.keeps)
 
 -- ---- from a run
 

@@ -47,7 +47,7 @@ module _ (header : List ℕ) (names : KeysymNames) (read : names_of header ≡ O
       let more = bind_ok (sequence_of names v (1 + index) events) (λ sequence. Ok (k.0 ∷ sequence)) ks k.2 in
       let others = keys_fed v (1 + index) events more.0 more.1 in
       subst (λ js. (list_all is_fed js ≡ true) × (length js ≡ length (event ∷ events))) (ok_ok (k.0 ∷ more.0) ks more.2)
-          (and_from (is_fed k.0) (list_all is_fed more.0) (key_fed v index k.0 (value names event) (λ j e. value_is header names event j read e) k.1) others.0, omega (arith, others.1))
+      (and_from (is_fed k.0) (list_all is_fed more.0) (key_fed v index k.0 (value names event) (λ j e. value_is header names event j read e) k.1) others.0, omega (arith, others.1))
 
   -- ---- the text
 
@@ -171,9 +171,9 @@ module _ (header : List ℕ) (names : KeysymNames) (read : names_of header ≡ O
       let found = bind_ok (line_after names sources lines count v) (λ found. read_on names sources (1 + lines) (length (option_to_list found) + count) vs >>= (λ table. Ok (option_to_list found ++ table))) table h in
       let more = bind_ok (read_on names sources (1 + lines) (length (option_to_list found.0) + count) vs) (λ table. Ok (option_to_list found.0 ++ table)) table found.2 in
       subst (λ (ds : List Definition). is_table ds ≡ true) (ok_ok (option_to_list found.0 ++ more.0) table more.2)
-          (list_all-append is_definition (option_to_list found.0) more.0
-          ∙ and_from (is_table (option_to_list found.0)) (is_table more.0) (after_is sources lines count v found.0 found.1)
-          (lines_are sources (1 + lines) (length (option_to_list found.0) + count) vs more.0 more.1))
+      (list_all-append is_definition (option_to_list found.0) more.0
+      ∙ and_from (is_table (option_to_list found.0)) (is_table more.0) (after_is sources lines count v found.0 found.1)
+      (lines_are sources (1 + lines) (length (option_to_list found.0) + count) vs more.0 more.1))
 
   pub definitions_are : (sources : List Source) (root : List ℕ) (table : List Definition) → definitions_of names sources root ≡ Ok table → is_table table ≡ true
   definitions_are sources root table h = go (nat_lt (source_named sources root) (length sources)) h

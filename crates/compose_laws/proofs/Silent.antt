@@ -205,7 +205,7 @@ quiet run (Make (Manifests paths) fresh all repertoire output) outcome h = let r
 quiet run (Make (Files pair) fresh all repertoire output) outcome h =
     let r = h.5 in
     written_quiet r.printed outcome r.written
-        (noted_quiet r.is.reported.printed r.printed r.is.reported.noted (worded_quiet r.is.answered r.is.reported.printed r.is.reported.is.reported))
+    (noted_quiet r.is.reported.printed r.printed r.is.reported.noted (worded_quiet r.is.answered r.is.reported.printed r.is.reported.is.reported))
 quiet run (Manifest arguments) outcome r = noted_quiet r.found outcome r.noted (noted_quiet r.is.written r.found r.is.noted (manifest_quiet r.table.files.items r.is.written r.is.is))
 
 pub silent : (run : Run) (question : Question) (outcome : Outcome) → Ends run question outcome → 2 ≤ status_of outcome.ended → IsSilent outcome
