@@ -85,19 +85,27 @@ fn push_table(text: &mut String, in_use: &Option<StoredSummary>) -> Result<(), A
     let Some(stored) = in_use else {
         return text.push_str("in use: none\n");
     };
+    push_stored(text, stored)?;
+    push_names(text, stored.names)
+}
+
+/// Appends the lines for the table in use, but for its names.
+fn push_stored(text: &mut String, summary: &StoredSummary) -> Result<(), AllocError>
+    ensures { OnOk result
+        (string_bytes text.new ≡ string_bytes text.old ++ spec.stored_lines summary.now) }
+{
     let StoredSummary {
         origin,
         stored,
         sequences,
         files,
-        names,
-    } = stored;
+        names: _,
+    } = summary;
     let origin = Shown(origin);
     write!(
         text,
         "in use: {origin}\nstored: {stored}\nsequences: {sequences}\nfiles: {files}\n"
-    )?;
-    push_names(text, *names)
+    )
 }
 
 /// Adds the line about the names.
