@@ -337,16 +337,12 @@ fn is_refused<T: BuildTable>(alloc: Global, names: &Names, sources: &Sources) ->
     ensures { IsTrue result → IsRefusedTable names.now sources.now }
 {
     match read_first_table::<T>(alloc, names, sources, Rule::Longest) {
-        Err(fault) => !is_memory(&fault),
         Ok(_) => false,
+        Err(TableFault::NoMemory) => false,
+        Err(TableFault::Read(_)) => true,
+        Err(TableFault::Settle(_)) => true,
+        Err(TableFault::Build(_)) => true,
     }
-}
-
-/// Returns whether memory ran out.
-fn is_memory(fault: &TableFault) -> bool
-    ensures { fault.now ≡ TableFault.NoMemory → IsTrue result }
-{
-    matches!(fault, TableFault::NoMemory)
 }
 
 /// Returns what is printed if the table in use can't be read by the names that were given.

@@ -14,4 +14,4 @@ returns g c =
     (λ taking becomes. record {
       needs = needed_by wanted.has_names wanted.has_repertoire asked current old between new refl c.in_ok-need_names.ensures c.need.ensures;
       becomes = becomes;
-    }) (c.decide_needed.ensures asked current refl (sym c.deref.ensures.value) c.is_other.ensures)
+    }) (c.decide_needed.ensures asked current refl (sym c.deref.ensures.value) c.is_other-is_other.ensures)
