@@ -128,10 +128,12 @@ Decides meant fresh Ran files (takings.Follows file load) =
 Decides meant fresh Ran files (takings.Meant file) =
     (stored : _) × (Ran (runs.Meant stored) ⊎ ((certificate : _) × Ran (runs.Replaced stored certificate) × IsTrue meant)) × IsFile files fresh stored.items file.items
 
+abbrev pub IsRefusedTable : KeysymNames → List Source → Type 0
+IsRefusedTable names sources = (why : NoTable) × (first_table names sources Longest ≡ Err why)
+
 -- the table with this payload can't be read by the names with these lines
 abbrev pub IsUnreadable : List ℕ → List ℕ → Type 0
-IsUnreadable lines payload =
-    (names : KeysymNames) × (names_of lines ≡ Ok names) × ((b : Bundle) × IsBundle payload b × ((why : NoTable) × (first_table names b.sources Longest ≡ Err why)))
+IsUnreadable lines payload = (names : KeysymNames) × (names_of lines ≡ Ok names) × ((b : Bundle) × IsBundle payload b × IsRefusedTable names b.sources)
 
 abbrev pub unread : List ℕ
 unread = codes "composecheck: the table in use can't be read by the names that are given: give those that it was read by too\n"

@@ -10,7 +10,7 @@ ghost use Rattle.compose_table_file.specs.Reading.{table_of};
 ghost use Rattle.compose_report.specs.Outcomes.{PrintsErrors};
 ghost use Rattle.compose_service_runs.specs.Taking as words;
 ghost use Rattle.compose_model.specs.Step.{is_empty};
-ghost use Rattle.compose_service_runs.specs.Taking.{Asked, Becomes, Decides, DecidesBeside, DecidesTaking, IsFile, IsHandedOver, IsLoad, IsLoaded, IsUnreadable, NeedsNames, NeedsRepertoire, OnOkOk, PrintsNoted, Stores, TakesHere, TakesRunning, asked_by, more};
+ghost use Rattle.compose_service_runs.specs.Taking.{Asked, Becomes, Decides, DecidesBeside, DecidesTaking, IsFile, IsHandedOver, IsLoad, IsLoaded, IsRefusedTable, IsUnreadable, NeedsNames, NeedsRepertoire, OnOkOk, PrintsNoted, Stores, TakesHere, TakesRunning, asked_by, more};
 
 use crate::client::{ClientRequests, load_requests, run_exchange};
 use crate::peer::Peer;
@@ -328,9 +328,20 @@ fn is_unreadable<T: BuildTable>(alloc: Global, lines: &[u8], payload: &[u8]) -> 
     let Ok(bundle) = read_bundle(alloc, payload) else {
         return false;
     };
-    match read_first_table::<T>(alloc, &names, &bundle.sources, Rule::Longest) {
-        Ok(_) | Err(TableFault::NoMemory) => false,
-        Err(_) => true,
+    is_refused::<T>(alloc, &names, &bundle.sources)
+}
+
+/// Returns whether the table of these sources is refused. If memory runs out, it is taken for one
+/// that isn't.
+fn is_refused<T: BuildTable>(alloc: Global, names: &Names, sources: &Sources) -> bool
+    ensures { IsTrue result → IsRefusedTable names.now sources.now }
+{
+    match read_first_table::<T>(alloc, names, sources, Rule::Longest) {
+        Ok(_) => false,
+        Err(TableFault::NoMemory) => false,
+        Err(TableFault::Read(_)) => true,
+        Err(TableFault::Settle(_)) => true,
+        Err(TableFault::Build(_)) => true,
     }
 }
 
