@@ -124,10 +124,25 @@ fn changed(alloc: Global, at: usize, byte: u8) -> Result<Vec<u8>, Fail> {
 fn parts_that_are_none_are_named(rt: HostRuntime) -> Result<(), Fail> {
     let alloc = rt.alloc();
     // another name than `names`, and than `fresh`
-    expect_found(&rt, alloc, &changed(alloc, 42, b'N')?, Err(StoredFault::Parts));
-    expect_found(&rt, alloc, &changed(alloc, 55, b'F')?, Err(StoredFault::Parts));
+    expect_found(
+        &rt,
+        alloc,
+        &changed(alloc, 42, b'N')?,
+        Err(StoredFault::Parts),
+    );
+    expect_found(
+        &rt,
+        alloc,
+        &changed(alloc, 55, b'F')?,
+        Err(StoredFault::Parts),
+    );
     // no keysym
-    expect_found(&rt, alloc, &changed(alloc, 64, 0x20)?, Err(StoredFault::Fresh));
+    expect_found(
+        &rt,
+        alloc,
+        &changed(alloc, 64, 0x20)?,
+        Err(StoredFault::Fresh),
+    );
     // the file is cut off
     let whole = changed(alloc, 0, 0)?;
     for end in 0..whole.len() {
