@@ -100,7 +100,7 @@ said_but allowed input answered text e h = by (subst (λ (a : Result Answer Refu
 -- ---- from a no
 
 yes_not_no : (fault : CheckFault) (a b : Parts) → verdict_on a ≡ verdicts.Yes → verdict_on b ≡ verdicts.No fault → a ≡ b → ⊥
-yes_not_no fault a b yes no same = clash_verdicts (sym yes ∙ ap verdict_on same ∙ no)
+yes_not_no fault a b is_yes is_no same = clash_verdicts (sym is_yes ∙ ap verdict_on same ∙ is_no)
   where
     clash_verdicts : verdicts.Yes ≡ verdicts.No fault → ⊥
     clash_verdicts e = cc
@@ -112,7 +112,7 @@ some_not_none k allowed fresh some none = clash_options (sym some ∙ none)
     clash_options e = cc
 
 not_promised : (input : Input) (answered : Result Answer Refusal) (answer : Answer) → answered ≡ Ok answer → IsNo answer → Returns IsChecked answered (parts_of input) → IsPromised input → ⊥
-not_promised input answered answer e no h p = by answer no (subst (λ (a : Result Answer Refusal). Returns IsChecked a (parts_of input)) e h)
+not_promised input answered answer e is_no h p = by answer is_no (subst (λ (a : Result Answer Refusal). Returns IsChecked a (parts_of input)) e h)
   where
     by : (a : Answer) → IsNo a → Returns IsChecked (Ok a) (parts_of input) → ⊥
     by (Yes text) n r = n
@@ -122,7 +122,7 @@ not_promised input answered answer e no h p = by answer no (subst (λ (a : Resul
 
 not_promised_but : (allowed : List (List ℕ)) (input : Input) (answered : Result Answer Refusal) (answer : Answer) → answered ≡ Ok answer → IsNo answer
     → Returns IsCheckedFor answered (allowed_parts allowed input) → IsPromisedBut allowed input → ⊥
-not_promised_but allowed input answered answer e no h p = by answer no (subst (λ (a : Result Answer Refusal). Returns IsCheckedFor a (allowed_parts allowed input)) e h)
+not_promised_but allowed input answered answer e is_no h p = by answer is_no (subst (λ (a : Result Answer Refusal). Returns IsCheckedFor a (allowed_parts allowed input)) e h)
   where
     by : (a : Answer) → IsNo a → Returns IsCheckedFor (Ok a) (allowed_parts allowed input) → ⊥
     by (Yes text) n r = n
@@ -138,61 +138,61 @@ pub checked : (run : Run) (tables : BothTables) (texts : CheckTexts) (outcome : 
     → (input : Input) × DefinesCheck run tables texts input × IsPromised input
 checked run (Manifests tables) texts outcome h =
     let r = answers run (Check (Manifests tables) None texts.repertoire texts.certificate) outcome h in
-    let yes = yes_worded true run.options.verbose r.is.given r.is.answered outcome r.is.reported h.1 in
-    (check_given r.check, (r.check, r.read, refl), promised (check_given r.check) r.is.answered yes.0 yes.1 r.is.is)
+    let is_yes = yes_worded true run.options.verbose r.is.given r.is.answered outcome r.is.reported h.1 in
+    (check_given r.check, (r.check, r.read, refl), promised (check_given r.check) r.is.answered is_yes.0 is_yes.1 r.is.is)
 checked run (Files pair) texts outcome h =
     let r = answers run (Check (Files pair) None texts.repertoire texts.certificate) outcome h in
-    let yes = yes_noted r.is.answered r.is.reported.is.given r.is.reported.printed outcome r.is.reported.is.reported r.is.reported.noted h.1 in
-    (check_given r.check, (r.check, r.read, refl), promised (check_given r.check) r.is.answered yes.0 yes.1 r.is.is)
+    let is_yes = yes_noted r.is.answered r.is.reported.is.given r.is.reported.printed outcome r.is.reported.is.reported r.is.reported.noted h.1 in
+    (check_given r.check, (r.check, r.read, refl), promised (check_given r.check) r.is.answered is_yes.0 is_yes.1 r.is.is)
 
 pub checked_but : (run : Run) (tables : BothTables) (fresh : Vec (Bor (List ℕ)) Global) (texts : CheckTexts) (outcome : Outcome)
     → EndsWith 0 run (Check tables (Some fresh) texts.repertoire texts.certificate) outcome → (input : Input) × DefinesCheck run tables texts input × IsPromisedBut (words fresh.items) input
 checked_but run (Manifests tables) fresh texts outcome h =
     let r = answers run (Check (Manifests tables) (Some fresh) texts.repertoire texts.certificate) outcome h in
-    let yes = yes_worded true run.options.verbose r.is.given r.is.answered outcome r.is.reported h.1 in
-    (check_given r.check, (r.check, r.read, refl), promised_but (words fresh.items) (check_given r.check) r.is.answered yes.0 yes.1 r.is.is)
+    let is_yes = yes_worded true run.options.verbose r.is.given r.is.answered outcome r.is.reported h.1 in
+    (check_given r.check, (r.check, r.read, refl), promised_but (words fresh.items) (check_given r.check) r.is.answered is_yes.0 is_yes.1 r.is.is)
 checked_but run (Files pair) fresh texts outcome h =
     let r = answers run (Check (Files pair) (Some fresh) texts.repertoire texts.certificate) outcome h in
-    let yes = yes_noted r.is.answered r.is.reported.is.given r.is.reported.printed outcome r.is.reported.is.reported r.is.reported.noted h.1 in
-    (check_given r.check, (r.check, r.read, refl), promised_but (words fresh.items) (check_given r.check) r.is.answered yes.0 yes.1 r.is.is)
+    let is_yes = yes_noted r.is.answered r.is.reported.is.given r.is.reported.printed outcome r.is.reported.is.reported r.is.reported.noted h.1 in
+    (check_given r.check, (r.check, r.read, refl), promised_but (words fresh.items) (check_given r.check) r.is.answered is_yes.0 is_yes.1 r.is.is)
 
 pub prints_yes : (run : Run) (tables : BothTables) (fresh : Option (Vec (Bor (List ℕ)) Global)) (texts : CheckTexts) (outcome : Outcome)
     → EndsWith 0 run (Check tables fresh texts.repertoire texts.certificate) outcome → string_bytes outcome.output ≡ codes "yes\n"
 prints_yes run (Manifests tables) None texts outcome h =
     let r = answers run (Check (Manifests tables) None texts.repertoire texts.certificate) outcome h in
-    let yes = yes_worded true run.options.verbose r.is.given r.is.answered outcome r.is.reported h.1 in
-    yes.2 ∙ said (check_given r.check) r.is.answered yes.0 yes.1 r.is.is
+    let is_yes = yes_worded true run.options.verbose r.is.given r.is.answered outcome r.is.reported h.1 in
+    is_yes.2 ∙ said (check_given r.check) r.is.answered is_yes.0 is_yes.1 r.is.is
 prints_yes run (Manifests tables) (Some fresh) texts outcome h =
     let r = answers run (Check (Manifests tables) (Some fresh) texts.repertoire texts.certificate) outcome h in
-    let yes = yes_worded true run.options.verbose r.is.given r.is.answered outcome r.is.reported h.1 in
-    yes.2 ∙ said_but (words fresh.items) (check_given r.check) r.is.answered yes.0 yes.1 r.is.is
+    let is_yes = yes_worded true run.options.verbose r.is.given r.is.answered outcome r.is.reported h.1 in
+    is_yes.2 ∙ said_but (words fresh.items) (check_given r.check) r.is.answered is_yes.0 is_yes.1 r.is.is
 prints_yes run (Files pair) None texts outcome h =
     let r = answers run (Check (Files pair) None texts.repertoire texts.certificate) outcome h in
-    let yes = yes_noted r.is.answered r.is.reported.is.given r.is.reported.printed outcome r.is.reported.is.reported r.is.reported.noted h.1 in
-    yes.2 ∙ said (check_given r.check) r.is.answered yes.0 yes.1 r.is.is
+    let is_yes = yes_noted r.is.answered r.is.reported.is.given r.is.reported.printed outcome r.is.reported.is.reported r.is.reported.noted h.1 in
+    is_yes.2 ∙ said (check_given r.check) r.is.answered is_yes.0 is_yes.1 r.is.is
 prints_yes run (Files pair) (Some fresh) texts outcome h =
     let r = answers run (Check (Files pair) (Some fresh) texts.repertoire texts.certificate) outcome h in
-    let yes = yes_noted r.is.answered r.is.reported.is.given r.is.reported.printed outcome r.is.reported.is.reported r.is.reported.noted h.1 in
-    yes.2 ∙ said_but (words fresh.items) (check_given r.check) r.is.answered yes.0 yes.1 r.is.is
+    let is_yes = yes_noted r.is.answered r.is.reported.is.given r.is.reported.printed outcome r.is.reported.is.reported r.is.reported.noted h.1 in
+    is_yes.2 ∙ said_but (words fresh.items) (check_given r.check) r.is.answered is_yes.0 is_yes.1 r.is.is
 
 pub rejected : (run : Run) (tables : BothTables) (texts : CheckTexts) (outcome : Outcome) → EndsWith 1 run (Check tables None texts.repertoire texts.certificate) outcome
     → (input : Input) × DefinesCheck run tables texts input × (IsPromised input → ⊥)
 rejected run (Manifests tables) texts outcome h =
     let r = answers_no run (Check (Manifests tables) None texts.repertoire texts.certificate) outcome h in
-    let no = no_worded r.is.answered outcome r.is.reported h.1 in
-    (check_given r.check, (r.check, r.read, refl), not_promised (check_given r.check) r.is.answered no.0 no.1 no.2 r.is.is)
+    let is_no = no_worded r.is.answered outcome r.is.reported h.1 in
+    (check_given r.check, (r.check, r.read, refl), not_promised (check_given r.check) r.is.answered is_no.0 is_no.1 is_no.2 r.is.is)
 rejected run (Files pair) texts outcome h =
     let r = answers_no run (Check (Files pair) None texts.repertoire texts.certificate) outcome h in
-    let no = no_worded r.is.answered r.is.reported.printed r.is.reported.is.reported (ap status_of (sym r.is.reported.noted.ended) ∙ h.1) in
-    (check_given r.check, (r.check, r.read, refl), not_promised (check_given r.check) r.is.answered no.0 no.1 no.2 r.is.is)
+    let is_no = no_worded r.is.answered r.is.reported.printed r.is.reported.is.reported (ap status_of (sym r.is.reported.noted.ended) ∙ h.1) in
+    (check_given r.check, (r.check, r.read, refl), not_promised (check_given r.check) r.is.answered is_no.0 is_no.1 is_no.2 r.is.is)
 
 pub rejected_but : (run : Run) (tables : BothTables) (fresh : Vec (Bor (List ℕ)) Global) (texts : CheckTexts) (outcome : Outcome)
     → EndsWith 1 run (Check tables (Some fresh) texts.repertoire texts.certificate) outcome → (input : Input) × DefinesCheck run tables texts input × (IsPromisedBut (words fresh.items) input → ⊥)
 rejected_but run (Manifests tables) fresh texts outcome h =
     let r = answers_no run (Check (Manifests tables) (Some fresh) texts.repertoire texts.certificate) outcome h in
-    let no = no_worded r.is.answered outcome r.is.reported h.1 in
-    (check_given r.check, (r.check, r.read, refl), not_promised_but (words fresh.items) (check_given r.check) r.is.answered no.0 no.1 no.2 r.is.is)
+    let is_no = no_worded r.is.answered outcome r.is.reported h.1 in
+    (check_given r.check, (r.check, r.read, refl), not_promised_but (words fresh.items) (check_given r.check) r.is.answered is_no.0 is_no.1 is_no.2 r.is.is)
 rejected_but run (Files pair) fresh texts outcome h =
     let r = answers_no run (Check (Files pair) (Some fresh) texts.repertoire texts.certificate) outcome h in
-    let no = no_worded r.is.answered r.is.reported.printed r.is.reported.is.reported (ap status_of (sym r.is.reported.noted.ended) ∙ h.1) in
-    (check_given r.check, (r.check, r.read, refl), not_promised_but (words fresh.items) (check_given r.check) r.is.answered no.0 no.1 no.2 r.is.is)
+    let is_no = no_worded r.is.answered r.is.reported.printed r.is.reported.is.reported (ap status_of (sym r.is.reported.noted.ended) ∙ h.1) in
+    (check_given r.check, (r.check, r.read, refl), not_promised_but (words fresh.items) (check_given r.check) r.is.answered is_no.0 is_no.1 is_no.2 r.is.is)

@@ -62,14 +62,14 @@ shown_yes false answer text h = (text, sym h)
 
 -- an answer that is shown as another one than yes is none
 shown_no : (colored : Bool) (answer shown : Answer) → IsShown colored answer shown → IsNo shown → IsNo answer
-shown_no true (Yes own) (Yes text) h no = no
-shown_no true (Yes own) (No text) h no = h
-shown_no true (Yes own) (Invalid fault) h no = h
-shown_no true (Yes own) (FreshNotAllowed keysym) h no = h
-shown_no true (No own) shown h no = tt
-shown_no true (Invalid fault) shown h no = tt
-shown_no true (FreshNotAllowed keysym) shown h no = tt
-shown_no false answer shown h no = subst IsNo h no
+shown_no true (Yes own) (Yes text) h is_no = is_no
+shown_no true (Yes own) (No text) h is_no = h
+shown_no true (Yes own) (Invalid fault) h is_no = h
+shown_no true (Yes own) (FreshNotAllowed keysym) h is_no = h
+shown_no true (No own) shown h is_no = tt
+shown_no true (Invalid fault) shown h is_no = tt
+shown_no true (FreshNotAllowed keysym) shown h is_no = tt
+shown_no false answer shown h is_no = subst IsNo h is_no
 
 ok_is : (a b : Answer) → (let r : Result Answer Refusal = Ok a in r) ≡ Ok b → a ≡ b
 ok_is a b h = cc
@@ -163,9 +163,9 @@ module _ (asked : Asked) (e : Explainable) (answer : Answer) (read : compared_pa
   starts_if s Added h harmless added = h.1
   starts_if s NewStart h harmless added = absurd (false_true harmless)
 
-  module _ (yes : IsYes answer) (lines : List Line) (intended : accepted_of asked.accepted ≡ Ok lines) where
+  module _ (is_yes : IsYes answer) (lines : List Line) (intended : accepted_of asked.accepted ≡ Ok lines) where
     meant : AreMeant asked e lines
-    meant = (meant_is asked e answer lines diff intended).0 yes
+    meant = (meant_is asked e answer lines diff intended).0 is_yes
 
     harmless : (s : List ℕ) → is_sequence old s || is_sequence new s ≡ true → not (is_intended asked e lines s) ≡ true → is_harmless (change e.move.names e.fresh old new s) ≡ true
     harmless s some other = or_not (is_harmless (change e.move.names e.fresh old new s)) (is_intended asked e lines s) (meant s some) other
@@ -182,21 +182,21 @@ module _ (asked : Asked) (e : Explainable) (answer : Answer) (read : compared_pa
         starts_if s (change e.move.names e.fresh old new s) (happens s some) (harmless s some other) added
 
   loses_nothing : IsYes answer → accepted_of asked.accepted ≡ Ok [] → LosesNothing asked
-  loses_nothing yes none = record {
+  loses_nothing is_yes none = record {
     compared = e;
     read = read;
-    keeps = keeps e.move.names e.fresh old new ((follows_is asked e answer read diff none).0 yes);
-    typed = λ s there. typed yes [] none s there refl;
+    keeps = keeps e.move.names e.fresh old new ((follows_is asked e answer read diff none).0 is_yes);
+    typed = λ s there. typed is_yes [] none s there refl;
   }
 
   only_intended : IsYes answer → LosesOnlyIntended asked
-  only_intended yes = record {
+  only_intended is_yes = record {
     compared = e;
     read = read;
     lines = diff.lines;
     intended = diff.read;
-    typed = typed yes diff.lines diff.read;
-    starts_none = starts yes diff.lines diff.read;
+    typed = typed is_yes diff.lines diff.read;
+    starts_none = starts is_yes diff.lines diff.read;
   }
 
   -- ---- from what is typed as before to a yes
@@ -231,23 +231,23 @@ module _ (asked : Asked) (e : Explainable) (answer : Answer) (read : compared_pa
   yes_if_nothing none kept = (follows_is asked e answer read diff none).1 (follows e.move.names e.fresh old new kept)
 
 no_not_yes : (answer : Answer) → IsNo answer → IsYes answer → ⊥
-no_not_yes (Yes text) no yes = no
-no_not_yes (No text) no yes = yes
-no_not_yes (Invalid fault) no yes = yes
-no_not_yes (FreshNotAllowed keysym) no yes = yes
+no_not_yes (Yes text) is_no is_yes = is_no
+no_not_yes (No text) is_no is_yes = is_yes
+no_not_yes (Invalid fault) is_no is_yes = is_yes
+no_not_yes (FreshNotAllowed keysym) is_no is_yes = is_yes
 
-module _ (asked : Asked) (e : Explainable) (answer : Answer) (read : compared_parts asked.migration ≡ Ok e) (diff : IsDiff asked e answer) (no : IsNo answer) where
+module _ (asked : Asked) (e : Explainable) (answer : Answer) (read : compared_parts asked.migration ≡ Ok e) (diff : IsDiff asked e answer) (is_no : IsNo answer) where
   -- the same on other parts that are read
   diff_on : (other : Explainable) → compared_parts asked.migration ≡ Ok other → IsDiff asked other answer
   diff_on other h = subst (λ (x : Explainable). IsDiff asked x answer) (ok_same e other (compared_parts asked.migration) read h) diff
 
   loses_some : accepted_of asked.accepted ≡ Ok [] → LosesNothing asked → ⊥
-  loses_some none p = no_not_yes answer no (yes_if_nothing asked p.compared answer p.read (diff_on p.compared p.read) none p.keeps)
+  loses_some none p = no_not_yes answer is_no (yes_if_nothing asked p.compared answer p.read (diff_on p.compared p.read) none p.keeps)
 
   loses_unintended : LosesOnlyIntended asked → ⊥
   loses_unintended p =
       let here = diff_on p.compared p.read in
-      no_not_yes answer no ((meant_is asked p.compared answer p.lines here p.intended).1 (all_meant asked p.compared answer p.read here p.lines p.typed p.starts_none))
+      no_not_yes answer is_no ((meant_is asked p.compared answer p.lines here p.intended).1 (all_meant asked p.compared answer p.read here p.lines p.typed p.starts_none))
 
 -- ---- from a run
 
@@ -279,35 +279,35 @@ pub nothing_lost : (run : Run) (arguments : DiffArguments) (fresh : Vec (Bor (Li
 nothing_lost run arguments fresh outcome none h =
     let r = answers run (Diff arguments fresh) outcome h in
     let asked = diff_asked r.is.kept.files arguments (words fresh.items) in
-    let yes = diff_yes r.is.kept.files arguments (words fresh.items) r.colored r.is.is.answered r.is.is.printed r.is.is.is_printed (ap status_of (sym (r.is.followed.ended ∙ r.is.is.noted.ended)) ∙ h.1) in
-    let diff = diff_with asked r.is.is.answered (Yes yes.0) yes.1 r.is.is.is in
+    let is_yes = diff_yes r.is.kept.files arguments (words fresh.items) r.colored r.is.is.answered r.is.is.printed r.is.is.is_printed (ap status_of (sym (r.is.followed.ended ∙ r.is.is.noted.ended)) ∙ h.1) in
+    let diff = diff_with asked r.is.is.answered (Yes is_yes.0) is_yes.1 r.is.is.is in
     let empty = same_accepted arguments.skip_faulty r.found r.is.kept r.is.is_kept ∙ none_accepted run.folder arguments.accept r.found.accepted.items none r.read.is_accepted in
-    (asked, (r.found, r.read, r.is.kept, r.is.is_kept, refl), loses_nothing asked diff.e (Yes yes.0) diff.read diff.diff tt (no_lines asked.accepted empty))
+    (asked, (r.found, r.read, r.is.kept, r.is.is_kept, refl), loses_nothing asked diff.e (Yes is_yes.0) diff.read diff.diff tt (no_lines asked.accepted empty))
 
 pub only_intended_lost : (run : Run) (arguments : DiffArguments) (fresh : Vec (Bor (List ℕ)) Global) (outcome : Outcome) → EndsWith 0 run (Diff arguments fresh) outcome
     → (asked : Asked) × DefinesDiff run arguments (words fresh.items) asked × LosesOnlyIntended asked
 only_intended_lost run arguments fresh outcome h =
     let r = answers run (Diff arguments fresh) outcome h in
     let asked = diff_asked r.is.kept.files arguments (words fresh.items) in
-    let yes = diff_yes r.is.kept.files arguments (words fresh.items) r.colored r.is.is.answered r.is.is.printed r.is.is.is_printed (ap status_of (sym (r.is.followed.ended ∙ r.is.is.noted.ended)) ∙ h.1) in
-    let diff = diff_with asked r.is.is.answered (Yes yes.0) yes.1 r.is.is.is in
-    (asked, (r.found, r.read, r.is.kept, r.is.is_kept, refl), only_intended asked diff.e (Yes yes.0) diff.read diff.diff tt)
+    let is_yes = diff_yes r.is.kept.files arguments (words fresh.items) r.colored r.is.is.answered r.is.is.printed r.is.is.is_printed (ap status_of (sym (r.is.followed.ended ∙ r.is.is.noted.ended)) ∙ h.1) in
+    let diff = diff_with asked r.is.is.answered (Yes is_yes.0) is_yes.1 r.is.is.is in
+    (asked, (r.found, r.read, r.is.kept, r.is.is_kept, refl), only_intended asked diff.e (Yes is_yes.0) diff.read diff.diff tt)
 
 pub something_lost : (run : Run) (arguments : DiffArguments) (fresh : Vec (Bor (List ℕ)) Global) (outcome : Outcome) → arguments.accept ≡ None → EndsWith 1 run (Diff arguments fresh) outcome
     → (asked : Asked) × DefinesDiff run arguments (words fresh.items) asked × (LosesNothing asked → ⊥)
 something_lost run arguments fresh outcome none h =
     let r = answers_no run (Diff arguments fresh) outcome h in
     let asked = diff_asked r.is.kept.files arguments (words fresh.items) in
-    let no = diff_no r.is.kept.files arguments (words fresh.items) r.colored r.is.is.answered r.is.is.printed r.is.is.is_printed (ap status_of (sym (r.is.followed.ended ∙ r.is.is.noted.ended)) ∙ h.1) in
-    let diff = diff_with asked r.is.is.answered no.0 no.1 r.is.is.is in
+    let is_no = diff_no r.is.kept.files arguments (words fresh.items) r.colored r.is.is.answered r.is.is.printed r.is.is.is_printed (ap status_of (sym (r.is.followed.ended ∙ r.is.is.noted.ended)) ∙ h.1) in
+    let diff = diff_with asked r.is.is.answered is_no.0 is_no.1 r.is.is.is in
     let empty = same_accepted arguments.skip_faulty r.found r.is.kept r.is.is_kept ∙ none_accepted run.folder arguments.accept r.found.accepted.items none r.read.is_accepted in
-    (asked, (r.found, r.read, r.is.kept, r.is.is_kept, refl), loses_some asked diff.e no.0 diff.read diff.diff no.2 (no_lines asked.accepted empty))
+    (asked, (r.found, r.read, r.is.kept, r.is.is_kept, refl), loses_some asked diff.e is_no.0 diff.read diff.diff is_no.2 (no_lines asked.accepted empty))
 
 pub unintended_lost : (run : Run) (arguments : DiffArguments) (fresh : Vec (Bor (List ℕ)) Global) (outcome : Outcome) → EndsWith 1 run (Diff arguments fresh) outcome
     → (asked : Asked) × DefinesDiff run arguments (words fresh.items) asked × (LosesOnlyIntended asked → ⊥)
 unintended_lost run arguments fresh outcome h =
     let r = answers_no run (Diff arguments fresh) outcome h in
     let asked = diff_asked r.is.kept.files arguments (words fresh.items) in
-    let no = diff_no r.is.kept.files arguments (words fresh.items) r.colored r.is.is.answered r.is.is.printed r.is.is.is_printed (ap status_of (sym (r.is.followed.ended ∙ r.is.is.noted.ended)) ∙ h.1) in
-    let diff = diff_with asked r.is.is.answered no.0 no.1 r.is.is.is in
-    (asked, (r.found, r.read, r.is.kept, r.is.is_kept, refl), loses_unintended asked diff.e no.0 diff.read diff.diff no.2)
+    let is_no = diff_no r.is.kept.files arguments (words fresh.items) r.colored r.is.is.answered r.is.is.printed r.is.is.is_printed (ap status_of (sym (r.is.followed.ended ∙ r.is.is.noted.ended)) ∙ h.1) in
+    let diff = diff_with asked r.is.is.answered is_no.0 is_no.1 r.is.is.is in
+    (asked, (r.found, r.read, r.is.kept, r.is.is_kept, refl), loses_unintended asked diff.e is_no.0 diff.read diff.diff is_no.2)

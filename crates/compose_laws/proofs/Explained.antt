@@ -138,13 +138,13 @@ yes_kept true given e text read r =
 yes_kept false given e text read r = keeps_from given e read r.0
 
 no_kept : (all : Bool) (given : GivenMigration) (e : Explainable) (answer : Answer) → IsNo answer → explain_parts given ≡ Ok e → IsExplainedBy all e answer → KeepsFrom given → ⊥
-no_kept all given e (Yes text) no read r p = no
-no_kept true given e (No text) no read r p = refuted given e read (all_refute e.move.names e.fresh e.move.old e.move.new r.differences r.are r.some) p
-no_kept false given e (No text) no read r p = refuted given e read r.differs p
-no_kept true given e (Invalid fault) no read r p = r
-no_kept false given e (Invalid fault) no read r p = r
-no_kept true given e (FreshNotAllowed keysym) no read r p = r
-no_kept false given e (FreshNotAllowed keysym) no read r p = r
+no_kept all given e (Yes text) is_no read r p = is_no
+no_kept true given e (No text) is_no read r p = refuted given e read (all_refute e.move.names e.fresh e.move.old e.move.new r.differences r.are r.some) p
+no_kept false given e (No text) is_no read r p = refuted given e read r.differs p
+no_kept true given e (Invalid fault) is_no read r p = r
+no_kept false given e (Invalid fault) is_no read r p = r
+no_kept true given e (FreshNotAllowed keysym) is_no read r p = r
+no_kept false given e (FreshNotAllowed keysym) is_no read r p = r
 
 -- ---- what the folder has
 
@@ -194,16 +194,16 @@ module _ (run : Run) (old new : TypeTable) (fresh : List (List ℕ)) (all : Bool
     kept_of : (outcome : Outcome) → IsExplainOutcome asked names a b outcome → status_of outcome.ended ≡ 0 → KeepsFrom (input_of names a.table b.table fresh)
     kept_of outcome r s =
         let ended = told_end asked.form r.given r.told r.reported.printed r.reported.is in
-        let yes = yes_answer (answer_of r.told) (ap status_of (sym (r.reported.noted.ended ∙ ended)) ∙ s) in
-        let e = answers_told asked.verbose asked.all r.old_side r.new_side r.input r.told (Yes yes.0) yes.1 r.is_told in
-        subst KeepsFrom (told_input r) (yes_kept asked.all (given_of r.input) e.0 yes.0 e.1 e.2)
+        let is_yes = yes_answer (answer_of r.told) (ap status_of (sym (r.reported.noted.ended ∙ ended)) ∙ s) in
+        let e = answers_told asked.verbose asked.all r.old_side r.new_side r.input r.told (Yes is_yes.0) is_yes.1 r.is_told in
+        subst KeepsFrom (told_input r) (yes_kept asked.all (given_of r.input) e.0 is_yes.0 e.1 e.2)
 
     not_kept_of : (outcome : Outcome) → IsExplainOutcome asked names a b outcome → status_of outcome.ended ≡ 1 → KeepsFrom (input_of names a.table b.table fresh) → ⊥
     not_kept_of outcome r s p =
         let ended = told_end asked.form r.given r.told r.reported.printed r.reported.is in
-        let no = no_answer (answer_of r.told) (ap status_of (sym (r.reported.noted.ended ∙ ended)) ∙ s) in
-        let e = answers_told asked.verbose asked.all r.old_side r.new_side r.input r.told no.0 no.1 r.is_told in
-        no_kept asked.all (given_of r.input) e.0 no.0 no.2 e.1 e.2 (subst KeepsFrom (sym (told_input r)) p)
+        let is_no = no_answer (answer_of r.told) (ap status_of (sym (r.reported.noted.ended ∙ ended)) ∙ s) in
+        let e = answers_told asked.verbose asked.all r.old_side r.new_side r.input r.told is_no.0 is_no.1 r.is_told in
+        no_kept asked.all (given_of r.input) e.0 is_no.0 is_no.2 e.1 e.2 (subst KeepsFrom (sym (told_input r)) p)
 
   pub kept_by : (tables : List NotedTable) (outcome : Outcome) → AreTables run.folder run.environment wanted.tables.now tables → IsExplainOf asked names tables outcome → status_of outcome.ended ≡ 0
       → (given : GivenMigration) × DefinesBoth run old new fresh given × KeepsFrom given

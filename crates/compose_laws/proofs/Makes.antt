@@ -222,7 +222,7 @@ impossible given repertoire needs h fails certificate p =
 
 no_made : (all : Bool) (given : GivenMigration) (repertoire : List ℕ) (answered : Result Answer Refusal) (answer : Answer) → answered ≡ Ok answer → IsNo answer → AnswersMake all answered given repertoire
     → HasNone given.key_names (no_keys given) repertoire
-no_made true given repertoire answered answer e no h = by answer no (subst (λ (a : Result Answer Refusal). Returns IsAllMadeText a (make_parts given repertoire)) e h)
+no_made true given repertoire answered answer e is_no h = by answer is_no (subst (λ (a : Result Answer Refusal). Returns IsAllMadeText a (make_parts given repertoire)) e h)
   where
     why : (needs : Needs) (bytes : List ℕ) → ReportsLeast needs.move.names needs.fresh needs.move.old needs.move.new bytes ⊎ ReportsUntypable needs bytes → Fails needs
     why needs bytes (inl x) = inl x.differs
@@ -233,7 +233,7 @@ no_made true given repertoire answered answer e no h = by answer no (subst (λ (
     by (No text) n r = impossible given repertoire r.0 r.1 (why r.0 (string_bytes text) r.2)
     by (Invalid fault) n r = absurd r.2
     by (FreshNotAllowed keysym) n r = absurd r.2
-no_made false given repertoire answered answer e no h = by answer no (subst (λ (a : Result Answer Refusal). Returns IsMadeText a (make_parts given repertoire)) e h)
+no_made false given repertoire answered answer e is_no h = by answer is_no (subst (λ (a : Result Answer Refusal). Returns IsMadeText a (make_parts given repertoire)) e h)
   where
     why : (needs : Needs) (bytes : List ℕ) → ReportsLeast needs.move.names needs.fresh needs.move.old needs.move.new bytes ⊎ ReportsUnreachable needs bytes → Fails needs
     why needs bytes (inl x) = inl x.differs
@@ -268,24 +268,24 @@ pub makes : (run : Run) (tables : BothTables) (fresh : Vec (Bor (List ℕ)) Glob
 makes run (Manifests paths) fresh all repertoire output outcome h =
     let a = answers run (Make (Manifests paths) fresh all repertoire output) outcome h in
     let r = a.5 in
-    let yes = yes_worded true run.options.verbose r.is.given r.is.answered r.printed r.is.reported (ap status_of (sym r.written.ended) ∙ h.1) in
-    let made = yes_made a.0.all (migration_given r.files (words a.0.fresh.now)) r.repertoire r.is.answered yes.0 yes.1 r.is.is in (
+    let is_yes = yes_worded true run.options.verbose r.is.given r.is.answered r.printed r.is.reported (ap status_of (sym r.written.ended) ∙ h.1) in
+    let made = yes_made a.0.all (migration_given r.files (words a.0.fresh.now)) r.repertoire r.is.answered is_yes.0 is_yes.1 r.is.is in (
       migration_given r.files [],
       (r.files, r.read, refl),
       r.repertoire,
       subst (λ (path : Bor (List ℕ)). IsHeld run.folder path.now (File r.repertoire)) a.3 r.is_repertoire,
-      moved_to (words a.0.fresh.now) (words fresh.items) (migration_given r.files []) r.repertoire (string_bytes yes.0) (string_bytes outcome.output) a.1 (ap string_bytes r.written.output ∙ yes.2) made,
+      moved_to (words a.0.fresh.now) (words fresh.items) (migration_given r.files []) r.repertoire (string_bytes is_yes.0) (string_bytes outcome.output) a.1 (ap string_bytes r.written.output ∙ is_yes.2) made,
     )
 makes run (Files pair) fresh all repertoire output outcome h =
     let a = answers run (Make (Files pair) fresh all repertoire output) outcome h in
     let r = a.5 in
-    let yes = yes_noted r.is.answered r.is.reported.is.given r.is.reported.printed r.printed r.is.reported.is.reported r.is.reported.noted (ap status_of (sym r.written.ended) ∙ h.1) in
-    let made = yes_made a.0.all (migration_given r.files (words a.0.fresh.now)) r.repertoire r.is.answered yes.0 yes.1 r.is.is in (
+    let is_yes = yes_noted r.is.answered r.is.reported.is.given r.is.reported.printed r.printed r.is.reported.is.reported r.is.reported.noted (ap status_of (sym r.written.ended) ∙ h.1) in
+    let made = yes_made a.0.all (migration_given r.files (words a.0.fresh.now)) r.repertoire r.is.answered is_yes.0 is_yes.1 r.is.is in (
       migration_given r.files [],
       (r.files, r.read, refl),
       r.repertoire,
       subst (λ (path : Bor (List ℕ)). IsHeld run.folder path.now (File r.repertoire)) a.3 r.is_repertoire,
-      moved_to (words a.0.fresh.now) (words fresh.items) (migration_given r.files []) r.repertoire (string_bytes yes.0) (string_bytes outcome.output) a.1 (ap string_bytes r.written.output ∙ yes.2) made,
+      moved_to (words a.0.fresh.now) (words fresh.items) (migration_given r.files []) r.repertoire (string_bytes is_yes.0) (string_bytes outcome.output) a.1 (ap string_bytes r.written.output ∙ is_yes.2) made,
     )
 
 pub makes_none : (run : Run) (tables : BothTables) (fresh : Vec (Bor (List ℕ)) Global) (all : Bool) (repertoire : Bor (List ℕ)) (output : Option (Bor (List ℕ))) (outcome : Outcome)
@@ -294,8 +294,8 @@ pub makes_none : (run : Run) (tables : BothTables) (fresh : Vec (Bor (List ℕ))
 makes_none run (Manifests paths) fresh all repertoire output outcome h =
     let a = answers_no run (Make (Manifests paths) fresh all repertoire output) outcome h in
     let r = a.5 in
-    let no = no_worded r.is.answered r.printed r.is.reported (ap status_of (sym r.written.ended) ∙ h.1) in
-    let none = no_made a.0.all (migration_given r.files (words a.0.fresh.now)) r.repertoire r.is.answered no.0 no.1 no.2 r.is.is in (
+    let is_no = no_worded r.is.answered r.printed r.is.reported (ap status_of (sym r.written.ended) ∙ h.1) in
+    let none = no_made a.0.all (migration_given r.files (words a.0.fresh.now)) r.repertoire r.is.answered is_no.0 is_no.1 is_no.2 r.is.is in (
       migration_given r.files [],
       (r.files, r.read, refl),
       r.repertoire,
@@ -305,8 +305,8 @@ makes_none run (Manifests paths) fresh all repertoire output outcome h =
 makes_none run (Files pair) fresh all repertoire output outcome h =
     let a = answers_no run (Make (Files pair) fresh all repertoire output) outcome h in
     let r = a.5 in
-    let no = no_worded r.is.answered r.is.reported.printed r.is.reported.is.reported (ap status_of (sym r.is.reported.noted.ended) ∙ (ap status_of (sym r.written.ended) ∙ h.1)) in
-    let none = no_made a.0.all (migration_given r.files (words a.0.fresh.now)) r.repertoire r.is.answered no.0 no.1 no.2 r.is.is in (
+    let is_no = no_worded r.is.answered r.is.reported.printed r.is.reported.is.reported (ap status_of (sym r.is.reported.noted.ended) ∙ (ap status_of (sym r.written.ended) ∙ h.1)) in
+    let none = no_made a.0.all (migration_given r.files (words a.0.fresh.now)) r.repertoire r.is.answered is_no.0 is_no.1 is_no.2 r.is.is in (
       migration_given r.files [],
       (r.files, r.read, refl),
       r.repertoire,
