@@ -38,8 +38,8 @@ all: composecheck
 help:
 	@sed -n 's/^# \(make .*\)/\1/p' $(firstword $(MAKEFILE_LIST))
 
-LIBRARY = crates/compose_c/out/libcompose_c.a
-CLIENT_LIBRARY = crates/compose_typing_c/out/libcompose_typing_c.a
+LIBRARY = crates/compose_c/out/compose_c.a
+CLIENT_LIBRARY = crates/compose_typing_c/out/compose_typing_c.a
 
 # (what is installed or packed has the C libraries too: all of it is proved in one run)
 ifneq ($(filter install deb release,$(MAKECMDGOALS)),)

@@ -7,7 +7,7 @@
   build_library.py FOLDER FLAG..      the first static library with these flags of the compiler besides, as -fsanitize=address,undefined
 
 The proved static libraries have to be there (`make lib` proves and builds them first); with COMPOSECHECK_STATIC=FOLDER those that
-`tools/unproved.py FOLDER/libcompose_c.a compose_c` builds without a proof take their place. The compiler is $CC, or cc, or clang: the kit's clang has no C headers."""
+`tools/unproved.py FOLDER/compose_c.a compose_c` builds without a proof take their place. The compiler is $CC, or cc, or clang: the kit's clang has no C headers."""
 import os
 import shutil
 import subprocess
@@ -19,7 +19,7 @@ TOP = os.path.dirname(LIB)
 
 def static_library(crate):
     """Returns where the static library of a crate is: the proved one, or in the folder $COMPOSECHECK_STATIC one that is built without a proof, for tests."""
-    return f"{os.environ.get('COMPOSECHECK_STATIC') or f'{TOP}/crates/{crate}/out'}/lib{crate}.a"
+    return f"{os.environ.get('COMPOSECHECK_STATIC') or f'{TOP}/crates/{crate}/out'}/{crate}.a"
 
 
 PROVED, PROVED_CLIENT = static_library("compose_c"), static_library("compose_typing_c")

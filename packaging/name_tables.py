@@ -188,7 +188,8 @@ def proof_files(parts):
         files[f"HeaderPart{number}.antt"] = PART_HEAD + "".join(own)
         uses += f"use Rattle.keysym_core.proofs.HeaderPart{number}.{{{', '.join(f'part-{at + it}' for it in range(1, len(own) + 1))}}}\n"
     steps = "\n    ∙ ".join(f"after_part part-{number}" for number in range(1, len(parts) + 1))
-    files["HeaderIsRead.antt"] = f"""-- The header of the built-in names gives the names and characters of the tables: {WRITTEN}
+    files["HeaderIsRead.antt"] = f"""-- The header of the built-in names gives the names and characters of the tables: written by `make
+-- names`.
 use Rattle.std.proofs.Common.{{◌≡◌, ◌∙◌}}
 use Rattle.std.specs.Prelude.{{Ok}}
 use Rattle.keysym_core.specs.Header.{{names_of}}

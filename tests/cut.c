@@ -67,7 +67,6 @@ static int is_regular(int file)
 
 FAILING(rename, (const char *from, const char *to), (from, to))
 FAILING(link, (const char *from, const char *to), (from, to))
-FAILING(fsync, (int file), (file))
 FAILING(mkdir, (const char *path, mode_t mode), (path, mode))
 COUNTED(int, unlink, (const char *path), (path))
 COUNTED(int, rmdir, (const char *path), (path))
@@ -82,6 +81,14 @@ COUNTED(int, accept4, (int file, struct sockaddr *from, socklen_t *size, int fla
 COUNTED(ssize_t, read, (int file, void *bytes, size_t count), (file, bytes, count))
 COUNTED(ssize_t, send, (int file, const void *bytes, size_t count, int flags), (file, bytes, count, flags))
 COUNTED(ssize_t, recv, (int file, void *bytes, size_t count, int flags), (file, bytes, count, flags))
+
+int fsync(int file)
+{
+    count_call("fsync", "");
+    if (fails(is_regular(file) ? "fsync" : "fsync of a folder"))
+        return -1;
+    return NEXT(int (*)(int), "fsync", file);
+}
 
 ssize_t write(int file, const void *bytes, size_t count)
 {

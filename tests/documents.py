@@ -36,7 +36,7 @@ FILE = re.compile(r"(?<![\w./$~%-])(?:[\w-]+/)*[\w-]+\.(?:py|sh|md|rt|antt|txt|s
 OTHER_FILES = {"SHORTER_PROOFS.md", "keysymdef.h", "XF86keysym.h", "report.md", "files.py", "first.c", "report.c", "stdio.h", "string.h"}
 FOLDERS = ["", "docs/", "share/composecheck/", "tests/", "tools/", "bench/", "packaging/", "lib/", "crates/*/"]
 # Paths in which a word in capitals stands for any, and the file that the worked change of CONTRIBUTING doesn't need.
-PLACEHOLDER = re.compile(r"(?:^|/)(?:NAME|FILE|WHAT_IS_WRONG)\b|is_unsafe")
+PLACEHOLDER = re.compile(r"(?:^|/)(?:NAME|FILE|WHAT_IS_WRONG)\b|is_invisible")
 CITATION = re.compile(r"\bet al\b|\barXiv\b|\bdoi\b|\bthis paper\b|\bthe paper\b|\bpapers\b|\bissue \d|(?<![\w&])#\d+\b|\bTheorem \d|\bSection \d|\[\d+\](?!\()", re.I)
 WORD = re.compile(r"(?:[A-Z]\w*::)?[A-Za-z_][\w'-]*")
 # Words and the crate that has them: `follows` of `check` (`compose_check`), or `serve` of `compose_serve`.
@@ -264,7 +264,7 @@ def check_contributing(results, texts, crates):
     """The indented lines that are code stand in the sources, but for the worked change, whose lines have what is new in them."""
     sources = crates.every + "\n".join(crates.proofs.values())
     for line in re.findall(r"^    (\S.*)$", texts["CONTRIBUTING.md"], re.M):
-        if "200e" in line or "is_unsafe" in line:
+        if "0xad" in line or "is_invisible" in line:
             continue
         results.expect("CONTRIBUTING.md", f"the line stands in no source: {line}", line in sources)
 

@@ -643,6 +643,23 @@ def check_following(probe, service, results):
         service.store_anew("shown")
         wanted = [Row("b", "•"), Row("1", "1"), Row("0x20", "x"), Row("0xff51", "y")]
         results.expect("letters first, and keys without a sign behind the others, by their names", listing.look_up(A), wanted)
+        check_stored_forms(listing, service, results)
+
+
+def check_stored_forms(listing, service, results):
+    """The file of the table with names that are kept in it, and in the forms of earlier versions."""
+    path = service.store_anew("old")
+    with open(path, "rb") as file:
+        payload = file.read().partition(b"\0\5names\0\0\0\0\0\5fresh\0\0\0\0")[2]
+    for form, before in ("1", b"\0\1\0\x1ccomposecheck-table 1 longest\0\0\0\0"), ("before", b""):
+        os.remove(path)
+        with open(path, "wb") as file:
+            file.write(before + (payload if before else payload[4:]))
+        results.expect(f"what follows in a table of form {form}", listing.look_up(MULTI, APOSTROPHE), [Row("e", "ⓔ"), Row("-", "…")])
+    service.write("own.h", "#define XK_own_key 0x10081fff\n")
+    service.write("named.compose", '<own_key> <a> : "own"\n')
+    service.store_anew("named", "--names", "builtin", "--names", os.path.join(service.folder, "own.h"))
+    results.expect("names that are kept with the table are read", listing.look_up(0x10081FFF), [Row("a", "own")])
 
 
 # Which character stands for a dead key, by its name in Unicode; those of letters and of marks follow by rule.

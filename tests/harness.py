@@ -8,8 +8,8 @@ TOP = os.path.dirname(os.path.dirname(os.path.abspath(__file__)))
 # The library of clients, on which the engines stand, also in a copy of the tree; that of tables, by which they list what can follow; and the static
 # libraries that they are built of: proved ones, or in the folder $COMPOSECHECK_STATIC ones that are built without a proof.
 STATIC = os.environ.get("COMPOSECHECK_STATIC")
-PROVED_CLIENT = os.path.join(STATIC or os.path.join("crates", "compose_typing_c", "out"), "libcompose_typing_c.a")
-PROVED = os.path.join(STATIC or os.path.join("crates", "compose_c", "out"), "libcompose_c.a")
+PROVED_CLIENT = os.path.join(STATIC or os.path.join("crates", "compose_typing_c", "out"), "compose_typing_c.a")
+PROVED = os.path.join(STATIC or os.path.join("crates", "compose_c", "out"), "compose_c.a")
 BUILT = os.environ.get("COMPOSECHECK_BUILT") or os.path.join(TOP, "build", "lib")
 CLIENT_LIBRARY = os.path.join(BUILT, "libcomposecheck-client.so.0")
 LIBRARY = os.path.join(BUILT, "libcomposecheck.so.1")

@@ -36,6 +36,7 @@ TWO_PATHS = ["find-two-names-of-one-file"]
 COMMANDS = [
     ("diff table changed", ["table", "changed"]),
     ("diff table table", ["table"]),
+    ("merge table changed", ["table", "changed"]),
     ("diff faulty table", ["faulty", "table"]),
     ("diff --names builtin --names names table changed", ["names", "table", "changed"]),
     ("diff --accept accepted table changed", ["accepted"]),
@@ -132,7 +133,7 @@ def through_standard_input(program, folder, words, name):
     """The answer where a file is given as standard input, by the file's name."""
     with open(os.path.join(folder, name), encoding="utf-8") as file:
         got = answer(program, folder, ["-" if it == name else it for it in words], input=file.read())
-    return got[0].replace(" -:", f" {name}:"), got[1].replace(": -:", f": {name}:").replace("file: -", f"file: {name}"), got[2]
+    return got[0].replace(" -:", f" {name}:"), got[1].replace(" -:", f" {name}:").replace("file: -", f"file: {name}"), got[2]
 
 
 def differences(program):

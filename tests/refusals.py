@@ -27,6 +27,7 @@ NAMES = [
     "include-last-definition-counts",
     "make-fresh-dead-key",
     "make-unreachable",
+    "merge-new-start",
     "names-greek",
     "overlap-longest-of-three",
     "overlap-refused",

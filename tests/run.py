@@ -22,7 +22,7 @@ NOT_QUICK = {"calls", "edits_test", "installed", "limits", "newest_tables", "oth
 # Those that need the C libraries; with --quick they get unproved ones.
 WITH_LIBRARIES = {"client", "engine", "installed", "library", "shim"}
 # How many random ones a script tries with --quick, where that takes the longest.
-FEWER = {"diff": ["100"], "network": ["30"]}
+FEWER = {"diff": ["100"], "merge": ["40"], "network": ["30"]}
 LIBRARIES = "the C libraries"
 # The programs by what the heads of scripts call them.
 PROGRAMS = {"PROGRAM": "composecheck", "TRIALS": "compose_trials"}
@@ -63,7 +63,7 @@ def built_libraries():
     """Builds the C libraries without a proof, in a folder of their own, and returns that folder, or None where that fails."""
     folder = os.path.join(TOP, "build", "unproved")
     for crate in ("compose_typing_c", "compose_c"):
-        lines, (_, failed) = follow([sys.executable, os.path.join("tools", "unproved.py"), os.path.join(folder, f"lib{crate}.a"), crate], is_quiet=True)
+        lines, (_, failed) = follow([sys.executable, os.path.join("tools", "unproved.py"), os.path.join(folder, f"{crate}.a"), crate], is_quiet=True)
         print(f"== the library of {crate} is {'not ' * failed}built\n{''.join(lines)}", end="", flush=True)
         if failed:
             return None

@@ -69,16 +69,16 @@ class TypingService:
         """Makes the certificate old-new."""
         self.run("make", "--names", "builtin", "-o", f"{old}-{new}", f"{old}.manifest", f"{new}.manifest", "repertoire")
 
-    def store(self, name):
+    def store(self, name, *options):
         """Has `update` store the table of a Compose file, which the service takes if it runs, and returns what is printed."""
         running = ["--socket", self.socket] if self.process else []
-        return self.run("update", "--state", os.path.join(self.states, "composecheck"), *running, f"{name}.compose")
+        return self.run("update", "--state", os.path.join(self.states, "composecheck"), *running, *options, f"{name}.compose")
 
-    def store_anew(self, name):
+    def store_anew(self, name, *options):
         """Has `update` store a table in the place of any other, and returns the path of what it stored. The service ends."""
         self.end()
         shutil.rmtree(self.states, ignore_errors=True)
-        self.store(name)
+        self.store(name, *options)
         return os.path.join(self.states, "composecheck", "table")
 
     def unit_command(self):

@@ -56,7 +56,7 @@ def sources_in(data):
         name = data[at + 2 : at + 2 + size].decode()
         at += 2 + size
         size = struct.unpack(">I", data[at : at + 4])[0]
-        sources[name] = data[at + 4 : at + 4 + size].decode()
+        sources[name] = data[at + 4 : at + 4 + size].decode(errors="surrogateescape")
         at += 4 + size
     size = struct.unpack(">I", data[at : at + 4])[0]
     if len(data) != at + 4 + size:
@@ -114,12 +114,18 @@ class Room:
             return None
         try:
             (first, repertoire), *more = sources_in(data)[0].items()
-            rule = re.fullmatch(r"composecheck-table 1 (longest|refuse)", first)
+            rule = re.fullmatch(r"composecheck-table 2 (longest|refuse)", first)
             sources, certificate = sources_in(sources_in(data)[1])
         except (ValueError, struct.error):
             return "broken"
-        is_whole = rule and not more and certificate.startswith(b"compose-certificate")
+        is_whole = rule and [it[0] for it in more] == ["names", "fresh"] and certificate.startswith(b"compose-certificate")
         return (rule[1], repertoire, list(sources.values())) if is_whole else "broken"
+
+    def kept_names(self, name="table"):
+        """The lines of the names that are kept in a file of the folder, and the fresh keysyms."""
+        sources = sources_in(read(self.path("state", name)))[0]
+        fresh = sources["fresh"].encode(errors="surrogateescape")
+        return sources["names"], [it for (it,) in struct.iter_unpack(">I", fresh)]
 
     def kept(self, name="table"):
         """The texts of the table's files that are kept, or what `kept_in` says instead."""
@@ -134,10 +140,10 @@ class Room:
 
     # ---- the program
 
-    def run(self, *words, pass_to=None, **environment):
+    def run(self, *words, pass_to=None, folder=None, **environment):
         """The status of the program, and what it prints to standard output and standard error."""
         given = {"PATH": os.environ["PATH"], **environment}
-        ran = subprocess.run([self.program, *words], cwd=self.folder, env=given, pass_fds=[pass_to] if pass_to else [], capture_output=True, text=True, timeout=120)
+        ran = subprocess.run([self.program, *words], cwd=folder or self.folder, env=given, pass_fds=[pass_to] if pass_to else [], capture_output=True, text=True, timeout=120)
         return ran.returncode, ran.stdout, ran.stderr
 
     def update(self, *words, **environment):
@@ -145,9 +151,10 @@ class Room:
         running = ["--socket", "socket"] if self.process else []
         return self.run("update", "--state", "state", *running, *words, **environment)
 
-    def status(self):
-        running = ["--socket", "socket"] if self.process else []
-        return self.run("status", "--state", "state", *running)
+    def status(self, folder=None):
+        """The same of `status`, which runs in this folder."""
+        running = ["--socket", self.path("socket")] if self.process and folder else ["--socket", "socket"] if self.process else []
+        return self.run("status", "--state", self.path("state") if folder else "state", *running, folder=folder)
 
     # ---- tables, one after another
 
@@ -318,7 +325,7 @@ def try_places(program, tell):
             os.rename(path, room.path("state"))
             os.symlink(room.path("state"), path)
             is_started = room.start(state="", **{environment: room.path(name)})
-            tell.expect(f"a service by {environment}", is_started and room.lines(), ["listening", "table: 2 sequences, from old"])
+            tell.expect(f"a service by {environment}", is_started and room.lines(), ["listening", f"table: 2 sequences, from {room.path('old')}"])
     with Room(program) as room:
         neither = (2, "", "refused: state: neither XDG_STATE_HOME nor HOME is set\n")
         tell.expect("by nothing", room.run("update", "old"), neither)
@@ -429,22 +436,162 @@ def try_unreadable(program, tell):
         tell.expect("nothing is replaced: a table of mode 000", [it[1:] for it in room.all_bytes()], before)
 
 
+def part(name, content):
+    """A source of a bundle."""
+    return struct.pack(">H", len(name)) + name + struct.pack(">I", len(content)) + content
+
+
+def parts_file(payload, *sources):
+    """The file of a table: a bundle of these sources, with a payload in the place of the certificate."""
+    return struct.pack(">H", len(sources)) + b"".join(part(*it) for it in sources) + struct.pack(">I", len(payload)) + payload
+
+
 def try_older_form(program, tell):
-    """The file of an older version, which is a bundle alone, is read, and becomes one of the new form."""
+    """The files of older versions, which are a bundle alone or have no names, are read, and become ones of the new form."""
     with Room(program) as room:
         room.next_table()
         room.update("table")
         (bare,) = [sources_in(read(room.path("state", "table")))[1]]
-        for is_served in (False, True):
-            room.end()
+        first = parts_file(bare, (b"composecheck-table 1 longest", b"keys 0x20 0x7e\n"))
+        for older, repertoire in ((bare, ""), (first, "keys 0x20 0x7e\n")):
+            for is_served in (False, True):
+                room.end()
+                with open(room.path("state", "table"), "wb") as file:
+                    file.write(older)
+                room.count = 1
+                tell.expect("a service of the older form", room.start() if is_served else True, True)
+                room.write("table", table(1))
+                tell.expect("the same table in the older form", room.update("table"), (0, "unchanged\n", ""))
+                tell.expect("a table that follows one in the older form", room.grown(), True)
+                tell.expect("it has the new form, and the repertoire", (room.kept_in("table") or "none")[:2], ("longest", repertoire))
+                tell.expect("the built-in names, and no fresh keys", room.kept_names(), ("", []))
+
+
+def try_parts(program, tell):
+    """A file of a table that is cut off anywhere, or has a bad part, is refused by its name, and never replaced."""
+    with Room(program) as room:
+        room.update("old")
+        whole = read(room.path("state", "table"))
+        payload = sources_in(whole)[1]
+        mark, names, fresh = (b"composecheck-table 2 longest", b""), (b"names", b""), (b"fresh", b"")
+        cut = [(f"cut at {at}", whole[:at], "1 Form") for at in (1, 2, 40, len(whole) // 2, len(whole) - 1)]
+        parts = [
+            ("no fresh keys", (mark, names), "4 Parts"),
+            ("no names", (mark, fresh), "4 Parts"),
+            ("another order", (mark, fresh, names), "4 Parts"),
+            ("a part too many", (mark, names, fresh, (b"x", b"")), "4 Parts"),
+            ("part of a keysym", (mark, names, (b"fresh", b"\0\0\xfe")), "5 Fresh"),
+            ("a number that is no keysym", (mark, names, (b"fresh", b"\xff\0\0\0")), "5 Fresh"),
+        ]
+        for what, data, fault in (*cut, *((what, parts_file(payload, *sources), fault) for what, sources, fault in parts)):
             with open(room.path("state", "table"), "wb") as file:
-                file.write(bare)
-            room.count = 1
-            tell.expect("a service of the older form", room.start() if is_served else True, True)
-            room.write("table", table(1))
-            tell.expect("the same table in the older form", room.update("table"), (0, "unchanged\n", ""))
-            tell.expect("a table that follows one in the older form", room.grown(), True)
-            tell.expect("it has the new form", isinstance(room.kept_in("table"), tuple), True)
+                file.write(data)
+            before = room.all_bytes()
+            tell.expect(f"an update beside a file with {what}", room.update("follows"), (2, "", f"refused: state: {fault}\n"))
+            tell.expect(f"a service of a file with {what}", (room.start(), room.ended, room.complained()), (False, 2, f"refused: state: state/table: {fault}\n"))
+            tell.expect(f"status of a file with {what}", room.status(), (2, "", f"refused: state: state/table: {fault}\n"))
+            tell.expect(f"nothing is replaced: {what}", room.all_bytes(), before)
+        with open(room.path("state", "table"), "wb") as file:
+            file.write(parts_file(payload, mark, (b"names", b"#define XK_x y\n"), fresh))
+        said = "refused: state: state/table: names: 2 BadLine line=1\n"
+        tell.expect("names that are none", (room.start(), room.ended, room.complained()), (False, 2, said))
+
+
+# ---- names and fresh keys
+
+# A name that is not built in, and one that is, as in the header of a newer X11.
+MINE = 0xFE9F
+HEADER = "#define XK_dead_mine 0xfe9f\n#define XK_dead_hamza 0xfe8d\n"
+NAMED = OLD + '<dead_mine> <a> : "أ"\n'
+
+
+def try_names(program, tell):
+    """The names with which a table was taken are kept: a start has them, and an update reads the next table by them."""
+    names = ("--names", "builtin", "--names", "new.h")
+    with Room(program) as room:
+        room.write("new.h", HEADER)
+        room.write("named", NAMED)
+        room.write("named_more", NAMED + '<dead_mine> <e> : "إ"\n')
+        room.write("named_follows", NAMED + '<Multi_key> <apostrophe> <a> : "ⓐ"\n')
+        hint = "composecheck: hint: `--names builtin --names FILE` adds the names of a header of your own\n"
+        status, out, err = room.update("named")
+        tell.expect("a name that is not built in", (status, out, err.startswith("composecheck: named:3:1: "), err.endswith(hint)), (2, "", True, True))
+        tell.expect("it is read by the names of a file", room.update("named", *names), (0, "stored\n", ""))
+        lines = room.kept_names()[0]
+        tell.expect("the names are kept", (lines.endswith(HEADER), "XK_Multi_key" in lines), (True, True))
+        tell.expect("the same names", room.update("named", *names), (0, "unchanged\n", ""))
+        tell.expect("the kept names", room.update("named"), (0, "unchanged\n", ""))
+        tell.expect("a table that follows, by the kept names", (room.update("named_follows"), room.kept_names()[0]), ((0, "stored\n", ""), lines))
+        tell.expect("a table that doesn't follow", room.update("named_more", "--accept", "/dev/null")[0], 1)
+        count = sum(line.startswith("#define") for line in lines.splitlines())
+        tell.expect("status", [it for it in room.status()[1].splitlines() if it.startswith("names: ")], [f"names: {count}, of files"])
+        tell.expect("a service of the table", (room.start(), room.lines()), (True, ["listening", f"table: 4 sequences, from {room.path('named_follows')}"]))
+        tell.expect("it types by the names", room.typed(0x27, 0x61), "ⓐ")
+        with room.client() as client:
+            client.open(7)
+            tell.expect("also the new key", [client.key(7, it).text for it in (MINE, 0x61)], ["", "أ"])
+        room.write("named_longer", read(room.path("named_follows")).decode() + '<Multi_key> <apostrophe> <b> : "ⓑ"\n')
+        got = room.update("named_longer")
+        tell.expect("an update beside the service, by the kept names", (got[0], bool(STORED.fullmatch(got[1])), got[2], room.kept_names()[0]), (0, True, "", lines))
+        unread = "composecheck: the table in use can't be read by the names that are given: give those that it was read by too\n"
+        tell.expect("names by which the table in use can't be read", room.update("old", "--names", "builtin"), (2, "", unread))
+        room.start(*names)
+        tell.expect("a service that is given the same names", room.is_running(), True)
+        tell.expect("a restart has the names", (room.start(), room.typed(0x27, 0x62)), (True, "ⓑ"))
+        before = room.all_bytes()
+        other = "refused: state: state: the table in use has other names than those of --names: leave the option out, or `composecheck update --names FILE.. TABLE` takes a table with these\n"
+        tell.expect("a service that is given other names", (room.start("--names", "builtin"), room.ended, room.complained()), (False, 2, other))
+        tell.expect("nothing changes", room.all_bytes(), before)
+    with Room(program) as room:
+        room.write("new.h", HEADER)
+        room.write("named", NAMED)
+        room.update("old")
+        tell.expect("the built-in names are kept as no lines", (room.kept_names(), room.update("old", "--names", "builtin")), (("", []), (0, "unchanged\n", "")))
+        tell.expect("status of the built-in names", "names: built in\n" in room.status()[1], True)
+        room.start()
+        patient = ("--timeout", "120")
+        tell.expect("other names alone are meant", room.update("old", *names, *patient), (0, "stored\n", TAKEN))
+        tell.expect("they are kept", room.kept_names()[0].endswith(HEADER), True)
+        tell.expect("dry-run", room.update("old", "--names", "builtin", "--dry-run"), (0, "would be stored, and sessions would begin anew\n", ""))
+        tell.expect("a table with the new names", room.update("named", "--fresh", "dead_mine", *patient), (0, "stored\n", TAKEN))
+        with room.client() as client:
+            client.open(7)
+            tell.expect("the new key types", [client.key(7, it).text for it in (MINE, 0x61)], ["", "أ"])
+        tell.expect("the table before it has the names too", (room.update("--back", *patient), room.kept(), room.kept_names()[0].endswith(HEADER)), ((0, "stored\n", TAKEN), [OLD], True))
+        tell.expect("--back takes no names", room.update("--back", "--names", "builtin")[0], 2)
+
+
+def try_fresh_kept(program, tell):
+    """The keysyms that a load may list as fresh are kept: a start without --fresh has them."""
+    with Room(program) as room:
+        room.next_table()
+        room.update("table")
+        room.next_table()
+        room.write("repertoire", "")
+        room.write("before", table(1))
+        room.write("table", '<dead_caron> <c> : "č"\n' + table(1))
+        for name in ("table", "before"):
+            room.write(f"{name}.manifest", f"overlap longest\nroot\t{name}\n")
+        made = room.run("make", "--names", "builtin", "--fresh", "dead_caron", "-o", "certificate", "before.manifest", "table.manifest", "repertoire")
+        tell.expect("a certificate with a fresh key", made[0], 0)
+        load = ("load", "socket", "table.manifest", "certificate")
+        room.start()
+        tell.expect("without the option a load may list none", (room.run(*load)[0], room.kept_names()), (1, ("", [])))
+        tell.expect("nothing is said of it", room.complained(), "")
+        room.update("--back")
+        note = "note: --fresh names other keys than the folder kept; it keeps these from now on\n"
+        room.start("--fresh", "dead_caron")
+        tell.expect("other keys are kept, and that is said", (room.kept_names(), room.complained()), (("", [0xFE5A]), note))
+        room.start("--fresh", "dead_caron")
+        tell.expect("the same keys", room.complained(), "")
+        tell.expect("a start without the option has them", (room.start(), room.run(*load)), (True, (0, "loaded 1\n", "")))
+        tell.expect("they are kept with the table of the load", room.kept_names(), ("", [0xFE5A]))
+        room.end()
+        room.write("table", '<dead_caron> <c> : "č"\n' + table(2))
+        tell.expect("and with that of an update", (room.update("table"), room.kept_names()), ((0, "stored\n", ""), ("", [0xFE5A])))
+        before = room.kept("previous")
+        room.start("--fresh", "")
+        tell.expect("none any more", (room.kept_names(), room.complained(), room.kept("previous")), (("", []), note, before))
 
 
 # ---- beside a service
@@ -457,10 +604,10 @@ def try_running(program, tell):
         room.next_table()
         room.update("table")
         tell.expect("a service of the table", room.start("--fresh", ""), True)
-        tell.expect("what it prints", room.lines(), ["listening", "table: 1 sequences, from table"])
+        tell.expect("what it prints", room.lines(), ["listening", f"table: 1 sequences, from {room.path('table')}"])
         tell.expect("the same table", room.update("table"), (0, "unchanged\n", ""))
         tell.expect("a table that follows", room.grown(), True)
-        tell.expect("its line", room.lines()[2:], ["loaded: 2 sequences, 1 before; from table"])
+        tell.expect("its line", room.lines()[2:], [f"loaded: 2 sequences, 1 before; from {room.path('table')}"])
         before = room.all_bytes()
         room.write("changed", table(2, "y"))
         tell.expect("a table that changes typing", room.update("changed")[0], 1)
@@ -545,7 +692,7 @@ def try_meant_beside(program, tell):
                 again.key(9, MULTI_KEY)
                 again.key(9, UNICODE + LAST)
                 tell.expect(f"{what}: typing goes on", again.key(9, 0x62).text, grown[what][0])
-            tell.expect(f"{what}: its lines", room.lines()[3:], ["next: taken, sessions closed: 1", f"table: {written.count(':')} sequences, from table"])
+            tell.expect(f"{what}: its lines", room.lines()[3:], ["next: taken, sessions closed: 1", f"table: {written.count(':')} sequences, from {room.path('table')}"])
             text, more = grown[what]
             for _ in range(2):
                 follower = room.next_table(text, more)
@@ -772,7 +919,7 @@ def try_dry_runs(program, tell):
                 tell.expect(f"{what}{', beside a service' if is_served else ''}", (got[0], got[1] if wanted[1] else None, got[2]), wanted)
                 tell.expect(f"nothing changes: {what}{', beside a service' if is_served else ''}", room.all_bytes(), before)
             if is_served:
-                tell.expect("the service has loaded nothing", room.lines(), ["listening", "table: 2 sequences, from table"])
+                tell.expect("the service has loaded nothing", room.lines(), ["listening", f"table: 2 sequences, from {room.path('table')}"])
 
 
 def try_two(program, tell):
@@ -811,34 +958,81 @@ def try_status(program, tell):
         tell.expect("none is made", os.path.exists(room.path("state")), False)
         room.update("behind")
         day = r"\d{4}-\d\d-\d\dT\d\d:\d\d:\d\dZ"
-        first = rf"in use: behind\nstored: {day}\nsequences: 3\nfiles: 2\n"
+        behind, more = room.path("behind"), room.path("more")
+        first = rf"in use: {behind}\nstored: {day}\nsequences: 3\nfiles: 2\nnames: built in\n"
 
-        def is_said(what, wanted):
-            status, out, err = room.status()
+        def is_said(what, wanted, folder=None):
+            status, out, err = room.status(folder)
             tell.expect(what, (status, bool(re.fullmatch(wanted, out)) or out, err), (0, True, ""))
 
         is_said("a table", first + "service: none runs\n")
+        is_said("a table, from another folder", first + "service: none runs\n", "/")
         os.utime(room.path("state", "table"), (86400 * 365, 86400 * 365))
         tell.expect("its date", room.status()[1].splitlines()[1], "stored: 1971-01-01T00:00:00Z")
         room.write("more", BEHIND + '<Multi_key> <0> <0> : "0"\n')
-        is_said("an include that has changed", first + "changed since: more\nservice: none runs\n")
+        is_said("an include that has changed", first + f"changed since: {more}\nservice: none runs\n")
+        is_said("the same from another folder", first + f"changed since: {more}\nservice: none runs\n", "/")
         os.unlink(room.path("more"))
-        is_said("an include that is gone", first + "gone since: more\nservice: none runs\n")
+        is_said("an include that is gone", first + f"gone since: {more}\nservice: none runs\n")
         os.rename(room.path("behind"), room.path("moved"))
-        is_said("both are gone", first + "gone since: behind\ngone since: more\nservice: none runs\n")
+        is_said("both are gone", first + f"gone since: {behind}\ngone since: {more}\nservice: none runs\n")
         os.rename(room.path("moved"), room.path("behind"))
         room.write("more", BEHIND + '<Multi_key> <0> <0> : "0"\n')
         room.update("behind")
         second = first.replace("sequences: 3", "sequences: 4")
-        is_said("a table after another", second + rf"before it: behind, stored {day}\nservice: none runs\n")
+        is_said("a table after another", second + rf"before it: {behind}, stored {day}\nservice: none runs\n")
         room.start()
-        is_said("a service", second + rf"before it: behind, stored {day}\nservice: serves it on socket\n")
+        is_said("a service", second + rf"before it: {behind}, stored {day}\nservice: serves it on socket\n")
         os.unlink(room.path("socket"))
-        is_said("a service whose socket is gone", second + rf"before it: behind, stored {day}\nservice: runs, and can't be reached\n")
+        is_said("a service whose socket is gone", second + rf"before it: {behind}, stored {day}\nservice: runs, and can't be reached\n")
         room.end()
         before = room.all_bytes()
         room.status()
         tell.expect("status changes nothing", room.all_bytes(), before)
+
+
+def try_paths(program, tell):
+    """Files are found from other folders than the one in which they were given; messages have the path as it was given."""
+    with Room(program) as room:
+        os.mkdir(room.path("elsewhere"))
+        room.update("behind")
+        tell.expect("the same table from another folder", room.run("update", "--state", "../state", "../behind", folder=room.path("elsewhere")), (0, "stored\n", ""))
+        said = [it for it in room.status("/")[1].splitlines() if "since" in it or "in use" in it]
+        tell.expect("its include is found beside it", said, [f"in use: {room.path('elsewhere', '..', 'behind')}"])
+        room.write("more", BEHIND + "# changed\n")
+        tell.expect("and has changed", f"changed since: {room.path('elsewhere', '..', 'more')}" in room.status("/")[1].splitlines(), True)
+        room.write("more", BEHIND)
+        tell.expect("a path that goes up", room.run("update", "--state", "../state", "../old", folder=room.path("elsewhere")), (1, room.update("old")[1], ""))
+        room.write("follower", OLD + BEHIND + '<Multi_key> <0> <0> : "0"\n')
+        tell.expect("an absolute path that follows", (room.update(room.path("follower")), room.status()[1].splitlines()[0]), ((0, "stored\n", ""), f"in use: {room.path('follower')}"))
+        tell.expect("a path that is given is what a message has", room.update("faulty")[2].startswith("composecheck: faulty:1:1: "), True)
+        room.start("--fresh", "")
+        room.write("loaded", OLD + BEHIND + '<Multi_key> <0> <0> : "0"\n<Multi_key> <0> <1> : "1"\n')
+        room.write("manifest", "loaded\tloaded\n")
+        room.write("before", "follower\tfollower\n")
+        room.write("needed", "keys 0x20 0x7e\n")
+        room.write("certificate", room.run("make", "before", "manifest", "needed")[1])
+        tell.expect("a client loads a table", room.run("load", "socket", "manifest", "certificate"), (0, "loaded 1\n", ""))
+        tell.expect("its relative paths are not looked at", [it for it in room.status("/")[1].splitlines() if "since" in it or "in use" in it], ["in use: loaded"])
+
+
+def try_unsynced(program, tell):
+    """The folder can't be synced after a table was renamed: it is in use, and the operator is told."""
+    with tempfile.TemporaryDirectory() as folder, Room(program) as room:
+        library, words = compile_library(folder), ": if the power fails now, the table before may be in use again\n"
+        room.write("full", "")
+        failing = {"LD_PRELOAD": library, "FAIL": "fsync of a folder", "FULL": room.path("full")}
+        written = room.next_table()
+        status, out, err = room.update("table", **failing)
+        tell.expect("an update", (status, out, err.startswith("note: state: ") and err.endswith(words) or err, room.kept()), (0, "stored\n", True, [written]))
+        room.start("--fresh", "", **failing)
+        written = room.next_table()
+        status, out, err = room.update("table")
+        tell.expect("an update beside a service", (status, bool(STORED.fullmatch(out)), err, room.kept()), (0, True, "", [written]))
+        told = room.complained()
+        tell.expect("what the service says", told.startswith("composecheck: state: ") and told.endswith(words) or told, True)
+        os.unlink(room.path("full"))
+        tell.expect("the next update", (room.grown(), room.complained()), (True, told))
 
 
 def try_script(program, tell):

@@ -16,10 +16,10 @@ import tempfile
 import edits
 import measured
 
-# What the lines of proofs.py say of a crate, where what is said of one begins, and what is said of one that is kept.
-ENDED = re.compile(r"rt: (\w+) (NOT PROVED|proved)\b.*\n?")
+# What the lines of proofs.py say of a crate, where what is said of one begins, and what is said of one that is kept: by the gate's own store, or the kit's.
+ENDED = re.compile(r"rt: (\w+) (NOT PROVED|proved|is kept)\b.*\n?")
 BEGUN = re.compile(r"== \w+\n")
-KEPT = "an earlier run has proved it"
+KEPT = re.compile(r"an earlier run (has|on this machine) proved ")
 
 
 def needed(rt, names):
@@ -60,19 +60,22 @@ class Pace:
 
 
 def follow(lines, pace):
-    """Prints how far the proofs are, and all that is said of a crate that is not proved. Returns whether each is."""
+    """Prints how far the proofs are, and all that is said of a crate that is not proved. Returns whether each is, and what was said after the last one."""
     said, are_proved = [], True
     for line in lines:
         said = [line] if BEGUN.fullmatch(line) else [*said, line]
         ended = ENDED.fullmatch(line)
-        if ended and ended[2] == "proved":
-            pace.left.discard(ended[1])
-            if not any(KEPT in it for it in said):
-                print(f"{ended[1]} is proved, the last of {len(pace.crates) - len(pace.left)} of {len(pace.crates)}: {pace.left_in_words()}", flush=True)
-        elif ended:
+        if not ended:
+            continue
+        if ended[2] == "NOT PROVED":
             are_proved = False
             print("".join(said), end="", flush=True)
-    return are_proved
+        else:
+            pace.left.discard(ended[1])
+            if not any(KEPT.search(it) for it in said):
+                print(f"{ended[1]} is proved, the last of {len(pace.crates) - len(pace.left)} of {len(pace.crates)}: {pace.left_in_words()}", flush=True)
+        said = []
+    return are_proved, said
 
 
 def main():
@@ -86,7 +89,9 @@ def main():
               "minutes; what an earlier run proved takes none. `make try` builds the program without a proof.", flush=True)
         command = [sys.executable, os.path.join("tools", "proofs.py"), file, "--without-edits", *names]
         with subprocess.Popen(command, stdout=subprocess.PIPE, stderr=subprocess.STDOUT, text=True, errors="replace") as ran:
-            are_proved = follow(ran.stdout, pace)
+            are_proved, said = follow(ran.stdout, pace)
+    if are_proved and ran.returncode:
+        print("".join(said), end="", flush=True)
     return 0 if are_proved and ran.returncode == 0 else 1
 
 

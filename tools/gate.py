@@ -104,7 +104,7 @@ def use_all_processors(rt):
 def commands():
     """Returns the commands that run the built programs, the slowest first, once `composecheck` itself is at PROGRAM."""
     plain, trials = built("composecheck_list"), built("compose_trials")
-    runs = [(it, PROGRAM) for it in ("refusals.py", "diff.py", "how.py", "lint.py")]
+    runs = [(it, PROGRAM) for it in ("refusals.py", "diff.py", "merge.py", "how.py", "lint.py")]
     runs += [(it, program) for it in ("cases.py", "service.py", "limits.py") for program in (PROGRAM, plain)]
     runs += [("devices.py", trials), ("calls.py", trials), ("network.py", trials)]
     runs += [(it, PROGRAM) for it in ("once.py", "packages.py", "lex_reference.py", "own_file.py", "at_once.py", "streams.py", "update.py", "outputs.py", "ci.py", "readme.py", "client.py", "installed.py", "user_manager.py")]

@@ -88,6 +88,7 @@ class Gate:
             rt.in_lanes = lambda tasks: self.in_measured_lanes(self.with_trials(tasks))
         else:
             rt.add_edits, rt.in_lanes = self.add_edits, self.in_measured_lanes
+            kit.keep_static_libraries(rt)
 
     def prove(self, crate, flags, tests):
         """Proves a crate, over what the gate's own store has, if there is one. A library that has edits is built with its proofs in it."""
@@ -110,7 +111,7 @@ class Gate:
 
         def prepare():
             shutil.rmtree(kept_work, ignore_errors=True)
-            # (of a static library that an earlier run proved nothing is here but its proof's sum: it is proved once more)
+            # (of a static library that an earlier run proved no module is here: it is proved once more)
             if crate.is_static and not os.path.isdir(f"{crate.folder}/out/checked"):
                 return trial.proof()
             return take_checked(crate, kept_work)

@@ -49,7 +49,7 @@ def link(old, new):
 
 def made_by(crate):
     """Returns what the gate needs of a proved crate's out/: a library's folder, a program as each compiler has built it, or a static library."""
-    names = [crate.name, f"{crate.name}.by-rattle", f"lib{crate.name}.a"]
+    names = [crate.name, f"{crate.name}.by-rattle", f"{crate.name}.a"]
     if crate.makes_rlib():
         names = [f"rlib/{crate.name}.rlib"]
     return [it for it in names if os.path.exists(f"{crate.folder}/out/{it}")]

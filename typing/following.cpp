@@ -55,9 +55,10 @@ std::optional<composecheck_state> typed(const composecheck_table *table, const s
     return isPending ? std::optional(state) : std::nullopt;
 }
 
-// What a file of a table keeps: the payload of a load, and whether the longest of overlapping sequences counts.
+// What a file of a table keeps: the payload of a load, the lines of its names (none if they are the built-in ones), and whether the longest of
+// overlapping sequences counts.
 struct Stored {
-    std::string_view payload;
+    std::string_view payload, names;
     bool isLongest;
 };
 
@@ -75,18 +76,33 @@ std::optional<std::string_view> partOf(std::string_view &bytes) {
     return part;
 }
 
-// Reads such a file (docs/FORMATS.md), or one of a version before 0.4, which is the payload alone.
+// Takes the words off the beginning of the bytes, if they begin with them.
+bool begins(std::string_view &bytes, std::string_view words) {
+    bool does = bytes.substr(0, words.size()) == words;
+    bytes.remove_prefix(does ? words.size() : 0);
+    return does;
+}
+
+// A source of this name, which stands at the beginning of the bytes with its length before it; the bytes are those behind it then.
+std::optional<std::string_view> sourceOf(std::string_view &bytes, std::string_view name) {
+    return begins(bytes, name) ? partOf(bytes) : std::nullopt;
+}
+
+// Reads such a file (docs/FORMATS.md), or one of an earlier form: without names, or the payload alone.
 Stored storedIn(std::string_view file) {
     using namespace std::literals;
     for (bool isLongest : {true, false}) {
-        auto head = isLongest ? "\0\1\0\x1c"sv "composecheck-table 1 longest"sv : "\0\1\0\x1b"sv "composecheck-table 1 refuse"sv;
-        if (file.substr(0, head.size()) == head) {
-            file.remove_prefix(head.size());
-            auto repertoire = partOf(file), payload = partOf(file);
-            return {repertoire && payload ? *payload : "", isLongest};
+        auto rest = file;
+        if (begins(rest, isLongest ? "\0\3\0\x1c"sv "composecheck-table 2 longest"sv : "\0\3\0\x1b"sv "composecheck-table 2 refuse"sv)) {
+            auto repertoire = partOf(rest), names = sourceOf(rest, "\0\5names"sv), fresh = sourceOf(rest, "\0\5fresh"sv), payload = partOf(rest);
+            return repertoire && names && fresh && payload ? Stored{*payload, *names, isLongest} : Stored{"", "", isLongest};
+        }
+        if (begins(rest, isLongest ? "\0\1\0\x1c"sv "composecheck-table 1 longest"sv : "\0\1\0\x1b"sv "composecheck-table 1 refuse"sv)) {
+            auto repertoire = partOf(rest), payload = partOf(rest);
+            return {repertoire && payload ? *payload : "", "", isLongest};
         }
     }
-    return {file, true};
+    return {file, "", true};
 }
 
 // Letters that need no Shift, what else has a sign, and what has a name alone.
@@ -140,6 +156,10 @@ std::shared_ptr<composecheck_table> Following::read() const {
     std::string bytes{std::istreambuf_iterator<char>(file), {}};
     auto stored = storedIn(bytes);
     composecheck_input input{};
+    if (!stored.names.empty()) {
+        input.header = stored.names.data();
+        input.header_length = stored.names.size();
+    }
     input.bundle = stored.payload.data();
     input.bundle_length = stored.payload.size();
     input.longest = stored.isLongest;

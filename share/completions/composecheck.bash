@@ -3,7 +3,7 @@ _composecheck() {
     local word=${COMP_WORDS[COMP_CWORD]} before=${COMP_WORDS[COMP_CWORD-1]} options=
     COMPREPLY=()
     if [ "$COMP_CWORD" -eq 1 ]; then
-        COMPREPLY=($(compgen -W "type check explain make diff how list lint manifest update status serve load session --help --version" -- "$word"))
+        COMPREPLY=($(compgen -W "type check explain make diff merge how list lint manifest update status serve load session --help --version" -- "$word"))
         return
     fi
     case $before in
@@ -13,6 +13,7 @@ _composecheck() {
         --system|--root|--state) COMPREPLY=($(compgen -d -- "$word")); return ;;
         --overlap) COMPREPLY=($(compgen -W "longest refuse" -- "$word")); return ;;
         --sort) COMPREPLY=($(compgen -W "keys text file" -- "$word")); return ;;
+        --as) COMPREPLY=($(compgen -W "libxkbcommon libxkbcommon=1.5 libxkbcommon=1.7" -- "$word")); return ;;
         --format)
             COMPREPLY=($(compgen -W "text json" -- "$word"))
             if [ "${COMP_WORDS[1]}" = diff ]; then COMPREPLY=($(compgen -W "text json markdown html" -- "$word")); fi
@@ -28,10 +29,11 @@ _composecheck() {
         explain) options="--files --names --fresh --all --overlap --system --locale --root --verbose --help" ;;
         make) options="--files --names --fresh --all --output --overlap --system --locale --root --verbose --help" ;;
         diff) options="--verbose --names --fresh --overlap --accept --write-accept --no-fold --lost --format --color --skip-faulty --system --locale --root --help" ;;
+        merge) options="--verbose --names --fresh --overlap --skip-faulty --system --locale --root --help" ;;
         how) options="--names --from --repertoire --first --format --skip-faulty --strict --overlap --system --locale --root --help" ;;
-        list) options="--names --prefix --text --next --sort --format --skip-faulty --strict --overlap --system --locale --root --help" ;;
+        list) options="--names --prefix --text --next --sort --as --format --skip-faulty --strict --overlap --system --locale --root --help" ;;
         lint) options="--names --reader --all --accept --write-accept --format --skip-faulty --system --locale --root --verbose --help" ;;
-        update) options="--fresh --repertoire --accept --back --dry-run --state --socket --timeout --system --locale --verbose --help" ;;
+        update) options="--names --fresh --repertoire --accept --back --dry-run --state --socket --timeout --system --locale --verbose --help" ;;
         status) options="--state --socket --help" ;;
         manifest) options="--system --locale --root --verbose --help" ;;
         serve) options="--files --names --fresh --state --at-once --unsent --idle --own-sessions --mode --replace --unlink --overlap --system --locale --root --verbose --help" ;;

@@ -75,18 +75,29 @@ advise() {
     esac
 }
 
+# The units that watch a file, without the ends of their names. (only one file is watched)
+watches() {
+    for it in "${XDG_CONFIG_HOME:-$HOME/.config}"/systemd/user/default.target.wants/composecheck-update@*.path; do
+        [ ! -L "$it" ] || basename "$it" .path
+    done
+}
+
 file=$1
 if [ -z "$file" ]; then
     file=$("$program" manifest | cut -f 1 | head -n 1)
     [ -n "$file" ] || fail "no Compose file of yours was found" 2
 fi
 file=$(realpath -s "$file")
-"$program" update -- "$file" || fail "the table in use stays as it was; see 'Typing changes only if you say so' in SERVICE.md" "$?"
+others=$(watches)
+# (an update of another file meanwhile would show a change that is meant)
+for it in $others; do systemctl --user --quiet stop "$it.path" "$it.service"; done
+"$program" update -- "$file" || {
+    status=$?
+    for it in $others; do systemctl --user --quiet start "$it.path"; done
+    fail "the table in use stays as it was; see 'Typing changes only if you say so' in SERVICE.md" "$status"
+}
 systemctl --user daemon-reload || fail "there is no systemd for users here; start the service yourself: $program serve --state '' ..."
-for it in "${XDG_CONFIG_HOME:-$HOME/.config}"/systemd/user/default.target.wants/composecheck-update@*.path; do
-    # (only one file is watched)
-    [ ! -L "$it" ] || systemctl --user --quiet disable --now "${it##*/}"
-done
+for it in $others; do systemctl --user --quiet disable --now "$it.path"; done
 systemctl --user --quiet is-enabled composecheck.service 2> /dev/null || systemctl --user --quiet enable --now composecheck.socket ||
     fail "composecheck.socket isn't started: journalctl --user -u composecheck.socket"
 systemctl --user --quiet enable --now "composecheck-update@$(systemd-escape -p "$file").path" || fail "$file isn't watched"

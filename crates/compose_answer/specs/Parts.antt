@@ -1,4 +1,5 @@
--- The parts of each command's input: they are read in one order, and the first that is refused decides.
+-- The parts of each command's input: they are read in one order, and the first that is refused
+-- decides.
 use Rattle.std.specs.Prelude.{ℕ, nat_lt, if◌then◌else◌, List, length, Option, Some, None, Result, Ok, Err}
 use Rattle.std.specs.Option.{option_map_or}
 use Rattle.std.specs.Ordering.{nat_cmp}
@@ -28,8 +29,8 @@ type_parts header key_names given = do
 
 -- ---- explain and make: a migration, and its fresh keysyms
 
--- the first condition that the fresh keysyms do not meet for the old table; or they are more than a certificate can
--- have
+-- the first condition that the fresh keysyms do not meet for the old table; or they are more than a
+-- certificate can have
 abbrev pub fresh_fault : List Definition → List ℕ → Option NoAnswer
 fresh_fault old fresh = option_map_or (λ fault. Some (no_fresh fault)) (first_unmet (fresh_conditions old fresh)) (if nat_lt max_fresh (length fresh) then Some too_many_fresh else None)
 

@@ -93,6 +93,9 @@ fn with_letter<'a>(option: Arg<'a>, letter: Option<char>) -> Arg<'a> {
 fn with_value<'a>(option: Arg<'a>, takes: Takes) -> Result<Arg<'a>, AllocError> {
     match takes {
         Takes::NothingWith(others) => option.action(ArgAction::SetTrue).conflicts_with_all(others),
+        Takes::MaybeOneOf { without, .. } => {
+            with_own_value(option, takes).conflicts_with_all(without)
+        }
         _ => Ok(with_own_value(option, takes)),
     }
 }
@@ -115,6 +118,7 @@ fn with_own_value<'a>(option: Arg<'a>, takes: Takes) -> Arg<'a> {
             .value_name(name)
             .value_parser(values)
             .default_value(default),
+        Takes::MaybeOneOf { name, values, .. } => option.value_name(name).value_parser(values),
         Takes::Number {
             name,
             range,

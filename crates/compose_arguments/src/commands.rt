@@ -10,6 +10,8 @@ pub enum CommandName {
     Check,
     /// `diff`: reports what a new table changes.
     Diff,
+    /// `merge`: merges two tables.
+    Merge,
     /// `how`: prints how texts are typed.
     How,
     /// `list`: lists the sequences of a Compose file.
@@ -35,8 +37,9 @@ pub enum CommandName {
 }
 
 /// All commands, in the order of the program's help.
-pub const COMMANDS: [CommandName; 14] = [
+pub const COMMANDS: [CommandName; 15] = [
     CommandName::Diff,
+    CommandName::Merge,
     CommandName::How,
     CommandName::List,
     CommandName::Lint,
@@ -58,6 +61,7 @@ pub fn row_of(command: CommandName) -> &'static CommandRow {
         CommandName::Type => &TYPE,
         CommandName::Check => &CHECK,
         CommandName::Diff => &DIFF,
+        CommandName::Merge => &MERGE,
         CommandName::How => &HOW,
         CommandName::List => &LIST,
         CommandName::Explain => &EXPLAIN,
@@ -335,6 +339,36 @@ static DIFF: CommandRow = CommandRow {
     ],
 };
 
+/// The command that merges two tables.
+static MERGE: CommandRow = CommandRow {
+    name: "merge",
+    about: "Print a Compose file with all of an old one, and of a new one what changes nothing for people who type",
+    after_help: "What is left out of NEW is printed to standard error, with the reason.\nNames are those of keysymdef.h, unless --names gives others.\nExit status: 0 printed, 2 input refused, 3 out of memory\nExample: composecheck merge ~/.XCompose /usr/share/X11/locale/en_US.UTF-8/Compose > merged",
+    options: &[
+        VERBOSE,
+        NAMES,
+        FRESH,
+        OVERLAP,
+        SKIP_FAULTY,
+        SYSTEM,
+        LOCALE,
+        ROOTS,
+    ],
+    options_of_files: &[],
+    arguments: &[
+        ArgumentRow {
+            name: "OLD",
+            given: GivenArguments::Text,
+            help: "The old Compose file",
+        },
+        ArgumentRow {
+            name: "NEW",
+            given: GivenArguments::Text,
+            help: "The new Compose file",
+        },
+    ],
+};
+
 /// `--overlap` of a command that takes the longest of overlapping sequences by default, as
 /// libxkbcommon does.
 const OVERLAP: OptionRow = OptionRow {
@@ -401,6 +435,29 @@ static HOW: CommandRow = CommandRow {
     }],
 };
 
+/// `--as`: another reader of Compose files.
+const AS: OptionRow = OptionRow {
+    name: "as",
+    letter: None,
+    takes: Takes::MaybeOneOf {
+        name: "READER",
+        values: &["libxkbcommon", "libxkbcommon=1.5", "libxkbcommon=1.7"],
+        without: &[
+            "names",
+            "prefix",
+            "text",
+            "next",
+            "sort",
+            "format",
+            "skip-faulty",
+            "strict",
+            "overlap",
+            "root",
+        ],
+    },
+    help: "Print the definitions that READER takes, in its order, and report each that it doesn't; without a version the newest",
+};
+
 /// The command that lists the sequences of a Compose file.
 static LIST: CommandRow = CommandRow {
     name: "list",
@@ -436,6 +493,7 @@ static LIST: CommandRow = CommandRow {
             },
             help: "The order: by the keysyms of the keys, by text, or by file and line",
         },
+        AS,
         LIST_FORMAT,
         SKIP_FAULTY_BY_DEFAULT,
         STRICT,
@@ -579,6 +637,12 @@ static UPDATE: CommandRow = CommandRow {
     after_help: "The table in use is kept in DIR/table, as its sources were when it was taken into use.\nExit status: 0 in use, 1 typing would change, 2 input refused, 3 out of memory\nExample: composecheck update /usr/share/X11/locale/en_US.UTF-8/Compose",
     options: &[
         VERBOSE,
+        OptionRow {
+            name: "names",
+            letter: None,
+            takes: Takes::Values("FILE"),
+            help: "Keysym names, in the form of keysymdef.h, or builtin; kept with the table, and those of the table in use without the option",
+        },
         FRESH,
         OptionRow {
             name: "repertoire",
@@ -595,7 +659,7 @@ static UPDATE: CommandRow = CommandRow {
         OptionRow {
             name: "back",
             letter: None,
-            takes: Takes::NothingWith(&["accept", "fresh", "repertoire"]),
+            takes: Takes::NothingWith(&["accept", "fresh", "names", "repertoire"]),
             help: "Take back the table before the last change, in the place of FILE; sessions begin anew",
         },
         OptionRow {

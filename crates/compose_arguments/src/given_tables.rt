@@ -94,6 +94,35 @@ pub fn file_pair<'a>(given: &ArgMatches<'a>) -> Option<FilePair<'a>> {
     })
 }
 
+/// Returns the old and the new table, each by itself, if they are given. The overlaps of a Compose
+/// file are refused unless the longest of them is asked for.
+pub fn old_and_new<'a>(given: &ArgMatches<'a>) -> Option<(TypeTable<'a>, TypeTable<'a>)> {
+    let (old_root, new_root) = roots_of(given.get_strs("root").unwrap_or(&[]));
+    let old = table_below(given, "OLD", old_root)?;
+    let new = table_below(given, "NEW", new_root)?;
+    Some((old, new))
+}
+
+/// Returns the table that is given for this argument, if it is there; this is its root.
+fn table_below<'a>(
+    given: &ArgMatches<'a>,
+    argument: &str,
+    root: Option<&'a str>,
+) -> Option<TypeTable<'a>> {
+    let path = given.get_str(argument)?;
+    if !given.get_flag("files") {
+        return Some(TypeTable::Manifest(path));
+    }
+    Some(TypeTable::File(TableArguments {
+        file: Some(path),
+        refuse_overlaps: given.get_str("overlap") != Some("longest"),
+        skip_faulty: false,
+        system: given.get_str("system"),
+        locale: given.get_str("locale"),
+        root,
+    }))
+}
+
 /// Returns the roots of the old and the new table: the first and the last of those that are given.
 fn roots_of<'a>(roots: &[&'a str]) -> (Option<&'a str>, Option<&'a str>) {
     (roots.first().copied(), roots.last().copied())

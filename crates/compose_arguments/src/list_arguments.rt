@@ -56,3 +56,44 @@ fn sort_of(given: &ArgMatches<'_>) -> ListSort {
         _ => ListSort::Keys,
     }
 }
+
+/// The arguments of `list --as`.
+#[derive(Clone, Copy, Debug)]
+pub struct ListAsArguments<'a> {
+    /// The reader.
+    pub reader: TableReader,
+    /// The path of the Compose file, if it is given.
+    pub file: Option<&'a str>,
+    /// The folder of the system's tables.
+    pub system: Option<&'a str>,
+    /// The name of a locale.
+    pub locale: Option<&'a str>,
+}
+
+/// Another reader of Compose files.
+#[derive(Clone, Copy, Debug, PartialEq, Eq)]
+pub enum TableReader {
+    /// libxkbcommon 1.5.
+    Libxkbcommon1_5,
+    /// libxkbcommon 1.7.
+    Libxkbcommon1_7,
+}
+
+/// Returns the arguments of `list --as`, if a reader is given. O(1).
+pub(crate) fn list_as_arguments<'a>(given: &ArgMatches<'a>) -> Option<ListAsArguments<'a>> {
+    Some(ListAsArguments {
+        reader: reader_of(given.get_str("as")?),
+        file: given.get_str("FILE"),
+        system: given.get_str("system"),
+        locale: given.get_str("locale"),
+    })
+}
+
+/// Returns the reader with this name, which is one of those of the command line; without a version
+/// the newest.
+fn reader_of(name: &str) -> TableReader {
+    match name {
+        "libxkbcommon=1.5" => TableReader::Libxkbcommon1_5,
+        _ => TableReader::Libxkbcommon1_7,
+    }
+}

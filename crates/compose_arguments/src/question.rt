@@ -1,10 +1,11 @@
 //! The commands that read files and answer.
 use crate::diff_arguments::{DiffArguments, diff_arguments};
-use crate::given_tables::{BothTables, TypeTable, both_tables, type_table};
+use crate::given_tables::{BothTables, TypeTable, both_tables, old_and_new, type_table};
 use crate::how_arguments::{HowArguments, how_arguments};
 use crate::lint_arguments::{LintArguments, lint_arguments};
-use crate::list_arguments::{ListArguments, list_arguments};
+use crate::list_arguments::{ListArguments, ListAsArguments, list_arguments, list_as_arguments};
 use crate::manifest_arguments::{ManifestArguments, manifest_arguments};
+use crate::merge_arguments::{MergeArguments, merge_arguments};
 use crate::name_lists::{argument_keys, fresh_names, given_fresh_names};
 use clap::ArgMatches;
 use std::alloc::{AllocError, Global};
@@ -34,8 +35,10 @@ pub enum Question<'a> {
     },
     /// `explain`: how two tables differ.
     Explain {
-        /// The old and the new table.
-        tables: BothTables<'a>,
+        /// The old table.
+        old: TypeTable<'a>,
+        /// The new table, which is named in the same way.
+        new: TypeTable<'a>,
         /// The keys in `--fresh`.
         fresh: Vec<&'a str>,
         /// Whether all differences are printed.
@@ -48,6 +51,13 @@ pub enum Question<'a> {
         /// The keys in `--fresh`.
         fresh: Vec<&'a str>,
     },
+    /// `merge`: an old Compose file with what a new one adds to it.
+    Merge {
+        /// The other arguments.
+        arguments: MergeArguments<'a>,
+        /// The keys in `--fresh`.
+        fresh: Vec<&'a str>,
+    },
     /// `how`: how texts are typed.
     How {
         /// The other arguments.
@@ -57,6 +67,8 @@ pub enum Question<'a> {
     },
     /// `list`: the sequences of a Compose file.
     List(ListArguments<'a>),
+    /// `list --as`: a Compose file as another reader has it.
+    ListAs(ListAsArguments<'a>),
     /// `lint`: mistakes in Compose files.
     Lint(LintArguments<'a>),
     /// `make`: a certificate that shows that a new table follows an old one.
@@ -87,8 +99,9 @@ pub(crate) fn question_of<'a>(
         "check" => check_question(alloc, given),
         "explain" => explain_question(alloc, given),
         "diff" => diff_question(alloc, given),
+        "merge" => merge_question(alloc, given),
         "how" => how_question(alloc, given),
-        "list" => Ok(Some(Question::List(list_arguments(alloc, given)?))),
+        "list" => Ok(Some(list_question(alloc, given)?)),
         "lint" => Ok(Some(Question::Lint(lint_arguments(alloc, given)?))),
         "make" => make_question(alloc, given),
         "manifest" => Ok(Some(Question::Manifest(manifest_arguments(given)))),
@@ -141,11 +154,12 @@ fn explain_question<'a>(
     alloc: Global,
     given: &ArgMatches<'a>,
 ) -> Result<Option<Question<'a>>, AllocError> {
-    let Some(tables) = both_tables(given) else {
+    let Some((old, new)) = old_and_new(given) else {
         return Ok(None);
     };
     Ok(Some(Question::Explain {
-        tables,
+        old,
+        new,
         fresh: fresh_names(alloc, given, given.get_flag("files"))?,
         all: given.get_flag("all"),
     }))
@@ -165,6 +179,20 @@ fn diff_question<'a>(
     }))
 }
 
+/// Returns the question of `merge`.
+fn merge_question<'a>(
+    alloc: Global,
+    given: &ArgMatches<'a>,
+) -> Result<Option<Question<'a>>, AllocError> {
+    let Some(arguments) = merge_arguments(given) else {
+        return Ok(None);
+    };
+    Ok(Some(Question::Merge {
+        arguments,
+        fresh: fresh_names(alloc, given, true)?,
+    }))
+}
+
 /// Returns the question of `how`.
 fn how_question<'a>(
     alloc: Global,
@@ -177,6 +205,14 @@ fn how_question<'a>(
         arguments: how_arguments(given),
         texts: Vec::from_slice(alloc, texts)?,
     }))
+}
+
+/// Returns the question of `list`.
+fn list_question<'a>(alloc: Global, given: &ArgMatches<'a>) -> Result<Question<'a>, AllocError> {
+    match list_as_arguments(given) {
+        Some(arguments) => Ok(Question::ListAs(arguments)),
+        None => Ok(Question::List(list_arguments(alloc, given)?)),
+    }
 }
 
 /// Returns the question of `make`.

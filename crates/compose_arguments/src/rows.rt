@@ -57,6 +57,15 @@ pub enum Takes {
         /// The value if the option is not given.
         default: &'static str,
     },
+    /// One of some values, or none.
+    MaybeOneOf {
+        /// The name of the value.
+        name: &'static str,
+        /// The possible values.
+        values: &'static [&'static str],
+        /// The options that conflict with it.
+        without: &'static [&'static str],
+    },
     /// A number.
     Number {
         /// The name of the value.

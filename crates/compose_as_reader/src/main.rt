@@ -90,7 +90,7 @@ fn print_fate(rt: &HostRuntime, told: &[Told<'_>], one: &Told<'_>, fate: Fate) -
     print!(rt; "{} {} ", one.file, one.line)?;
     match (one.what, fate) {
         (What::Includes(_), _) => println!(rt; "include"),
-        (What::LeftOut(cause), _) => println!(rt; "left out: {cause}"),
+        (What::LeftOut(cause), _) => println!(rt; "left out: {}", cause.words()),
         (_, Fate::Taken) => println!(rt; "taken"),
         (_, Fate::Full) => println!(rt; "left out: the table is full"),
         (_, Fate::Overridden(by)) => match told.get(by) {
@@ -128,7 +128,7 @@ fn print_table(rt: &HostRuntime, most_nodes: usize, walked: &Walked<'_>) -> io::
         print_fate(rt, told, one, *fate)?;
     }
     if let Some(refusal) = walked.refusal {
-        return println!(rt; "refused: {refusal}");
+        return println!(rt; "refused: {}", refusal.words());
     }
     for (one, fate) in told.iter().zip(&fates) {
         if *fate == Fate::Taken {

@@ -41,7 +41,8 @@ take_more sources index s e =
     let l = slice_get_within sources index s e in
     ap (λ n. take n sources) (add-one index) ∙ take-suc sources index s l ∙ ap (λ (y : Source). take index sources ++ y ∷ []) (get_or_from_slice_get sources index s s e)
 
--- if the lengths of the first sources and of the next one fit, those of the sources with that one fit
+-- if the lengths of the first sources and of the next one fit, those of the sources with that one
+-- fit
 pub lengths_more : (sources : List Source) (index : ℕ) (s : Source) → slice_get sources index ≡ Some s → AllByRecursion HasLengths (take index sources) → HasLengths s
     → AllByRecursion HasLengths (take (index + 1) sources)
 lengths_more sources index s e a h = subst (λ (ss : List Source). AllByRecursion HasLengths ss) (sym (take_more sources index s e)) (all_push HasLengths (take index sources) s a h)

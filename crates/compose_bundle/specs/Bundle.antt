@@ -1,4 +1,5 @@
--- A bundle: the payload of a load, with the sources of a table and the text of a certificate (this project's protocol).
+-- A bundle: the payload of a load, with the sources of a table and the text of a certificate (this
+-- project's protocol).
 use Rattle.std.specs.Prelude.{◌≡◌, ℕ, ◌<◌, ◌≤◌, ◌^◌, List, ◌++◌, length, map, flat_map, IsUtf8}
 use Rattle.std.specs.Int.{to_be_bytes, w16, w32}
 use Rattle.std.specs.List.{AllByRecursion, IsDistinct}

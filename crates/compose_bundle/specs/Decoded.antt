@@ -1,4 +1,5 @@
--- The bundle of a payload, decoded part by part; `law_one_bundle` is the law that it is the one of `IsBundle`.
+-- The bundle of a payload, decoded part by part; `law_one_bundle` is the law that it is the one of
+-- `IsBundle`.
 use Rattle.std.specs.Prelude.{◌≡◌, ℕ, zero, suc, nat_lt, nat_le, ◌&&◌, if◌then◌else◌, List, [], ◌∷◌, ◌++◌, length, take, drop, Option, Some, None}
 use Rattle.std.specs.Int.{from_be_bytes, w16, w32}
 use Rattle.std.specs.Str.{is_utf8}

@@ -24,7 +24,8 @@ NotDecoded bundle_faults.Form o = o ≡ None
 NotDecoded bundle_faults.TooLarge o = ⊥
 NotDecoded bundle_faults.NoMemory o = Unit {0}
 
--- the piece, which has the property P, was appended, and the whole is a payload; or it would be too large
+-- the piece, which has the property P, was appended, and the whole is a payload; or it would be too
+-- large
 abbrev pub Appends : Type 0 → List ℕ → List ℕ → Result (Unit {0}) BundleFault → List ℕ → Type 0
 Appends P old piece (Ok u) new = P × (new ≡ old ++ piece) × (length new ≤ max_payload)
 Appends P old piece (Err bundle_faults.TooLarge) new = P → max_payload < length (old ++ piece)

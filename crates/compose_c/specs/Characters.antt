@@ -1,5 +1,5 @@
--- The characters of keysyms, by the names of a header (xkb_keysym_to_utf32): a key that is part of no sequence
--- commits its character.
+-- The characters of keysyms, by the names of a header (xkb_keysym_to_utf32): a key that is part of
+-- no sequence commits its character.
 use Rattle.std.specs.Prelude.{◌≡◌, ℕ, if◌then◌else◌, List, map, Ok, Err, unwrap_or}
 use Rattle.keysym_core.specs.Keysym.{is_keysym}
 use Rattle.keysym_core.specs.Names.{KeysymNames, character_of}

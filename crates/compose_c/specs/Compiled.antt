@@ -16,7 +16,8 @@ abbrev pub rule_of : Bool → Rule
 rule_of true = Longest
 rule_of false = Refuse
 
--- the table that the first source of this bundle defines under the rule, with the names of this header
+-- the table that the first source of this bundle defines under the rule, with the names of this
+-- header
 pub record IsRead (header bundle : List ℕ) (rule : Rule) (table : List Definition) : Type 0 where
   pub names : KeysymNames
   pub sources : Bundle
@@ -41,8 +42,9 @@ pub record Fits (s : Sizes) (nodes edges texts long_texts hints : ℕ) : Type 0 
   pub all_long_texts : s.long_texts ≤ long_texts
   pub all_hints : s.hints ≤ hints
 
--- the sizes of this table: one for each node and one for the end of the edges; one for each edge; four for each text; one
--- for each byte that a long text takes, each text once; and two hints for each edge
+-- the sizes of this table: one for each node and one for the end of the edges; one for each edge;
+-- four for each text; one for each byte that a long text takes, each text once; and two hints for
+-- each edge
 pub record AreSizes (table : List Definition) (s : Sizes) : Type 0 where
   pub all_nodes : s.nodes ≡ length (nodes table) + 1
   pub all_edges : s.edges ≡ sum_by (λ p. length (edges table p)) (nodes table)

@@ -144,7 +144,8 @@ fault_of (Unmet fault) = of_check fault
 
 -- ---- what is refused
 
--- the names are read and the payload is a bundle, but its first source defines no table: this fault is in this column
+-- the names are read and the payload is a bundle, but its first source defines no table: this fault
+-- is in this column
 pub record ReturnsNoTable (header payload : List ℕ) (rule : Rule) (fault : TableFault) (column : ℕ) : Type 0 where
   pub names : KeysymNames
   pub sources : Bundle

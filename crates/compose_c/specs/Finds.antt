@@ -23,7 +23,8 @@ use Rattle.compose_c.specs.declared.find.SearchResult.TheVariants.{Found, Wanted
 
 -- ---- a search
 
--- the paths looked for with what was found there, the expansions of %S, %L and %H, and the path of the root
+-- the paths looked for with what was found there, the expansions of %S, %L and %H, and the path of
+-- the root
 pub record Search : Type 0 where
   pub files : List TriedFile
   pub words : Words
@@ -44,7 +45,8 @@ words_of system locale home sysroot =
     text_of system >>= λ s. text_of locale >>= λ l. text_of home >>= λ h. text_of sysroot >>= λ r.
     Some (record { system = s; locale = known l; home = known h; root = known r })
 
--- the search with the answers in a payload and these paths; none if the payload is malformed or a path is not UTF-8
+-- the search with the answers in a payload and these paths; none if the payload is malformed or a
+-- path is not UTF-8
 abbrev pub search_of : List ℕ → List ℕ → List ℕ → List ℕ → List ℕ → List ℕ → Option Search
 search_of answers root system locale home sysroot =
     answers_of answers >>= λ files. text_of root >>= λ r. words_of system locale home sysroot >>= λ words.
@@ -184,7 +186,8 @@ ReportsFind search certificate fault =
 
 -- ---- the table of a locale
 
--- the path of a locale's table; none if the folder or the locale is not UTF-8, or if the locale has no table
+-- the path of a locale's table; none if the folder or the locale is not UTF-8, or if the locale has
+-- no table
 abbrev pub locale_path : List ℕ → List ℕ → List ℕ → List ℕ → Option (List ℕ)
 locale_path folder compose_dir aliases locale =
     text_of folder >>= λ f. text_of locale >>= λ l. locale_file f compose_dir aliases l

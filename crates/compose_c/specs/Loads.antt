@@ -35,7 +35,8 @@ pub record Meets (names : KeysymNames) (old new : List Definition) (repertoire c
   pub waits : Waits new given.bound
   pub types : TypesAll names new needed given.typings
 
--- the repertoire and the certificate are read, and this is the first condition that the certificate does not meet
+-- the repertoire and the certificate are read, and this is the first condition that the certificate
+-- does not meet
 pub record IsUnmet (names : KeysymNames) (old new : List Definition) (repertoire certificate : List ℕ) (fault : CheckFault) : Type 0 where
   pub needed : Repertoire
   pub given : Certificate
@@ -78,8 +79,8 @@ ReportsUncertified header old new repertoire certificate reported = (r : LoadRef
 
 -- ---- loads
 
--- the table is the one that the bundle's first source defines, and the bundle's certificate is valid for a move to it
--- from the old table
+-- the table is the one that the bundle's first source defines, and the bundle's certificate is
+-- valid for a move to it from the old table
 pub record IsLoaded (header : List ℕ) (old : List Definition) (repertoire bundle : List ℕ) (rule : Rule) (new : List Definition) : Type 0 where
   pub names : KeysymNames
   pub sources : Bundle

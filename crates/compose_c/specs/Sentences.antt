@@ -45,7 +45,8 @@ pub record OfBundle (payload : List ℕ) (text : List ℕ) : Type 0 where
   pub is : NotRead fault payload
   pub reason : text ≡ bundle_message fault
 
--- the names are read and the payload is a bundle, but its first source defines no table, for this fault
+-- the names are read and the payload is a bundle, but its first source defines no table, for this
+-- fault
 pub record OfTable (header payload : List ℕ) (rule : Rule) (text : List ℕ) : Type 0 where
   pub names : KeysymNames
   pub sources : Bundle

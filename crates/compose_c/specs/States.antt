@@ -22,7 +22,8 @@ status_of n = if n == 1 then Composing else if n == 2 then Composed else if n ==
 abbrev pub keysyms_of : List ℕ → List ℕ
 keysyms_of numbers = if list_all is_keysym numbers then numbers else []
 
--- the first `count` numbers; nothing is pending if the count is above 31 or one of them is not a keysym
+-- the first `count` numbers; nothing is pending if the count is above 31 or one of them is not a
+-- keysym
 abbrev pub pending_of : State → List ℕ
 pending_of s = if nat_le s.count 31 then keysyms_of (take s.count s.pending) else []
 

@@ -357,6 +357,7 @@ pub found_from_exact : (bytes : List ℕ) (r : Result Certificate CertFault) →
 found_from_exact bytes (Ok c) e = read_is_spelled bytes c e
 found_from_exact bytes (Err f) e = tt
 
--- a reader that returns what is read returns the certificate that the bytes spell, unless memory runs out
+-- a reader that returns what is read returns the certificate that the bytes spell, unless memory
+-- runs out
 pub only_from_exact : (bytes : List ℕ) (c : Certificate) (r : Result Certificate CertFault) → Spells bytes c → CertificateReturns r (certificate_of bytes) → CertificateReturns r (Ok c)
 only_from_exact bytes c r s e = subst (CertificateReturns r) (spelled_is_read bytes c s) e

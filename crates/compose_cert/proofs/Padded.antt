@@ -78,8 +78,8 @@ is_padded n l =
 pub padded_value : (n : ℕ) → n ≤ 0x10ffff → digits_value 16 (padded n) ≡ n
 padded_value n l = (is_padded n (omega arith)).value
 
--- a word of at least four digits, without leading zeros if it is longer, spells its value, or no character if it has
--- none
+-- a word of at least four digits, without leading zeros if it is longer, spells its value, or no
+-- character if it has none
 pub padded_by_value : (word : List ℕ) → 4 ≤ length word → (get_or word 0 0 ≡ 48 → length word ≡ 4) → IsSpelled padded 0x10ffff word (value_up_to UpperHexadecimal 0x10ffff word)
 padded_by_value word l f = go (list_all (is_digit UpperHexadecimal) word && nat_le (digits_value 16 word) 0x10ffff) refl
   where

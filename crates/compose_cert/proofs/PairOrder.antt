@@ -9,7 +9,8 @@ use Rattle.compose_model.specs.Certificate.{is_pair_before, pairs_rise}
 abbrev pub Before : ℕ × ℕ → ℕ × ℕ → Type 0
 Before p q = (p.0 < q.0) ⊎ ((p.0 ≡ q.0) × (p.1 < q.1))
 
--- a pair that comes before another has the smaller old node, or the same one and the smaller new node
+-- a pair that comes before another has the smaller old node, or the same one and the smaller new
+-- node
 pub before_means : (p q : ℕ × ℕ) → is_pair_before p q ≡ true → Before p q
 before_means p q h = elim (or_cases (nat_lt p.0 q.0) (p.0 == q.0 && nat_lt p.1 q.1) h) [
   | inl e ↦ inl (ltb-true p.0 q.0 e)

@@ -50,7 +50,8 @@ above_differs at b l h = go (b == at) refl
     go true e = absurd (omega (arith, eqb-true b at e, ltb-true 32 b h))
     go false e = refl
 
--- a word of bytes above the blank is the first part when its bytes are divided at the blank after it
+-- a word of bytes above the blank is the first part when its bytes are divided at the blank after
+-- it
 pub word_divided : (word rest : List ℕ) → plain word ≡ true → divide 32 (word ++ 32 ∷ rest) ≡ word ∷ divide 32 rest
 word_divided word rest h = divide_at 32 (λ b. nat_lt 32 b) (λ b h. above_differs 32 b (omega arith) h) word rest h
 

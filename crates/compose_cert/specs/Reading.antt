@@ -1,4 +1,5 @@
--- Reading a certificate's text line by line: the certificate, or the fault of the first faulty line.
+-- Reading a certificate's text line by line: the certificate, or the fault of the first faulty
+-- line.
 use Rattle.std.specs.Prelude.{ℕ, Bool, ◌+◌, ◌&&◌, ◌==◌, nat_eq, nat_lt, zero, suc, if◌then◌else◌, List, [], ◌∷◌, ◌++◌, length, drop, Option, Some, None, Result, Ok, Err, bytes_eq, codes}
 use Rattle.std.specs.Option.{option_map_or, option_map}
 use Rattle.std.specs.List.{starts_with}

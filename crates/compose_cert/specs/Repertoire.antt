@@ -60,7 +60,8 @@ IsOrdered _ = Unit {0}
 
 -- ---- all lines
 
--- the repertoire with the content of line n; ranges increase and come before the characters, which increase as well
+-- the repertoire with the content of line n; ranges increase and come before the characters, which
+-- increase as well
 abbrev pub with_entry : ℕ → Option LineEntry → Repertoire → Result Repertoire RepertoireFault
 with_entry n None r = Err (BadLine n)
 with_entry n (Some Nothing) r = Ok r

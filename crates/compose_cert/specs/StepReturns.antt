@@ -1,4 +1,5 @@
--- What a step of a reader returns, unless memory runs out. Definitions for the contracts of private functions.
+-- What a step of a reader returns, unless memory runs out. Definitions for the contracts of private
+-- functions.
 use Rattle.std.specs.Prelude.{◌≡◌, ◌≢◌, ℕ, List, ◌++◌, Result, Ok, Err, MatchResult}
 use Rattle.compose_text.specs.Results.{◌>>=◌}
 use Rattle.compose_cert.specs.declared.CertFault.{CertFault}

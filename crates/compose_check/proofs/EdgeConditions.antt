@@ -20,15 +20,16 @@ use Rattle.compose_check.specs.Landing.{target_text, landing_text, landing_cance
 use Rattle.compose_fresh.proofs.Unmet.{drop_at, first_unmet-met, first_unmet-fault, unmet_before, met_before}
 use Rattle.compose_check.proofs.Landed.{root_alone, lands_cancelled, lands_text, lands_number}
 
--- the key leads from the old node u to the target, and from the new node with the number n to the landing
+-- the key leads from the old node u to the target, and from the new node with the number n to the
+-- landing
 pub record AtEdge (old new : List Definition) (u : List ℕ) (n k : ℕ) (target : Target) (landing : Option Target) : Type 0 where
   pub from : target_of old u k ≡ Some target
   pub to : target_of new (node new n) k ≡ landing
   pub fed : is_ignored k ≡ false
   pub root : is_empty (node new n) ≡ (n == 0)
 
--- a key that leads on from an old node and lands from a new one is not ignored, and the new node is the root exactly if
--- its number is 0
+-- a key that leads on from an old node and lands from a new one is not ignored, and the new node is
+-- the root exactly if its number is 0
 pub at_edge : (old new : List Definition) (u : List ℕ) (n k : ℕ) (target : Target) (landing : Option Target) → target_of old u k ≡ Some target → target_of new (node new n) k ≡ landing
     → is_table old ≡ true → n < length (nodes new) → AtEdge old new u n k target landing
 at_edge old new u n k target landing from to sound in_range = record { from = from; to = to; fed = target_fed old u k target sound from; root = root_alone new n in_range }

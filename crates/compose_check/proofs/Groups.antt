@@ -1,4 +1,5 @@
--- The groups of conditions, one after another: if those so far are met, the first fault is that of the next group.
+-- The groups of conditions, one after another: if those so far are met, the first fault is that of
+-- the next group.
 use Rattle.std.proofs.Common.{◌≡◌, List, ◌++◌, true, ◌&&◌, sym, ◌∙◌}
 use Rattle.std.specs.Prelude.{Some, None}
 use Rattle.std.proofs.lemmas.Bool.{and_parts}
@@ -48,7 +49,8 @@ module _ (names : KeysymNames) (old new : List Definition) (repertoire : Reperto
       fault_after_fresh : fault_of names old new repertoire c ≡ first_unmet (starts ++ (edges ++ (bound ++ typings)))
       fault_after_fresh = behind_pairs ∙ met_before fresh (starts ++ (edges ++ (bound ++ typings))) no_fresh
 
-      -- if those on pairs and fresh keysyms are met, the first fault of the new starts is the certificate's
+      -- if those on pairs and fresh keysyms are met, the first fault of the new starts is the
+      -- certificate's
       pub start_fault : (fault : CheckFault) → first_unmet starts ≡ Some fault → Some fault ≡ fault_of names old new repertoire c
       start_fault fault h = sym (fault_after_fresh ∙ unmet_before starts (edges ++ (bound ++ typings)) fault h)
 
@@ -56,7 +58,8 @@ module _ (names : KeysymNames) (old new : List Definition) (repertoire : Reperto
         fault_after_starts : fault_of names old new repertoire c ≡ first_unmet (edges ++ (bound ++ typings))
         fault_after_starts = fault_after_fresh ∙ met_before starts (edges ++ (bound ++ typings)) no_start
 
-        -- if those on pairs, fresh keysyms and starts are met, the first fault at an edge is the certificate's
+        -- if those on pairs, fresh keysyms and starts are met, the first fault at an edge is the
+        -- certificate's
         pub edge_fault : (fault : CheckFault) → first_unmet edges ≡ Some fault → Some fault ≡ fault_of names old new repertoire c
         edge_fault fault h = sym (fault_after_starts ∙ unmet_before edges (bound ++ typings) fault h)
 
@@ -64,11 +67,12 @@ module _ (names : KeysymNames) (old new : List Definition) (repertoire : Reperto
           fault_after_edges : fault_of names old new repertoire c ≡ first_unmet (bound ++ typings)
           fault_after_edges = fault_after_starts ∙ met_before edges (bound ++ typings) no_edge
 
-          -- if all conditions but those on the bound and the typings are met, the first fault of the bound is the
-          -- certificate's
+          -- if all conditions but those on the bound and the typings are met, the first fault of
+          -- the bound is the certificate's
           pub bound_fault : (fault : CheckFault) → first_unmet bound ≡ Some fault → Some fault ≡ fault_of names old new repertoire c
           bound_fault fault h = sym (fault_after_edges ∙ unmet_before bound typings fault h)
 
-          -- if all conditions but those on typings are met, the certificate has the fault of its typings, or none
+          -- if all conditions but those on typings are met, the certificate has the fault of its
+          -- typings, or none
           pub typing_faults : first_unmet bound ≡ None → first_unmet typings ≡ fault_of names old new repertoire c
           typing_faults h = sym (fault_after_edges ∙ met_before bound typings h)

@@ -71,7 +71,8 @@ same_as_none : (s : List ℕ) → same s [] ≡ is_empty s
 same_as_none [] = refl
 same_as_none (k ∷ s) = refl
 
--- if u is pending, w commits the character c at its last key and nothing before, and leaves nothing pending
+-- if u is pending, w commits the character c at its last key and nothing before, and leaves nothing
+-- pending
 abbrev pub types_from : KeysymNames → List Definition → List ℕ → List ℕ → ℕ → Bool
 types_from names table u w c = pointwise same (map (λ s. s.text) (steps_from names table u w)) (replicate (length w - 1) [] ++ encode_utf8 c ∷ []) && is_empty (pending_from table u w)
 

@@ -43,7 +43,8 @@ parts_read view p = record {
   certificate = p.certificate;
 }
 
--- the refusal is one of the names, of the old or new table, of the repertoire or of the certificate; or memory ran out
+-- the refusal is one of the names, of the old or new table, of the repertoire or of the
+-- certificate; or memory ran out
 abbrev pub IsOfInput : Refusal → Type 0
 IsOfInput (refusals.Key index) = ⊥
 IsOfInput (refusals.Table fault) = ⊥
@@ -51,7 +52,8 @@ IsOfInput (refusals.Fresh fault) = ⊥
 IsOfInput refusals.TooManyFresh = ⊥
 IsOfInput refusal = Unit {0}
 
--- the fault names the part that can't be read, and the reason; running out of memory is a fault of the whole
+-- the fault names the part that can't be read, and the reason; running out of memory is a fault of
+-- the whole
 abbrev pub InputRefused : {P : Type 0} → InputFault → Result P NoAnswer → Type 0
 InputRefused (Names name_faults.NoMemory) expected = ⊥
 InputRefused (Names fault) expected = expected ≡ Err (no_names fault)

@@ -1,5 +1,5 @@
--- The conditions on a certificate in the order in which they are checked, each with the fault that is reported if it is
--- not met.
+-- The conditions on a certificate in the order in which they are checked, each with the fault that
+-- is reported if it is not met.
 use Rattle.std.specs.Prelude.{ℕ, Bool, false, not, ◌+◌, ◌-◌, ◌&&◌, ◌||◌, nat_lt, nat_le, if◌then◌else◌, List, [], ◌∷◌, ◌++◌, length, map, flat_map, replicate, Option, encode_utf8}
 use Rattle.std.specs.List.{list_all}
 use Rattle.std.specs.Cmp.Lexicographic.{pointwise}

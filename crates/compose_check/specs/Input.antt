@@ -44,7 +44,8 @@ parts_of input = do
 abbrev pub with_key_names : List (List ℕ) → Input → Input
 with_key_names key_names input = record input { migration = record input.migration { key_names = key_names } }
 
--- the parts of a check whose fresh keysyms have to be among those of the key names, which are read after the names
+-- the parts of a check whose fresh keysyms have to be among those of the key names, which are read
+-- after the names
 abbrev pub allowed_parts : List (List ℕ) → Input → Result Parts NoAnswer
 allowed_parts key_names input = parts_of (with_key_names key_names input)
 

@@ -1,5 +1,5 @@
--- The node or leaf to which a key leads, and the text that it commits, by the key's target. Definitions for the
--- contracts of private functions.
+-- The node or leaf to which a key leads, and the text that it commits, by the key's target.
+-- Definitions for the contracts of private functions.
 use Rattle.std.specs.Prelude.{ℕ, Bool, false, not, ◌==◌, ◌<◌, List, [], length, Option, Some, None, unwrap_or}
 use Rattle.keysym_core.specs.Names.{KeysymNames, text}
 use Rattle.compose_model.specs.Table.{Definition}
@@ -27,12 +27,14 @@ abbrev pub landing_text : KeysymNames → List Definition → ℕ → Option Tar
 landing_text names table k (Some t) = target_text table t
 landing_text names table k None = text names k
 
--- a key that leads nowhere from the node with this number cancels the pending keysyms, unless the node is the root
+-- a key that leads nowhere from the node with this number cancels the pending keysyms, unless the
+-- node is the root
 abbrev pub landing_cancels : ℕ → Option Target → Bool
 landing_cancels n (Some t) = false
 landing_cancels n None = not (n == 0)
 
--- the number of the node that is pending then: the root after a leaf, and after a key that leads nowhere
+-- the number of the node that is pending then: the root after a leaf, and after a key that leads
+-- nowhere
 abbrev pub landing_number : Option Target → ℕ
 landing_number (Some (Node n)) = n.0
 landing_number (Some (Leaf l)) = 0

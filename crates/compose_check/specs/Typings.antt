@@ -1,4 +1,5 @@
--- A typing and the character of the repertoire at its index. Definitions for the contracts of private functions.
+-- A typing and the character of the repertoire at its index. Definitions for the contracts of
+-- private functions.
 use Rattle.std.specs.Prelude.{ℕ, nat_lt, if◌then◌else◌, List, Option, Some, None}
 use Rattle.keysym_core.specs.Names.{KeysymNames}
 use Rattle.compose_model.specs.Table.{Definition}

@@ -26,8 +26,8 @@ IsFaultOf held BadLength = head_fault held ≡ Some bad_length
 IsFaultOf held BadPayload = HasBadPayload held
 IsFaultOf held NoMemory = ⊥
 
--- the result for the held bytes, and what is held after it: if they begin with a reply's frame, the reply is returned;
--- else all is held as before
+-- the result for the held bytes, and what is held after it: if they begin with a reply's frame, the
+-- reply is returned; else all is held as before
 abbrev pub Returns : Result (Option Reply) ReplyFault → List ℕ → List ℕ → Type 0
 Returns (Ok (Some reply)) held held' = GivesOut reply held held'
 Returns (Ok None) held held' = IsReplyBegun held × (length held < max_reply) × (held' ≡ held)
@@ -80,7 +80,8 @@ reply_at held = record {
 abbrev pub HasLength : ℕ → ℕ → Type 0
 HasLength kind n = (kind ≡ 0x82 → 2 ≤ n) × (kind ≡ 0x85 → n ≡ 8) × (kind ≡ 0x86 → (2 ≤ n) × (n ≤ 126)) × (kind ≡ 0xff → n ≡ 2) × (n ≤ 257)
 
--- the answer is that of the kind and the payload, and fits; none if no answer that fits has this kind and this payload
+-- the answer is that of the kind and the payload, and fits; none if no answer that fits has this
+-- kind and this payload
 abbrev pub ReadsAnswer : Option ReplyBody → ℕ → List ℕ → Type 0
 ReadsAnswer (Some answer) kind bytes = HasAnswerValue answer (answer_at kind bytes) × AnswerFits (answer_at kind bytes)
 ReadsAnswer None kind bytes = (v : AnswerValue) → AnswerFits v → answer_kind v ≡ kind → answer_payload v ≡ bytes → ⊥

@@ -12,7 +12,8 @@ use Rattle.compose_wire.specs.Frames.{reply_bytes, Fault, unknown_kind, bad_leng
 abbrev pub AreKeysyms : List ℕ → Type 0
 AreKeysyms ks = AllByRecursion (λ k. k ≤ 0x1fffffff) ks
 
--- a text is UTF-8 of at most 255 bytes, a count fits into eight bytes, and at most 31 keysyms are pending
+-- a text is UTF-8 of at most 255 bytes, a count fits into eight bytes, and at most 31 keysyms are
+-- pending
 abbrev pub AnswerFits : ReplyBody → Type 0
 AnswerFits (fed status accepted text) = IsUtf8 text × (length text ≤ 255)
 AnswerFits (loaded count) = count < 2 ^ 64
@@ -40,8 +41,8 @@ is_reply_length kind n =
     if kind == 0x82 then is_between 2 257 n else if kind == 0x85 then n == 8 else
     if kind == 0x86 then is_between 2 126 n else if kind == 0xff then n == 2 else n == 0
 
--- the fault in the head of the next frame: an unknown kind from the first byte on, a wrong length from the nine bytes
--- of the head on
+-- the fault in the head of the next frame: an unknown kind from the first byte on, a wrong length
+-- from the nine bytes of the head on
 abbrev pub head_fault : List ℕ → Option Fault
 head_fault [] = None
 head_fault (kind ∷ rest) =
@@ -49,7 +50,8 @@ head_fault (kind ∷ rest) =
     if nat_lt (length rest) 8 then None else
     if is_reply_length kind (from_be_bytes w32 (take 4 (drop 4 rest))) then None else Some bad_length
 
--- there are as many bytes as the head requires, and the head has no fault, but no reply has this frame
+-- there are as many bytes as the head requires, and the head has no fault, but no reply has this
+-- frame
 pub record HasBadPayload (bytes : List ℕ) : Type 0 where
   pub head : head_fault bytes ≡ None
   pub whole : 9 ≤ length bytes

@@ -4,7 +4,10 @@ ghost use Rattle.std.specs.Prelude.{None};
 use crate::connection_ends::EndLines;
 use compose_answer::Ended;
 use compose_arguments::ServeArguments;
-use compose_hub::{ConnectionEnd, EndReport, Limits, PolledSockets, Sockets, serve_at_once};
+use compose_hub::{
+    ConnectionEnd, EndReport, Limits, PolledReadiness, PolledSockets, Readiness, Sockets,
+    UnixCalls, poll_listener, serve_at_once,
+};
 use compose_input::Fault;
 use compose_serve::Responder;
 use mio::net::UnixListener as PolledListener;
@@ -39,7 +42,16 @@ pub fn serve_listener<S: Responder>(
 ) -> Result<Ended, Fault> {
     let mut lines = EndLines::new(rt);
     let served = match polled(rt, listener) {
-        Ok(mut sockets) => serve_sockets(rt, &mut sockets, service, arguments, &mut lines),
+        Ok((mut sockets, mut readiness)) => {
+            serve_sockets(
+                rt,
+                &mut sockets,
+                &mut readiness,
+                service,
+                arguments,
+                &mut lines,
+            )
+        }
         Err(error) => Err(error),
     };
     match served {
@@ -48,21 +60,22 @@ pub fn serve_listener<S: Responder>(
     }
 }
 
-/// Returns the sockets of a listener, which becomes nonblocking.
+/// Returns the sockets of a listener, which becomes nonblocking, and what is ready of them.
 /// Errors: an I/O error if it can't be polled, or if memory runs out.
 pub fn polled<'c, C: Clock + Net + AllocGlobal>(
     rt: &'c C,
     listener: UnixListener,
-) -> io::Result<PolledSockets<'c, C>> {
+) -> io::Result<(PolledSockets<UnixCalls>, PolledReadiness<'c, C>)> {
     listener.set_nonblocking(true)?;
-    PolledSockets::new(rt, rt.alloc(), PolledListener::from_std(listener))
+    poll_listener(rt, rt.alloc(), PolledListener::from_std(listener))
 }
 
 /// Serves the connections to these sockets, and reports how each ended.
 /// Errors: an I/O error of waiting, or of memory.
-pub fn serve_sockets<N: Sockets, S: Responder, E: EndReport>(
+pub fn serve_sockets<N: Sockets, W: Readiness, S: Responder, E: EndReport>(
     rt: &impl AllocGlobal,
     sockets: &mut N,
+    readiness: &mut W,
     service: &mut S,
     arguments: &ServeArguments<'_>,
     report: &mut E,
@@ -74,7 +87,7 @@ pub fn serve_sockets<N: Sockets, S: Responder, E: EndReport>(
         idle: arguments.idle,
         own_sessions: arguments.own_sessions,
     };
-    serve_at_once(sockets, rt.alloc(), service, limits, report)
+    serve_at_once(sockets, readiness, rt.alloc(), service, limits, report)
 }
 
 /// Returns why connections can't be served: memory ran out, or a fault of the socket.

@@ -10,8 +10,8 @@ use compose_answer::Ended;
 use compose_arguments::{CommandLine, CommandRequest};
 use compose_folder::{Folder, ReadOnce};
 use compose_input::Fault;
-use compose_program::{FaultForm, run_question};
-use compose_report::Outcome;
+use compose_program::run_question;
+use compose_report::{Form, Outcome};
 use compose_runs::Options;
 use compose_tree::BuildTable;
 use std::fs::File;
@@ -35,7 +35,7 @@ pub fn answer<T: BuildTable, F: Folder>(
     files: &mut ReadOnce<F>,
     process_id: u32,
     is_terminal: bool,
-    form: FaultForm,
+    form: Form,
     asked: &CommandLine<'_>,
 ) -> Result<Answered, Fault> {
     let options = Options {
@@ -48,7 +48,7 @@ pub fn answer<T: BuildTable, F: Folder>(
             run_question::<T, F>(rt.alloc(), files, &environment, options, form, question)?
         }
         CommandRequest::Update { arguments, fresh } => {
-            update_files::<T, F>(rt, files, form, arguments, fresh)?
+            update_files::<T, F>(rt, files, form, options.names, arguments, fresh)?
         }
         CommandRequest::TakeBack(arguments) => take_back::<T>(rt, arguments)?,
         CommandRequest::Status(arguments) => status::<T>(rt, arguments)?,

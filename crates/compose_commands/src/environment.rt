@@ -1,6 +1,6 @@
 //! Reads the environment.
+use compose_given::{Environment, Variable};
 use compose_input::Fault;
-use compose_runs::{Environment, Variable};
 use std::env;
 use std::env::VarError;
 use std::rt::Env;

@@ -5,10 +5,10 @@ use crate::at_once::{polled, serve_sockets, serving_fault};
 use crate::connection_ends::{EndLines, print_text};
 use crate::deadline::{Deadline, pause};
 use crate::journal::Journal;
-use crate::kept_file::KeptFile;
+use crate::kept_file::{KeptFile, KeptSettings};
 use crate::places::state_folder;
 use crate::serving::{listen, refused_socket, unlinked};
-use crate::state_folder::{FolderLock, StateFolder, read_if_there, unwritten};
+use crate::state_folder::{FolderLock, StateFolder, print_unsynced, read_if_there, unwritten};
 use crate::until_next::UntilNext;
 use compose_answer::Ended;
 use compose_arguments::ServeArguments;
@@ -21,9 +21,8 @@ use compose_serving::chosen_text;
 use compose_session::refusal_words;
 use compose_table_file::{StoredFault, StoredTable, read_table};
 use compose_tree::BuildTable;
-use keysym_core::{Keysym, Names};
+use keysym_core::{Keysym, NameFault, Names};
 use std::alloc::Global;
-use std::fs;
 use std::fs::File;
 use std::net::Net;
 use std::os::unix::net::UnixListener;
@@ -32,17 +31,27 @@ use std::rt::{Clock, Env, Files};
 /// For how many seconds the folder's lock is tried, while an update may hold it.
 const SECONDS: u32 = 5;
 
+/// What the command line gives beside the folder.
+#[derive(Clone, Copy)]
+pub struct GivenSettings<'a> {
+    /// The lines of the names, as the file of a table keeps them, if names are given.
+    pub names: Option<&'a [u8]>,
+    /// The key names of the keysyms that a load may list as fresh, if they are given.
+    pub fresh: Option<&'a [&'a str]>,
+}
+
 /// Serves the table that is kept in the folder at this path, without end, and keeps there what is
-/// loaded. If names are allowed, loads may list only their keysyms as fresh. Returns how the run
-/// ends.
-/// Errors: a refusal of `state` if another service has the folder, if nothing is stored there or if
-/// it is no table; a fault of the folder or the socket; `NoMemory` if memory runs out.
+/// loaded. Its names are those that are kept; its loads may list only the keysyms as fresh that are
+/// kept, or that are given, which are kept from then on. Returns how the run ends.
+/// Errors: a refusal of `state` if another service has the folder, if nothing is stored there, if
+/// it is no table or if other names are given than those that are kept; a fault of the folder or the
+/// socket; `NoMemory` if memory runs out.
 pub fn serve_kept<T: BuildTable>(
     rt: &(impl Clock + Env + Files<File = File> + Net + Print + Eprint + AllocGlobal),
     process_id: u32,
     path: &str,
     arguments: &ServeArguments<'_>,
-    allowed: Option<&[&str]>,
+    given: GivenSettings<'_>,
 ) -> Result<Ended, Fault> {
     let folder = state_folder(rt, Some(path).filter(|path| !path.is_empty()))?;
     if !folder.is_there(rt) {
@@ -50,14 +59,14 @@ pub fn serve_kept<T: BuildTable>(
     }
     folder.create(rt)?;
     let _lock = lock_of_service(rt, &folder)?;
-    let mut service = first_service::<T, _>(rt, &folder, allowed)?;
+    let mut service = first_service::<T, _>(rt, &folder, given)?;
     let listener = listen(rt, process_id, arguments)?;
     for _ in 0..u64::MAX {
         service.print_table();
         let one = listener_again(rt.alloc(), &listener, arguments)?;
         match serve_until_next(rt, one, &mut service, &folder, arguments)? {
             Some(ended) => return Ok(unlinked(rt, arguments, ended)),
-            None => service = next_service(rt, service, &folder, allowed)?,
+            None => service = next_service(rt, service, &folder, given.fresh)?,
         }
     }
     Ok(Ended::Yes)
@@ -88,13 +97,21 @@ fn serve_until_next<
     arguments: &ServeArguments<'_>,
 ) -> Result<Option<Ended>, Fault> {
     let mut lines = EndLines::new(rt);
-    let mut sockets = match polled(rt, listener) {
-        Ok(sockets) => UntilNext::new(rt, folder, sockets),
+    let (mut sockets, readiness) = match polled(rt, listener) {
+        Ok(polled) => polled,
         Err(error) => return Err(serving_fault(rt.alloc(), arguments.socket, error.kind())),
     };
-    match serve_sockets(rt, &mut sockets, service, arguments, &mut lines) {
+    let mut until_next = UntilNext::new(rt, folder, readiness);
+    match serve_sockets(
+        rt,
+        &mut sockets,
+        &mut until_next,
+        service,
+        arguments,
+        &mut lines,
+    ) {
         Ok(()) => Ok(Some(lines.finish())),
-        Err(_) if sockets.has_come() => Ok(None),
+        Err(_) if until_next.has_come() => Ok(None),
         Err(error) => Err(serving_fault(rt.alloc(), arguments.socket, error.kind())),
     }
 }
@@ -118,9 +135,36 @@ fn lock_of_service(
     Err(Fault::refused("state", words))
 }
 
-/// Returns the service with which a run begins: over the table that the owner chose, if one waits
-/// and it is a table, and otherwise over the table in use.
+/// Returns the service with which a run begins. Fresh keys that are given are kept from then on.
+/// Errors: a refusal of `state` if other names are given than those that are kept; those of
+/// `chosen_or_stored`.
 fn first_service<'f, T: BuildTable, R: Files<File = File> + Print + Eprint + AllocGlobal>(
+    rt: &'f R,
+    folder: &'f StateFolder,
+    given: GivenSettings<'_>,
+) -> Result<Journal<'f, R, T>, Fault> {
+    let service = chosen_or_stored(rt, folder, given.fresh)?;
+    if !service.has_names(given.names) {
+        return Err(other_names(rt.alloc(), folder));
+    }
+    match service.keep_settings() {
+        Ok(()) => Ok(service),
+        Err(kind) => Err(unwritten(rt.alloc(), &folder.table, kind)),
+    }
+}
+
+/// Returns the fault that other names are given than those that are kept.
+fn other_names(alloc: Global, folder: &StateFolder) -> Fault {
+    let words = format!(in alloc;
+        "{}: the table in use has other names than those of --names: leave the option out, or `composecheck update --names FILE.. TABLE` takes a table with these",
+        folder.path
+    );
+    Fault::refused("state", words)
+}
+
+/// Returns the service over the table that the owner chose, if one waits and it is a table, and
+/// otherwise over the table in use.
+fn chosen_or_stored<'f, T: BuildTable, R: Files<File = File> + Print + Eprint + AllocGlobal>(
     rt: &'f R,
     folder: &'f StateFolder,
     allowed: Option<&[&str]>,
@@ -173,12 +217,15 @@ fn chosen_service<'f, T: BuildTable, R: Files<File = File> + Print + Eprint + Al
     };
     match service_of(rt, folder, &folder.next, &bytes, allowed) {
         Ok(service) => match folder.use_next(rt) {
-            Ok(()) => Ok(Some(service)),
-            Err(error) => Err(unwritten(rt.alloc(), &folder.table, error.kind())),
+            Ok(changed) => {
+                print_unsynced(rt, folder, changed);
+                Ok(Some(service))
+            }
+            Err(kind) => Err(unwritten(rt.alloc(), &folder.table, kind)),
         },
         Err(Fault::Refused { text, .. }) => {
             let _ = eprintln!(rt; "composecheck: next is refused: {text}");
-            let _ = fs::remove_file(rt, folder.next.as_str());
+            let _ = folder.drop_next(rt);
             Ok(None)
         }
         Err(fault) => Err(fault),
@@ -195,29 +242,42 @@ fn service_of<'f, T: BuildTable, R: Files<File = File> + Print + Eprint + AllocG
 ) -> Result<Journal<'f, R, T>, Fault> {
     let alloc = rt.alloc();
     let stored = stored_at(alloc, path, bytes)?;
-    let names = builtin_names(alloc)?;
-    let fresh = allowed_keysyms(alloc, &names, allowed)?;
+    let names = names_at(alloc, path, &stored.names)?;
+    let fresh = allowed_keysyms(alloc, &names, allowed, &stored.fresh)?;
     let repertoire = repertoire_at(alloc, path, &stored.repertoire)?;
-    let Ok(kept) = KeptTable::copied(alloc, stored.rule, stored.payload) else {
-        return Err(Fault::NoMemory);
-    };
-    let file = KeptFile::new(rt, folder, stored.repertoire, kept);
+    let file = kept_file(rt, folder, stored, &fresh)?;
     match Keeper::resume(alloc, names, repertoire, file) {
-        Ok(keeper) => Ok(Journal::new(rt, with_allowed(keeper, fresh))),
+        Ok(keeper) => Ok(Journal::new(rt, keeper.allow_fresh(fresh))),
         Err(ResumeFault::Refused(refusal)) => Err(refused_table(alloc, path, refusal)),
         Err(ResumeFault::Unread) => Err(Fault::NoMemory),
     }
 }
 
-/// Returns the keeper whose loads may list only these keysyms as fresh, if they are given.
-fn with_allowed<'f, T: BuildTable, R: Files<File = File> + AllocGlobal>(
-    keeper: Keeper<T, KeptFile<'f, R>>,
-    fresh: Option<Vec<Keysym>>,
-) -> Keeper<T, KeptFile<'f, R>> {
-    match fresh {
-        Some(keysyms) => keeper.allow_fresh(keysyms),
-        None => keeper,
-    }
+/// Returns the file of the folder that keeps this table, whose loads may list these keysyms as
+/// fresh.
+fn kept_file<'f, R: AllocGlobal>(
+    rt: &'f R,
+    folder: &'f StateFolder,
+    stored: StoredTable<'_>,
+    fresh: &[Keysym],
+) -> Result<KeptFile<'f, R>, Fault> {
+    let alloc = rt.alloc();
+    let Ok(kept) = KeptTable::copied(alloc, stored.rule, stored.payload) else {
+        return Err(Fault::NoMemory);
+    };
+    let has_new_fresh = !are_same_keysyms(fresh, &stored.fresh);
+    let settings = KeptSettings {
+        repertoire: stored.repertoire,
+        names: stored.names,
+        fresh: Vec::from_slice(alloc, fresh)?,
+    };
+    Ok(KeptFile::new(rt, folder, settings, has_new_fresh, kept))
+}
+
+/// Returns whether both have the same keysyms, in any order.
+fn are_same_keysyms(some: &[Keysym], others: &[Keysym]) -> bool {
+    some.iter().all(|keysym| others.contains(keysym))
+        && others.iter().all(|keysym| some.contains(keysym))
 }
 
 /// Reads the bytes of the file at this path, which keeps a table.
@@ -229,25 +289,30 @@ pub fn stored_at<'b>(alloc: Global, path: &str, bytes: &'b [u8]) -> Result<Store
     }
 }
 
-/// Returns the names that are built in.
-pub fn builtin_names(alloc: Global) -> Result<Names, Fault> {
-    match Names::read(alloc, builtin_names::builtin_names().as_bytes()) {
+/// Reads the lines of names that are kept in the file at this path; none are the built-in names.
+pub fn names_at(alloc: Global, path: &str, lines: &[u8]) -> Result<Names, Fault> {
+    if lines.is_empty() {
+        return Ok(Names::built_in());
+    }
+    match Names::read(alloc, lines) {
         Ok(names) => Ok(names),
-        Err(_) => Err(Fault::NoMemory),
+        Err(NameFault::NoMemory) => Err(Fault::NoMemory),
+        Err(fault) => Err(Fault::refused("state", format!(in alloc; "{path}: names: {fault}"))),
     }
 }
 
-/// Returns the keysyms of these names, if names are allowed.
+/// Returns the keysyms of these key names; those that are kept if no key names are given.
 fn allowed_keysyms(
     alloc: Global,
     names: &Names,
     allowed: Option<&[&str]>,
-) -> Result<Option<Vec<Keysym>>, Fault> {
+    kept: &[Keysym],
+) -> Result<Vec<Keysym>, Fault> {
     let Some(key_names) = allowed else {
-        return Ok(None);
+        return Ok(Vec::from_slice(alloc, kept)?);
     };
     match look_up_keys(alloc, names, key_names) {
-        Ok(keysyms) => Ok(Some(keysyms)),
+        Ok(keysyms) => Ok(keysyms),
         Err(refusal) => Err(Fault::refused("key", format!(in alloc; "{refusal}"))),
     }
 }

@@ -16,6 +16,7 @@ mod client;
 mod commands;
 mod connection_ends;
 mod deadline;
+mod disk_files;
 mod environment;
 mod journal;
 mod kept_file;

@@ -8,8 +8,10 @@ use compose_answer::Ended;
 use compose_arguments::{CommandLine, read_command_line};
 use compose_folder::{Disk, ReadOnce};
 use compose_input::Fault;
-use compose_program::{FaultForm, fault_form, fault_in_form};
-use compose_report::{Outcome, arguments_outcome, exit_code, no_memory, print, print_beside_file};
+use compose_program::{fault_form, fault_in_form};
+use compose_report::{
+    Form, Outcome, arguments_outcome, exit_code, no_memory, print, print_beside_file,
+};
 use compose_tree::BuildTable;
 use std::alloc::{AllocError, Global};
 use std::fs::File;
@@ -42,7 +44,7 @@ fn read_arguments(rt: &(impl Env + Print + Eprint + AllocGlobal)) -> Result<Vec<
     match env::args(rt) {
         Ok(arguments) => arguments.collect(rt.alloc()).map_err(|_| no_memory(rt)),
         Err(error) if error.kind() == io::ErrorKind::InvalidData => {
-            Err(put_fault(rt, FaultForm::Line, &Fault::Word))
+            Err(put_fault(rt, Form::Line, &Fault::Word))
         }
         Err(_) => Err(no_memory(rt)),
     }
@@ -81,7 +83,7 @@ fn answer_command<T: BuildTable>(
 /// ends.
 fn put_outcome(
     rt: &(impl Files + Print + Eprint + AllocGlobal),
-    form: FaultForm,
+    form: Form,
     outcome: &Outcome,
 ) -> Ended {
     let Some(path) = &outcome.file else {
@@ -95,7 +97,7 @@ fn put_outcome(
 
 /// Prints, in this form, why the input of a command can't be read or is refused. Returns how the
 /// run ends.
-fn put_fault(rt: &(impl Print + Eprint + AllocGlobal), form: FaultForm, fault: &Fault) -> Ended {
+fn put_fault(rt: &(impl Print + Eprint + AllocGlobal), form: Form, fault: &Fault) -> Ended {
     match fault_in_form(rt.alloc(), form, fault) {
         Ok(outcome) => print(rt, &outcome),
         Err(_) => no_memory(rt),

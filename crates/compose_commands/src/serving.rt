@@ -3,13 +3,14 @@
 use crate::at_once::serve_listener;
 use crate::commands::Answered;
 use crate::connection_ends::print_text;
-use crate::kept_serving::serve_kept;
+use crate::kept_serving::{GivenSettings, serve_kept};
 use compose_answer::Ended;
 use compose_arguments::{ServeArguments, Served, ServedFiles};
 use compose_folder::{Folder, ReadOnce};
-use compose_input::Fault;
-use compose_runs::{Environment, Options};
-use compose_service_runs::start_service;
+use compose_given::Environment;
+use compose_input::{Fault, NameFiles};
+use compose_runs::Options;
+use compose_service_runs::{kept_names, start_service};
 use compose_socket::{SocketFault, SocketFile, listener_of_systemd};
 use compose_tree::BuildTable;
 use std::alloc::Global;
@@ -46,10 +47,29 @@ pub fn serve<T: BuildTable, F: Folder>(
             allowed,
         ),
         Served::State { folder } => {
-            let ended = serve_kept::<T>(rt, process_id, folder, arguments, allowed)?;
+            let names = given_names(rt.alloc(), files, options.names)?;
+            let given = GivenSettings {
+                names: names.as_deref(),
+                fresh: allowed,
+            };
+            let ended = serve_kept::<T>(rt, process_id, folder, arguments, given)?;
             Ok(Answered::Served(ended))
         }
     }
+}
+
+/// Returns the lines of the names that are given, as the file of a table keeps them; `None` if no
+/// names are given.
+fn given_names<F: Folder>(
+    alloc: Global,
+    files: &mut ReadOnce<F>,
+    names: &[&str],
+) -> Result<Option<Vec<u8>>, Fault> {
+    if names.is_empty() {
+        return Ok(None);
+    }
+    let read = NameFiles::read(files, alloc, names)?;
+    Ok(Some(Vec::from_slice(alloc, kept_names(&read.lines))?))
 }
 
 /// Serves the table of these files.

@@ -1,5 +1,6 @@
 //! The folder of the table in use. While a service runs it holds the lock and is the only writer of
-//! the table; otherwise `update` holds it while it writes.
+//! the table; otherwise `update` holds it while it writes. In which order the files of tables change
+//! is under contract (`compose_stored`): a power cut at any moment leaves whole tables.
 //!
 //! | File | What it has |
 //! |---|---|
@@ -8,14 +9,19 @@
 //! | `table` | the table in use |
 //! | `previous` | the table before the last change |
 //! | `next` | a table that the owner chose, until the service takes it |
+use crate::disk_files::DiskFiles;
 use compose_input::{Fault, Unopened};
+use compose_stored::{Name, drop_next, hand_over, rewrite, store, use_next};
 use std::alloc::Global;
 use std::fs::{DirBuilder, File, OpenOptions, Permissions, TryLockError};
-use std::io::{ErrorKind, Write};
+use std::io::ErrorKind;
 use std::os::unix::fs::{DirBuilderExt, OpenOptionsExt, PermissionsExt};
 use std::path::Path;
 use std::rt::Files;
 use std::{fs, io};
+
+/// What is printed behind the reason why it is not known whether a change is on the disk.
+pub const UNSYNCED: &str = ": if the power fails now, the table before may be in use again";
 
 /// The folder of the table in use.
 #[derive(Drop)]
@@ -28,6 +34,18 @@ pub struct StateFolder {
     pub previous: String,
     /// The path of a table that the owner chose, and that the service has not taken yet.
     pub next: String,
+    new_table: String,
+    new_previous: String,
+    new_next: String,
+}
+
+/// A change of the folder that was made.
+#[derive(Clone, Copy, Debug, PartialEq, Eq, Drop)]
+pub enum Changed {
+    /// It is on the disk.
+    Kept,
+    /// Whether it is on the disk is not known, for this reason: a power cut may undo it.
+    Unsynced(ErrorKind),
 }
 
 /// A lock that keeps other writers out of the folder while it exists. It is released when the
@@ -46,7 +64,22 @@ impl StateFolder {
             table: format!(in alloc; "{path}/table")?,
             previous: format!(in alloc; "{path}/previous")?,
             next: format!(in alloc; "{path}/next")?,
+            new_table: format!(in alloc; "{path}/table.new")?,
+            new_previous: format!(in alloc; "{path}/previous.new")?,
+            new_next: format!(in alloc; "{path}/next.new")?,
         })
+    }
+
+    /// Returns the path of this file of the folder.
+    pub fn path_of(&self, name: Name) -> &str {
+        match name {
+            Name::Table => &self.table,
+            Name::NewTable => &self.new_table,
+            Name::Previous => &self.previous,
+            Name::NewPrevious => &self.new_previous,
+            Name::Next => &self.next,
+            Name::NewNext => &self.new_next,
+        }
     }
 
     /// Returns whether the folder exists.
@@ -109,62 +142,60 @@ impl StateFolder {
         }
     }
 
-    /// Stores the table in use, and keeps the one before it. The bytes are on the disk before they
-    /// take the place of the old ones, which happens at once: if this call is interrupted, either
-    /// the old table or the new one is there, whole.
+    /// Stores the table in use, and keeps the one before it.
     /// Errors: the reason if it can't be stored; the table in use is the old one then.
-    pub fn store(
+    pub fn store(&self, rt: &impl Files<File = File>, bytes: &[u8]) -> Result<Changed, ErrorKind> {
+        let mut files = DiskFiles::open(rt, self)?;
+        store(&mut files, bytes)?;
+        Ok(files.changed())
+    }
+
+    /// Stores the table in use once more, with other settings. The table before the last change stays
+    /// as it is.
+    /// Errors: the reason if it can't be stored; the table in use is the old one then.
+    pub fn rewrite(
         &self,
-        rt: &(impl Files<File = File> + AllocGlobal),
+        rt: &impl Files<File = File>,
         bytes: &[u8],
-    ) -> io::Result<()> {
-        let new = format!(in rt.alloc(); "{}.new", self.table)?;
-        write_whole(rt, &new, bytes)?;
-        self.use_file(rt, &new)
+    ) -> Result<Changed, ErrorKind> {
+        let mut files = DiskFiles::open(rt, self)?;
+        rewrite(&mut files, bytes)?;
+        Ok(files.changed())
     }
 
     /// Makes the file `next` the table in use, and keeps the table before it.
-    /// Errors: the reason if it can't be renamed; the table in use is the old one then.
-    pub fn use_next(&self, rt: &(impl Files<File = File> + AllocGlobal)) -> io::Result<()> {
-        self.use_file(rt, &self.next)
+    /// Errors: the reason if that can't be done; the table in use and `next` are the old ones then.
+    pub fn use_next(&self, rt: &impl Files<File = File>) -> Result<Changed, ErrorKind> {
+        let mut files = DiskFiles::open(rt, self)?;
+        use_next(&mut files)?;
+        Ok(files.changed())
     }
 
-    /// Hands a table over to the service, in the file `next`, which is there whole or not at all.
-    /// Errors: the reason if it can't be written.
+    /// Hands a table over to the service, in the file `next`.
+    /// Errors: the reason if it can't be written; `next` is the old one then.
     pub fn hand_over(
         &self,
-        rt: &(impl Files<File = File> + AllocGlobal),
+        rt: &impl Files<File = File>,
         bytes: &[u8],
-    ) -> io::Result<()> {
-        let new = format!(in rt.alloc(); "{}.new", self.next)?;
-        write_whole(rt, &new, bytes)?;
-        fs::rename(rt, &new, self.next.as_str())?;
-        File::open(rt, self.path.as_str())?.sync_all()
+    ) -> Result<Changed, ErrorKind> {
+        let mut files = DiskFiles::open(rt, self)?;
+        hand_over(&mut files, bytes)?;
+        Ok(files.changed())
     }
 
-    /// Renames this file to the table in use. The folder is opened before, so that what may fail
-    /// after the rename is its sync alone: then the new table is in use, and only if the power
-    /// fails may the old one be there again, which the new one follows.
-    fn use_file(&self, rt: &(impl Files<File = File> + AllocGlobal), from: &str) -> io::Result<()> {
-        let folder = File::open(rt, self.path.as_str())?;
-        self.keep_previous(rt)?;
-        fs::rename(rt, from, self.table.as_str())?;
-        let _ = folder.sync_all();
-        Ok(())
+    /// Removes the file `next`.
+    /// Errors: the reason if it can't be removed.
+    pub fn drop_next(&self, rt: &impl Files<File = File>) -> Result<Changed, ErrorKind> {
+        let mut files = DiskFiles::open(rt, self)?;
+        drop_next(&mut files)?;
+        Ok(files.changed())
     }
+}
 
-    /// Keeps the table in use as the one before the next. If it can't be kept, none is kept.
-    fn keep_previous(&self, rt: &(impl Files<File = File> + AllocGlobal)) -> io::Result<()> {
-        let link = format!(in rt.alloc(); "{}.new", self.previous)?;
-        let _ = fs::remove_file(rt, &link);
-        let kept = match fs::hard_link(rt, self.table.as_str(), &link) {
-            Ok(()) => fs::rename(rt, &link, self.previous.as_str()),
-            Err(error) => Err(error),
-        };
-        if kept.is_err() {
-            let _ = fs::remove_file(rt, self.previous.as_str());
-        }
-        Ok(())
+/// Prints that a change of the folder may not be on the disk, if so.
+pub fn print_unsynced(rt: &impl Eprint, folder: &StateFolder, changed: Changed) {
+    if let Changed::Unsynced(kind) = changed {
+        let _ = eprintln!(rt; "composecheck: {}: {kind}{UNSYNCED}", folder.path);
     }
 }
 
@@ -207,24 +238,4 @@ fn locked(rt: &impl Files<File = File>, path: &str) -> io::Result<Option<FolderL
         Err(TryLockError::WouldBlock) => Ok(None),
         Err(TryLockError::Error(error)) => Err(error),
     }
-}
-
-/// Writes the bytes to a new file that its user alone may read, and waits until they are on the
-/// disk. If that fails, no part of the file is left.
-fn write_whole(rt: &impl Files<File = File>, path: &str, bytes: &[u8]) -> io::Result<()> {
-    let _ = fs::remove_file(rt, path);
-    let written = write_synced(rt, path, bytes);
-    if written.is_err() {
-        let _ = fs::remove_file(rt, path);
-    }
-    written
-}
-
-/// Writes the bytes to a new file, and waits until they are on the disk.
-fn write_synced(rt: &impl Files<File = File>, path: &str, bytes: &[u8]) -> io::Result<()> {
-    let mut how = OpenOptions::new();
-    how.write(true).create_new(true).mode(0o600);
-    let mut file = how.open(rt, path)?;
-    file.write_all(bytes)?;
-    file.sync_all()
 }

@@ -1,16 +1,17 @@
 //! `status`: which table is in use, the one before it, and whether a service serves it.
 use crate::client::connect;
 use crate::deadline::Deadline;
-use crate::kept_serving::{builtin_names, stored_at};
+use crate::kept_serving::{names_at, stored_at};
 use crate::places::{socket_path, state_folder};
 use crate::state_folder::{StateFolder, read_if_there};
 use compose_arguments::StatusArguments;
 use compose_bundle::read_bundle;
+use compose_find::beside;
 use compose_input::Fault;
-use compose_model::Rule;
 use compose_read::Sources;
 use compose_report::Outcome;
 use compose_service_runs::{Change, ServiceState, Status, StoredSummary, status_outcome};
+use compose_table_file::{StoredTable, file_path, plain_path};
 use compose_tree::{BuildTable, TableFault, read_first_table};
 use jiff::Timestamp;
 use std::alloc::Global;
@@ -37,7 +38,7 @@ pub fn status<T: BuildTable>(
         in_use,
         changes,
         before: summary_of::<T>(rt, &folder.previous, None)?,
-        is_next_there: matches!(fs::exists(rt, folder.next.as_str()), Ok(true)),
+        is_next_there: is_there(rt, &folder.next),
         service: service_state(rt, &folder, socket)?,
     };
     Ok(status_outcome(alloc, &status)?)
@@ -62,22 +63,35 @@ fn summary_of<T: BuildTable>(
         add_changes(rt, &bundle.sources, changes)?;
     }
     Ok(Some(StoredSummary {
-        origin: String::from_str(alloc, bundle.sources.name(0).unwrap_or(""))?,
+        origin: plain_path(alloc, bundle.sources.name(0).unwrap_or(""))?,
         stored: date_of(rt, path)?,
-        sequences: sequences_of::<T>(alloc, path, &bundle.sources, stored.rule)?,
+        sequences: sequences_of::<T>(alloc, path, &bundle.sources, &stored)?,
         files: bundle.sources.count(),
+        names: name_count(&stored.names),
     }))
 }
 
-/// Returns the number of sequences of the table of these sources.
+/// Returns how many names these lines define; `None` if there are no lines, so that the names are
+/// the built-in ones.
+fn name_count(lines: &[u8]) -> Option<u32> {
+    if lines.is_empty() {
+        return None;
+    }
+    let defined = lines
+        .split(|byte| *byte == b'\n')
+        .filter(|line| line.starts_with(b"#define"));
+    Some(u32::try_from(defined.count()).unwrap_or(u32::MAX))
+}
+
+/// Returns the number of sequences of the table of these sources, which this file keeps.
 fn sequences_of<T: BuildTable>(
     alloc: Global,
     path: &str,
     sources: &Sources,
-    rule: Rule,
+    stored: &StoredTable<'_>,
 ) -> Result<u32, Fault> {
-    let names = builtin_names(alloc)?;
-    let read: Result<T, TableFault> = read_first_table(alloc, &names, sources, rule);
+    let names = names_at(alloc, path, &stored.names)?;
+    let read: Result<T, TableFault> = read_first_table(alloc, &names, sources, stored.rule);
     match read {
         Ok(table) => Ok(table.leaf_count()),
         Err(TableFault::NoMemory) => Err(Fault::NoMemory),
@@ -115,7 +129,8 @@ fn add_changes(
     Ok(())
 }
 
-/// Returns how the file of this source has changed since the table was stored, if it has.
+/// Returns how the file of this source has changed since the table was stored, if it has. Where a
+/// relative path goes from is not known of a table that a client loaded: its file is not looked at.
 fn change_of(
     rt: &(impl Files + AllocGlobal),
     sources: &Sources,
@@ -124,8 +139,10 @@ fn change_of(
     let Some(name) = sources.name(index) else {
         return Ok(None);
     };
-    let path = String::from_str(rt.alloc(), name)?;
-    match fs::read(rt, name) {
+    let Some(path) = path_of(rt, sources, name)? else {
+        return Ok(None);
+    };
+    match fs::read(rt, path.as_str()) {
         Ok(bytes) if index < sources.count() && bytes.as_slice() == sources.bytes(index) => Ok(
             None,
         ),
@@ -139,6 +156,35 @@ fn change_of(
             is_gone: true,
         })),
     }
+}
+
+/// Returns the path of the file of the source with this name, as an include finds it: from the folder
+/// in which the table was taken, or beside another file of the table.
+fn path_of(
+    rt: &(impl Files + AllocGlobal),
+    sources: &Sources,
+    name: &str,
+) -> Result<Option<String>, Fault> {
+    let root = sources.name(0).unwrap_or("");
+    let Some(path) = file_path(rt.alloc(), root, name)? else {
+        return Ok(None);
+    };
+    if is_there(rt, &path) {
+        return Ok(Some(path));
+    }
+    for index in 0..sources.count() {
+        let other = file_path(rt.alloc(), root, sources.name(index).unwrap_or(""))?;
+        let beside = beside(rt.alloc(), other.as_deref().unwrap_or(""), name)?;
+        if is_there(rt, &beside) {
+            return Ok(Some(beside));
+        }
+    }
+    Ok(Some(path))
+}
+
+/// Returns whether a file is at this path.
+fn is_there(rt: &impl Files, path: &str) -> bool {
+    matches!(fs::exists(rt, path), Ok(true))
 }
 
 /// Returns whether a service has the folder, and whether it can be reached.

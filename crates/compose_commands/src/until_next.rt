@@ -1,31 +1,30 @@
-//! The sockets of a service until its owner chooses another table.
-ghost use Rattle.std.specs.Prelude.{◌≡◌};
+//! What is ready of a service's sockets, until its owner chooses another table.
+ghost use Rattle.std.specs.Prelude.{None};
 
 use crate::state_folder::StateFolder;
-use compose_hub::{AcceptedStream, Ready, Sockets};
-use compose_many::{Streams, TryError};
+use compose_hub::{Readiness, Ready};
 use std::io::ErrorKind;
 use std::rt::Files;
 use std::time::Duration;
 use std::{fs, io};
 
-/// Sockets that are served until a connection comes while a table waits in the folder's file `next`.
-/// `update`, which writes that file, connects once to have it seen.
+/// What is ready of the sockets of a service, until a connection comes while a table waits in the
+/// folder's file `next`. `update`, which writes that file, connects once to have it seen.
 #[derive(Drop)]
-pub struct UntilNext<'f, R, S> {
+pub struct UntilNext<'f, R, W> {
     rt: &'f R,
     folder: &'f StateFolder,
-    sockets: S,
+    readiness: W,
     has_come: bool,
 }
 
-impl<'f, R, S> UntilNext<'f, R, S> {
-    /// Returns these sockets, with the folder whose file `next` ends their service.
-    pub fn new(rt: &'f R, folder: &'f StateFolder, sockets: S) -> UntilNext<'f, R, S> {
+impl<'f, R, W> UntilNext<'f, R, W> {
+    /// Returns what is ready, with the folder whose file `next` ends the service.
+    pub fn new(rt: &'f R, folder: &'f StateFolder, readiness: W) -> UntilNext<'f, R, W> {
         UntilNext {
             rt,
             folder,
-            sockets,
+            readiness,
             has_come: false,
         }
     }
@@ -36,41 +35,25 @@ impl<'f, R, S> UntilNext<'f, R, S> {
     }
 }
 
-impl<R, S: Sockets> Streams for UntilNext<'_, R, S> {
-    ghost stream = { λ s c. S.stream s.sockets c };
+impl<R: Files, W: Readiness> Readiness for UntilNext<'_, R, W> {
+    ghost waits = { λ r. None };
 
-    fn try_pull(&mut self, number: u64, piece: &mut [u8]) -> Result<usize, TryError> {
-        self.sockets.try_pull(number, piece)
-    }
-
-    fn try_push(&mut self, number: u64, piece: &[u8]) -> Result<usize, TryError> {
-        self.sockets.try_push(number, piece)
-    }
-}
-
-impl<R: Files, S: Sockets> Sockets for UntilNext<'_, R, S> {
-    ghost attempts = { λ s. S.attempts s.sockets };
-
-    fn accept(&mut self, number: u64, key: usize) -> AcceptedStream {
-        self.sockets.accept(number, key)
-    }
-
-    /// Waits as the sockets do. Errors: also `Interrupted` if a table waits.
-    fn poll(&mut self, longest_wait: Option<Duration>, ready: &mut Vec<Ready>) -> io::Result<()> {
-        self.sockets.poll(longest_wait, ready)?;
+    /// Waits as usual. Errors: also `Interrupted` if a table waits.
+    fn wait(
+        &mut self,
+        longest_wait: Option<Duration>,
+        ready: &mut Vec<Ready>,
+    ) -> io::Result<Duration> {
+        let passed = self.readiness.wait(longest_wait, ready)?;
         if has_listener(ready) && is_there(self.rt, &self.folder.next) {
             self.has_come = true;
             return Err(io::Error::from(ErrorKind::Interrupted));
         }
-        Ok(())
+        Ok(passed)
     }
 
     fn passed(&mut self) -> Duration {
-        self.sockets.passed()
-    }
-
-    fn close(&mut self, number: u64) {
-        self.sockets.close(number)
+        self.readiness.passed()
     }
 }
 

@@ -7,20 +7,22 @@ use crate::client::{Connection, connect};
 use crate::deadline::{Deadline, pause};
 use crate::environment::read_environment;
 use crate::places::{socket_path, state_folder};
-use crate::state_folder::{FolderLock, StateFolder, read_if_there, unwritten};
+use crate::state_folder::{Changed, FolderLock, StateFolder, UNSYNCED, read_if_there, unwritten};
 use compose_answer::Ended;
 use compose_arguments::{TakingArguments, UpdateArguments};
 use compose_folder::{Folder, ReadOnce};
-use compose_input::Fault;
-use compose_program::{FaultForm, fault_in_form};
-use compose_report::Outcome;
+use compose_input::{Fault, TableFiles};
+use compose_program::fault_in_form;
+use compose_read::SourceFault;
+use compose_report::{Form, Outcome};
 use compose_runs::UpdateFiles;
 use compose_service_runs::{
     HandOver, Handed, TableFolder, Taking, Wanted, decide_taking, take_alone, take_running,
 };
-use compose_table_file::read_table;
+use compose_table_file::{named_from, read_table};
 use compose_tree::BuildTable;
 use std::alloc::Global;
+use std::env::current_dir;
 use std::fs::File;
 use std::io::ErrorKind;
 use std::net::Net;
@@ -34,7 +36,7 @@ const TRIES: u32 = 3;
 #[derive(Drop)]
 enum Wish<'a> {
     /// The table of these files.
-    Files(UpdateFiles, Wanted<'a>),
+    Files(UpdateFiles<'a>, Wanted<'a>),
     /// The table before the last change.
     Back,
 }
@@ -57,6 +59,8 @@ struct UsedFolder<'f, R> {
     socket: Option<&'f str>,
     /// For how many seconds a service and other updates are waited for.
     seconds: u32,
+    /// Whether a table that was stored here is on the disk.
+    changed: Changed,
 }
 
 impl<'f, R> UsedFolder<'f, R> {
@@ -67,6 +71,7 @@ impl<'f, R> UsedFolder<'f, R> {
             folder: self.folder,
             socket: self.socket,
             seconds: self.seconds,
+            changed: Changed::Kept,
         }
     }
 }
@@ -75,10 +80,8 @@ impl<R: Files<File = File> + AllocGlobal> TableFolder for UsedFolder<'_, R> {
     ghost stored = { λ folder. None };
 
     fn replace(&mut self, _alloc: Global, file: &[u8]) -> Result<(), ErrorKind> {
-        match self.folder.store(self.rt, file) {
-            Ok(()) => Ok(()),
-            Err(error) => Err(error.kind()),
-        }
+        self.changed = self.folder.store(self.rt, file)?;
+        Ok(())
     }
 }
 
@@ -94,8 +97,8 @@ impl<R: Clock + Files<File = File> + Net + AllocGlobal> HandOver for UsedFolder<
             Ok(None) => return Handed::Waits,
             Err(error) => return Handed::Unwritten(error.kind()),
         };
-        if let Err(error) = self.folder.hand_over(self.rt, file) {
-            return Handed::Unwritten(error.kind());
+        if let Err(kind) = self.folder.hand_over(self.rt, file) {
+            return Handed::Unwritten(kind);
         }
         for _ in 0..u64::MAX {
             self.wake_service(&deadline);
@@ -158,21 +161,22 @@ impl<R: Clock + Files<File = File> + Net + AllocGlobal> UsedFolder<'_, R> {
 /// Errors: the fault of the first file that can't be read or is refused; `Word` if a variable of
 /// the environment that is needed is not UTF-8; `NoMemory` if memory runs out. A fault of the
 /// folder, the socket or the connection is printed in this form, after the notes of the files.
-pub fn update_files<T: BuildTable, F: Folder>(
+pub fn update_files<'a, T: BuildTable, F: Folder>(
     rt: &(impl Clock + Env + Files<File = File> + Net + AllocGlobal),
     files: &mut ReadOnce<F>,
-    form: FaultForm,
+    form: Form,
+    names: &'a [&'a str],
     arguments: &UpdateArguments<'_>,
-    fresh: &[&str],
+    fresh: &'a [&'a str],
 ) -> Result<Outcome, Fault> {
     let folder = state_folder(rt, arguments.taking.state)?;
     let socket = socket_path(rt, arguments.taking.socket)?;
-    let environment = read_environment(rt, false)?;
-    let read = UpdateFiles::read(rt.alloc(), files, &environment, arguments)?;
+    let read = read_files(rt, files, names, arguments)?;
     let note = String::from_str(rt.alloc(), &read.new.note)?;
     let used = used_folder(rt, &folder, socket.as_deref(), &arguments.taking);
     let wanted = Wanted {
         fresh,
+        has_names: !names.is_empty(),
         has_repertoire: arguments.repertoire.is_some(),
     };
     let updated = take::<T, _>(&used, &arguments.taking, Wish::Files(read, wanted));
@@ -182,6 +186,38 @@ pub fn update_files<T: BuildTable, F: Folder>(
     };
     let notes = format!(in rt.alloc(); "{note}{}", outcome.notes)?;
     Ok(outcome.with_notes(notes))
+}
+
+/// Reads the files of an update. Messages have their paths as they were given.
+fn read_files<'a, F: Folder>(
+    rt: &(impl Env + AllocGlobal),
+    files: &mut ReadOnce<F>,
+    names: &'a [&'a str],
+    arguments: &UpdateArguments<'_>,
+) -> Result<UpdateFiles<'a>, Fault> {
+    let environment = read_environment(rt, false)?;
+    let mut read = UpdateFiles::read(rt.alloc(), files, &environment, names, arguments)?;
+    name_from_here(rt, &mut read.new)?;
+    Ok(read)
+}
+
+/// Names the sources of a table so that they are found from other folders too. They stay as they are
+/// if that can't be done.
+fn name_from_here(rt: &(impl Env + AllocGlobal), table: &mut TableFiles) -> Result<(), Fault> {
+    let Ok(folder) = current_dir(rt) else {
+        return Ok(());
+    };
+    let Some(folder) = folder.to_str() else {
+        return Ok(());
+    };
+    match named_from(rt.alloc(), folder, &table.sources) {
+        Ok(named) => {
+            table.sources = named;
+            Ok(())
+        }
+        Err(SourceFault::NoMemory) => Err(Fault::NoMemory),
+        Err(_) => Ok(()),
+    }
 }
 
 /// Takes the table before the last change into use again. Returns what is printed.
@@ -209,6 +245,7 @@ fn used_folder<'f, R>(
         folder,
         socket,
         seconds: arguments.timeout,
+        changed: Changed::Kept,
     }
 }
 
@@ -304,11 +341,11 @@ fn settle_next(
     };
     let settled = match read_table(rt.alloc(), &next) {
         Ok(_) => folder.use_next(rt),
-        Err(_) => fs::remove_file(rt, folder.next.as_str()),
+        Err(_) => folder.drop_next(rt),
     };
     match settled {
-        Ok(()) => Ok(()),
-        Err(error) => Err(unwritten(rt.alloc(), &folder.table, error.kind())),
+        Ok(_) => Ok(()),
+        Err(kind) => Err(unwritten(rt.alloc(), &folder.table, kind)),
     }
 }
 
@@ -320,8 +357,24 @@ fn taken_here<R: Files<File = File> + AllocGlobal>(
     let mut used = used.again();
     let alloc = used.rt.alloc();
     match take_alone(alloc, &mut used, taking)? {
-        Ok(outcome) => Ok(outcome),
+        Ok(outcome) => with_unsynced(alloc, &used.folder.path, outcome, used.changed),
         Err(kind) => Err(unwritten(alloc, &used.folder.table, kind)),
+    }
+}
+
+/// Adds a note to the outcome if it is not known whether the change is on the disk.
+fn with_unsynced(
+    alloc: Global,
+    path: &str,
+    outcome: Outcome,
+    changed: Changed,
+) -> Result<Outcome, Fault> {
+    match changed {
+        Changed::Kept => Ok(outcome),
+        Changed::Unsynced(kind) => {
+            let notes = format!(in alloc; "{}note: {path}: {kind}{UNSYNCED}\n", outcome.notes)?;
+            Ok(outcome.with_notes(notes))
+        }
     }
 }
 

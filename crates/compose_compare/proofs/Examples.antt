@@ -118,7 +118,8 @@ by_table = refl
 
 -- ---- why the premises are there
 
--- a sequence with an ignored keysym is never typed to its end, so it is not kept although nothing changed
+-- a sequence with an ignored keysym is never typed to its end, so it is not kept although nothing
+-- changed
 abbrev with_shift_inside : List Definition
 with_shift_inside = line (0xfe50 ∷ 0xffe1 ∷ 0x65 ∷ []) (codes "x")
 

@@ -1,4 +1,5 @@
--- One pass over the nodes of the old table: the new table's position follows from its position one key earlier.
+-- One pass over the nodes of the old table: the new table's position follows from its position one
+-- key earlier.
 use Rattle.std.proofs.Common.{◌≡◌, ℕ, List, [], ◌∷◌, ◌++◌, Bool, true, false, cond, ◌&&◌, refl, sym, ◌∙◌, ap, eq-eqb}
 use Rattle.std.specs.Prelude.{◌==◌, Option, Some, None, is_some}
 use Rattle.std.proofs.Math.Bool.{and_assoc}

@@ -1,4 +1,5 @@
--- Every sequence of both tables is compared once, and the result decides whether the new table follows.
+-- Every sequence of both tables is compared once, and the result decides whether the new table
+-- follows.
 use Rattle.std.proofs.Common.{◌≡◌, ℕ, List, [], ◌∷◌, ◌++◌, Bool, true, false, cond, not, ◌&&◌, ◌||◌, map, refl, sym, ◌∙◌, ap, inl, inr, nat_cmp}
 use Rattle.std.specs.Prelude.{◌↔◌, Some, None}
 use Rattle.std.specs.Option.{option_map_or}
@@ -40,7 +41,8 @@ all_lists P (x ∷ xs) f =
     and_from (P x) (list_all P xs) (f x (or_left (same x x) (list_any (same x) xs) (same_from x x refl))) (all_lists P xs (λ y h. f y (or_right (same y x) (list_any (same y) xs) h)))
 
 module _ (names : KeysymNames) (fresh : List ℕ) (old new : List Definition) where
-  -- a sequence of the old table is harmless if it is kept, one of the new table if it is not a new start
+  -- a sequence of the old table is harmless if it is kept, one of the new table if it is not a new
+  -- start
   harmless_old : (s : List ℕ) → is_sequence old s ≡ true → is_harmless (change names fresh old new s) ≡ agree_along names old new [] [] s
   harmless_old s o =
       ap

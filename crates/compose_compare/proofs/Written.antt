@@ -109,7 +109,8 @@ module _ {X : Type 0} (d : X) (value : List ℕ → X) (table : List Definition)
             (λ x f. ap (is_proper_prefix (p ++ k ∷ [])) (sym (same_is s x.sequence f)) ∙ e) table q)
       ]
 
-  -- once each edge of a node was followed, every leaf whose sequence goes on from the node is written
+  -- once each edge of a node was followed, every leaf whose sequence goes on from the node is
+  -- written
   pub all_written : (p : List ℕ) (i : ℕ) (before after : List X) → length (edges table p) ≤ i → IsWritten d value table (is_through p (take i (edges table p))) before after
       → IsWritten d value table (is_proper_prefix p) before after
   all_written p i before after n w s h =

@@ -1,5 +1,5 @@
--- What the passes through two tables know at a node, and what they write at the leaves. Definitions for private
--- functions.
+-- What the passes through two tables know at a node, and what they write at the leaves. Definitions
+-- for private functions.
 use Rattle.std.specs.Prelude.{◌≡◌, ℕ, Bool, true, false, not, ◌&&◌, if◌then◌else◌, List, [], ◌∷◌, get_or, Option, Some, None}
 use Rattle.std.specs.Option.{option_map}
 use Rattle.keysym_core.specs.Names.{KeysymNames}
@@ -29,7 +29,8 @@ node_in (Some (Node node)) = Some node
 node_in (Some (Leaf leaf)) = None
 node_in None = None
 
--- the node that is the new table's position after the keys p, if it agreed with the old one along them
+-- the node that is the new table's position after the keys p, if it agreed with the old one along
+-- them
 abbrev pub position_node : KeysymNames → List Definition → List Definition → List ℕ → Option NodeId
 position_node names old new p = option_map (λ v. node_id (number_of new v)) (stands names old new p)
 
@@ -40,15 +41,16 @@ begins_anew fresh old (k ∷ p) = not (has_edge old [] k) && not (has_key fresh 
 
 -- ---- at a leaf
 
--- the change of a sequence of the old table: by whether it is kept, and by where its keys lead in the new one
+-- the change of a sequence of the old table: by whether it is kept, and by where its keys lead in
+-- the new one
 abbrev pub old_change : Bool → Option Target → Change
 old_change true target = Kept
 old_change false (Some (Leaf leaf)) = Changed
 old_change false (Some (Node node)) = Waiting
 old_change false None = Removed
 
--- the change of a sequence of the new table: by where its keys lead in the old one, and by whether it is a new start if
--- it is added
+-- the change of a sequence of the new table: by where its keys lead in the old one, and by whether
+-- it is a new start if it is added
 abbrev pub new_change : Option Target → Bool → Option Change
 new_change (Some (Leaf leaf)) starts = None
 new_change (Some (Node node)) starts = Some (if starts then NewStart else Added)

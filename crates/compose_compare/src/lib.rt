@@ -28,6 +28,7 @@ mod comparison;
 mod passes;
 
 pub use comparison::{Comparison, compare};
+pub use passes::is_own_text;
 
 /// What happens to a sequence of an old table or a new one.
 #[derive(Clone, Copy, Debug, PartialEq, Eq, Drop)]

@@ -242,8 +242,9 @@ fn is_start(names: &Names, node: NodeId, keysym: Keysym, text: &str, begins: boo
     begins
 }
 
-/// Whether the text is that of the keysym itself.
-fn is_own_text(names: &Names, keysym: Keysym, text: &str) -> bool
+/// Whether the text is that of the keysym itself: its character, or empty if it has none.
+/// O(log n) in the keysyms with characters.
+pub fn is_own_text(names: &Names, keysym: Keysym, text: &str) -> bool
     ensures { result ≡ same (model.text names.now keysym) text.now }
 {
     match names.text_of(keysym) {

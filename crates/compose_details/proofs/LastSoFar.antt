@@ -7,8 +7,8 @@ use Rattle.compose_model.specs.Table.{Definition, same}
 use Rattle.compose_fresh.proofs.Unmet.{drop_at}
 use Rattle.compose_places.specs.Last.{last_from}
 
--- the last of those from index i on, or else an earlier one, is the last of those after i, with the one at i among the
--- earlier ones
+-- the last of those from index i on, or else an earlier one, is the last of those after i, with the
+-- one at i among the earlier ones
 pub one_back : (table : List Definition) (v : List ℕ) (i : ℕ) (s : List ℕ) (last : Option ℕ) → option_map (λ (d : Definition). d.sequence) (slice_get table i) ≡ Some s
     → option_or (last_from i (drop i table) v) last ≡ option_or (last_from (i + 1) (drop (i + 1) table) v) (cond (same v s) (Some i) last)
 one_back table v i s last h = go (slice_get table i) refl h

@@ -1,5 +1,5 @@
--- What `-v` adds to an answer (this project's profile). Of the lines below `no` only the parts are pinned: see `Sides`
--- and `Pairs`.
+-- What `-v` adds to an answer (this project's profile). Of the lines below `no` only the parts are
+-- pinned: see `Sides` and `Pairs`.
 use Rattle.std.specs.Prelude.{◌≡◌, ℕ, not, ◌||◌, if◌then◌else◌, List, [], ◌∷◌, Result, Ok, Err, codes}
 use Rattle.keysym_core.specs.Header.{names_of}
 use Rattle.compose_model.specs.Certificate.{Certificate}

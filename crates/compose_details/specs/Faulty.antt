@@ -1,4 +1,5 @@
--- What is printed of the faulty lines of a table (this project's profile): each once, at most twenty.
+-- What is printed of the faulty lines of a table (this project's profile): each once, at most
+-- twenty.
 use Rattle.std.specs.Prelude.{ℕ, Bool, ◌&&◌, ◌==◌, if◌then◌else◌, List, [], ◌∷◌, ◌++◌, take, map, flat_map, slice_get, string_bytes, Some, None}
 use Rattle.std.specs.List.{list_any}
 use Rattle.std.specs.Option.{unwrap_or, option_map_or}

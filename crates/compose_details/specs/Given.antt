@@ -1,12 +1,12 @@
 -- The input of a command, as values.
-use Rattle.std.specs.Prelude.{◌≡◌, ℕ, Bool, false, List, [], ◌∷◌, map, option_copied, string_bytes}
+use Rattle.std.specs.Prelude.{◌≡◌, ℕ, List, [], ◌∷◌, map, option_copied, string_bytes}
 use Rattle.compose_input.specs.declared.names.NameFiles.{NameFiles}
 use Rattle.compose_input.specs.declared.tables.TableFiles.{TableFiles}
 use Rattle.compose_details.specs.declared.given.GivenTable.{GivenTable}
 use Rattle.compose_details.specs.declared.given.Given.{Given}
 
--- the names, the arguments that have to name keysyms, and the tables; the paths and the texts of the repertoire and the
--- certificate; and whether all differences are asked for
+-- the names, the arguments that have to name keysyms, and the tables; and the paths and the texts
+-- of the repertoire and the certificate
 pub record GivenParts : Type 0 where
   pub names : NameFiles
   pub arguments : List (List ℕ)
@@ -15,11 +15,10 @@ pub record GivenParts : Type 0 where
   pub repertoire_text : List ℕ
   pub certificate : List ℕ
   pub certificate_text : List ℕ
-  pub all : Bool
 
 -- names, arguments and tables, and no other files
 abbrev pub parts_of : NameFiles → List (List ℕ) → List TableFiles → GivenParts
-parts_of names arguments tables = record { names = names; arguments = arguments; tables = tables; repertoire = []; repertoire_text = []; certificate = []; certificate_text = []; all = false }
+parts_of names arguments tables = record { names = names; arguments = arguments; tables = tables; repertoire = []; repertoire_text = []; certificate = []; certificate_text = [] }
 
 pub record IsGivenTable (files : TableFiles) (table : GivenTable) : Type 0 where
   pub path : table.manifest.now ≡ string_bytes files.path
@@ -43,4 +42,3 @@ pub record IsGiven (parts : GivenParts) (given : Given) : Type 0 where
   pub repertoire_text : given.repertoire_text.now ≡ parts.repertoire_text
   pub certificate : given.certificate.now ≡ parts.certificate
   pub certificate_text : given.certificate_text.now ≡ parts.certificate_text
-  pub all : given.all ≡ parts.all

@@ -1,6 +1,7 @@
--- Why an input of a command can't be read (this project's profile): a line that refuses it, and with `-v` below it the
--- place of the fault and the reason. `own` is the text that the fault of a manifest, of a source or of a search is
--- printed as. These texts are derived, and no contract speaks of them.
+-- Why an input of a command can't be read (this project's profile): a line that refuses it, and
+-- with `-v` below it the place of the fault and the reason. `own` is the text that the fault of a
+-- manifest, of a source or of a search is printed as. These texts are derived, and no contract
+-- speaks of them.
 use Rattle.std.specs.Prelude.{ℕ, Bool, if◌then◌else◌, List, [], ◌∷◌, ◌++◌, flat_map, Option, None, string_bytes, codes}
 use Rattle.std.specs.Option.{option_map_or}
 use Rattle.std.specs.declared.io.ErrorKind.{ErrorKind}
@@ -58,7 +59,8 @@ abbrev pub find_hint : FindFault → Option Hint
 find_hint (MissingFile from n path) = include_hint (string_bytes path)
 find_hint fault = None
 
--- which include leads to no file, why nothing is read at each place where its file was searched for, and the hint
+-- which include leads to no file, why nothing is read at each place where its file was searched
+-- for, and the hint
 abbrev pub search_lines : FindFault → List Unopened → List ℕ
 search_lines fault tried = include_line fault ++ flat_map unopened_line tried ++ hint_line (find_hint fault)
 

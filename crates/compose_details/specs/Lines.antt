@@ -1,4 +1,5 @@
--- The lines that `-v` adds (this project's profile): the path of a file, a position in it, and a message.
+-- The lines that `-v` adds (this project's profile): the path of a file, a position in it, and a
+-- message.
 use Rattle.std.specs.Prelude.{ℕ, Bool, true, false, ◌-◌, nat_le, if◌then◌else◌, List, [], ◌∷◌, ◌++◌, get_or, Option, Some, None, codes}
 use Rattle.compose_shown.specs.Shown.{shown_text}
 use Rattle.compose_messages.specs.Messages.{position_text}
@@ -25,8 +26,8 @@ is_empty (x ∷ xs) = false
 abbrev pub path_of : List (List ℕ) → ℕ → List ℕ
 path_of paths source = get_or paths source []
 
--- the file that has this line of all files, whose lines are numbered from 1 through all of them, and its number in that
--- file
+-- the file that has this line of all files, whose lines are numbered from 1 through all of them,
+-- and its number in that file
 abbrev pub header_line : List Header → ℕ → Option (Header × ℕ)
 header_line [] n = None
 header_line (h ∷ hs) n = if nat_le n h.lines then Some (h, n) else header_line hs (n - h.lines)

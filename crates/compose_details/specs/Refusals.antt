@@ -75,7 +75,8 @@ lines_by table fault (Err why) = []
 abbrev pub numbered_lines : Given → ℕ → TableFault → List ℕ
 numbered_lines given index fault = option_map_or (λ table. lines_by table fault (names_of given.header.now)) (slice_get given.tables.now index) []
 
--- the hint for the fault of the table with this index; `are_given` is whether files of names are given
+-- the hint for the fault of the table with this index; `are_given` is whether files of names are
+-- given
 abbrev pub numbered_hint : Bool → List GivenTable → ℕ → TableFault → Option Hint
 numbered_hint are_given tables index fault = option_and_then (λ (table : GivenTable). table_hint table.input.sources.now are_given fault) (slice_get tables index)
 
@@ -157,8 +158,8 @@ refused_locale given (Side Old fault) = numbered_locale given.tables.now 0 fault
 refused_locale given (Side New fault) = numbered_locale given.tables.now 1 fault
 refused_locale given refusal = None
 
--- the name of the key of a character, if the text is one, by these names; none if it is no character, or if no key has
--- it
+-- the name of the key of a character, if the text is one, by these names; none if it is no
+-- character, or if no key has it
 pub record IsCalled (names : KeysymNames) (text : List ℕ) (called : Option (List ℕ)) : Type 0 where
   pub key : Option ℕ
   pub is_key : IsKeyOfText names text key
@@ -177,7 +178,8 @@ character_line name = character_hint name ++ 10 ∷ []
 abbrev pub locale_line : List ℕ → List ℕ
 locale_line name = locale_hint name ++ 10 ∷ []
 
--- the hint with the locale whose table is not in UTF-8 if that is the fault, and otherwise the other hint
+-- the hint with the locale whose table is not in UTF-8 if that is the fault, and otherwise the
+-- other hint
 abbrev pub other_hint : Option (List ℕ) → Option Hint → List ℕ
 other_hint (Some name) hint = locale_line name
 other_hint None hint = hint_line hint

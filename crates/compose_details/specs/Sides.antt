@@ -1,4 +1,5 @@
--- What is printed of keys in a table, and of the keys on which two tables differ (this project's profile).
+-- What is printed of keys in a table, and of the keys on which two tables differ (this project's
+-- profile).
 use Rattle.std.specs.Prelude.{ℕ, Bool, false, not, ◌&&◌, ◌==◌, nat_eq, if◌then◌else◌, List, [], ◌∷◌, ◌++◌, length, flat_map, slice_get, Option, Some, None, is_some, codes}
 use Rattle.std.specs.Option.{option_map_or}
 use Rattle.std.specs.List.{starts_with, list_any}
@@ -18,7 +19,8 @@ use Rattle.compose_details.specs.declared.sides.SideTable.{SideTable}
 abbrev pub begins : List Definition → List ℕ → ℕ → Bool
 begins table keys index = option_map_or (λ (d : Definition). starts_with nat_eq d.sequence keys) (slice_get table index) false
 
--- the first of the definitions that count, in the order of their sequences, whose sequence begins with the keys
+-- the first of the definitions that count, in the order of their sequences, whose sequence begins
+-- with the keys
 abbrev pub first_beginning : List Definition → List ℕ → List (Option ℕ) → Option ℕ
 first_beginning table keys [] = None
 first_beginning table keys (None ∷ counting) = first_beginning table keys counting
@@ -28,7 +30,8 @@ first_beginning table keys (Some index ∷ counting) = if begins table keys inde
 abbrev pub missing_line : KeysymNames → List ℕ → List ℕ → List ℕ
 missing_line names manifest keys = line manifest None (codes "no sequence begins with" ++ events names keys)
 
--- the line of the first sequence that begins with the keys, at the definition that counts; or that there is none
+-- the line of the first sequence that begins with the keys, at the definition that counts; or that
+-- there is none
 abbrev pub keys_line : KeysymNames → List ℕ → List (List ℕ) → List Definition → List DefinitionPlace → List (Option ℕ) → List ℕ → List ℕ
 keys_line names manifest paths table places counting keys =
     option_map_or (definition_line names paths table places) (first_beginning table keys counting) (missing_line names manifest keys)

@@ -18,9 +18,9 @@ use compose_walk::{MakeFault, differences};
 use keysym_core::{Keysym, Names};
 use std::alloc::{AllocError, Global};
 
-/// Returns what `-v` adds to an answer, as lines. If the tables differ: where they do, the
-/// definitions that count in both, and a hint if a difference is a key that starts a sequence in
-/// the new table but none in the old one. If a fresh keysym is not allowed: its name. If the answer
+/// Returns what `-v` adds to an answer, as lines. If the tables differ: where they first do, the
+/// definitions that count in both, and a hint if this is a key that starts a sequence in the new
+/// table but none in the old one. If a fresh keysym is not allowed: its name. If the answer
 /// is yes: the fresh keysyms of the certificate, unless arguments allow some.
 ///
 /// Costs reading the tables once more, and computing their `differences`.
@@ -128,18 +128,17 @@ fn push_migration<'a, T: ComposeTable>(
     let new = new_read.side(names, new.manifest, new.paths);
     match pair {
         Some(pair) => push_faulty_pair(alloc, text, migration, &old, &new, pair),
-        None => push_found(alloc, text, migration, &old, &new, given.all),
+        None => push_found(alloc, text, migration, &old, &new),
     }
 }
 
-/// Adds the lines of all differences or of the first alone, and a hint if one helps.
+/// Adds the lines of the first difference, and a hint if one helps.
 fn push_found<T: ComposeTable>(
     alloc: Global,
     text: &mut String,
     migration: &Migration<T>,
     old: &SideTable<'_>,
     new: &SideTable<'_>,
-    all: bool,
 ) -> Result<(), AllocError> {
     let mut fresh = Vec::from_slice(alloc, &migration.keys)?;
     fresh.sort()?;
@@ -150,9 +149,8 @@ fn push_found<T: ComposeTable>(
         Err(MakeFault::NoMemory) => return Err(AllocError),
         Err(_) => return Ok(()),
     };
-    let reported = found.as_slice();
-    let most = if all { reported.len() } else { 1 };
-    push_hinted_differences(alloc, text, old, new, &reported[..most.min(reported.len())])
+    let all = found.as_slice();
+    push_hinted_differences(alloc, text, old, new, &all[..all.len().min(1)])
 }
 
 /// Adds the lines of a pair of a certificate: the keys that lead to it, and the places of the

@@ -38,8 +38,6 @@ pub struct Given<'a> {
     pub certificate: &'a str,
     /// The text of the certificate; empty if the command has none.
     pub certificate_text: &'a [u8],
-    /// Whether all differences are printed, and not the first alone.
-    pub all: bool,
 }
 
 impl<'a> GivenTable<'a> {
@@ -80,7 +78,6 @@ impl<'a> Given<'a> {
             repertoire_text: &[],
             certificate: "",
             certificate_text: &[],
-            all: false,
         }
     }
 }

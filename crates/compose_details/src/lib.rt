@@ -28,4 +28,5 @@ pub use answer::answer_details;
 pub use files::{find_message, manifest_details};
 pub use given::{Given, GivenTable};
 pub use input::{fault_text, fault_words};
-pub use refusal::refusal_details;
+pub use lines::{path_of, push_line, whole_line};
+pub use refusal::{push_hint, refusal_details};

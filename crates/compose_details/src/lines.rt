@@ -8,8 +8,10 @@ use compose_messages::{FileMessage, Message, Position};
 use std::alloc::AllocError;
 use std::fmt::Write;
 
-/// Adds a line about a file and a position in it.
-pub(crate) fn push_line(
+/// Adds a line about a file and a position in it, as compilers print one. O(bytes of the message).
+///
+/// Errors: `AllocError` if memory runs out.
+pub fn push_line(
     text: &mut String,
     path: &str,
     position: Option<Position>,
@@ -38,15 +40,16 @@ pub(crate) fn push_remark(text: &mut String, message: &Message) -> Result<(), Al
     Ok(())
 }
 
-/// Returns the beginning of the line with this number.
-pub(crate) fn whole_line(line: usize) -> Option<Position>
+/// Returns the beginning of the line with this number, which counts from 1. O(1).
+pub fn whole_line(line: usize) -> Option<Position>
     ensures { result ≡ lines.whole_line line }
 {
     Some(Position { line, column: 1 })
 }
 
 /// Returns the path of the file of the source with this index, or an empty text if there is none.
-pub(crate) fn path_of(paths: &[String], source: usize) -> &str
+/// O(1).
+pub fn path_of(paths: &[String], source: usize) -> &str
     ensures { result.now ≡ lines.path_of (map (λ path. string_bytes path) paths.now) source }
 {
     match paths.get(source) {

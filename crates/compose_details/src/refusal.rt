@@ -340,8 +340,10 @@ pub(crate) fn push_words(
     push_line(text, path, position, &Message::Plain(sentence.words))
 }
 
-/// Adds a hint, if there is one.
-pub(crate) fn push_hint(text: &mut String, hint: Option<Hint>) -> Result<(), AllocError>
+/// Adds the line of a hint, if there is one. O(1).
+///
+/// Errors: `AllocError` if memory runs out.
+pub fn push_hint(text: &mut String, hint: Option<Hint>) -> Result<(), AllocError>
     ensures { OnOk result
         (string_bytes text.new ≡ string_bytes text.old ++ words.hint_line hint) }
 {

@@ -61,7 +61,8 @@ module _ (gone : ℕ → Bool) where
   behind : (row : DiffRow) (earlier rows : List DiffRow) → map (group_of gone (row ∷ rows)) (firsts gone (earlier ++ row ∷ []) rows) ≡ map (group_of gone rows) (firsts gone (earlier ++ row ∷ []) rows)
   behind row earlier rows = all_skipped row rows (earlier ++ row ∷ []) rows (λ other f. one_more earlier row other ∙ or_right (list_any (folds_with gone other) earlier) _ (or_left _ _ f))
 
-  -- a row that folds with no row doesn't change which later rows are first, nor does one that folds with an earlier row
+  -- a row that folds with no row doesn't change which later rows are first, nor does one that folds
+  -- with an earlier row
   as_before : (row : DiffRow) (earlier rows : List DiffRow) → ((other : DiffRow) → folds_with gone other row ≡ true → list_any (folds_with gone other) earlier ≡ true)
       → filter (is_first (earlier ++ row ∷ [])) rows ≡ filter (is_first earlier) rows
   as_before row earlier rows known = filter_agree (is_first (earlier ++ row ∷ [])) (is_first earlier) (λ other. ap not (one_more earlier row other ∙ by other (folds_with gone other row) refl)) rows
@@ -74,7 +75,8 @@ module _ (gone : ℕ → Bool) where
           or_false true = refl
           or_false false = refl
 
-  -- after a row that is first, the rows that are still first: those that were first before and don't fold with it
+  -- after a row that is first, the rows that are still first: those that were first before and
+  -- don't fold with it
   parted : (row : DiffRow) (what : Common) (earlier rows : List DiffRow) → common gone row ≡ Some what → list_any (folds_with gone row) earlier ≡ false
       → IsPermutation (filter (is_first earlier) rows) (filter (has gone what) rows ++ filter (is_first (earlier ++ row ∷ [])) rows)
   parted row what earlier rows e new =

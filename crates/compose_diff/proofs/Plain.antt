@@ -1,4 +1,5 @@
--- What is printed has no control characters: no escape, and no newline but the one that ends a line.
+-- What is printed has no control characters: no escape, and no newline but the one that ends a
+-- line.
 use Rattle.std.proofs.Common.{◌≡◌, ℕ, zero, suc, ◌+◌, ◌/◌, ◌%◌, ◌≤◌, Bool, true, false, List, [], ◌∷◌, ◌++◌, flat_map, refl, ◌∙◌, arith, inl, inr, ◌⊎◌, le-leb, leb-false}
 use Rattle.std.specs.Prelude.{◌==◌, ◌||◌, nat_lt, nat_le, codes, Option, Some, None}
 use Rattle.std.specs.List.{list_all}
@@ -10,7 +11,7 @@ use Rattle.std.proofs.lemmas.Bool.{and_from, or_parts, and_cases}
 use Rattle.std.proofs.lemmas.List.Folds.{list_all-append}
 use Rattle.compose_text.specs.Numbers.{is_between}
 use Rattle.compose_lex.specs.Escape.{quote}
-use Rattle.compose_shown.specs.Shown.{is_unsafe, shown_character, shown_text}
+use Rattle.compose_shown.specs.Shown.{is_control, is_invisible, is_unsafe, shown_character, shown_text, turns_direction}
 use Rattle.compose_compare.specs.declared.Change.{Change}
 use Rattle.compose_compare.specs.declared.Change.TheVariants.{Kept, Changed, Waiting, Removed, Added, NewStart}
 use Rattle.compose_diff.specs.declared.row.TextPlace.{TextPlace}
@@ -84,7 +85,7 @@ encoded c h = by (nat_lt c 128) (nat_lt c 2048) (nat_lt c 65536) refl refl refl
 
 no_control : (c : ℕ) → is_unsafe c ≡ false → 32 ≤ c
 no_control c safe =
-    let first = or_parts (is_between 0 31 c || is_between 0x7f 0x9f c) (is_between 0x202a 0x202e c) (or_parts (is_between 0 31 c || is_between 0x7f 0x9f c || is_between 0x202a 0x202e c) _ safe).0 in
+    let first = or_parts (is_control c) (turns_direction c) (or_parts (is_control c || turns_direction c) (is_invisible c) safe).0 in
     above (and_cases (nat_le 0 c) (nat_le c 31) (or_parts (is_between 0 31 c) (is_between 0x7f 0x9f c) first.0).0)
   where
     above : (nat_le 0 c ≡ false) ⊎ (nat_le c 31 ≡ false) → 32 ≤ c

@@ -1,4 +1,5 @@
--- The intended changes: lines in the form in which rows are printed, with or without places (this project's profile).
+-- The intended changes: lines in the form in which rows are printed, with or without places (this
+-- project's profile).
 use Rattle.std.specs.Prelude.{◌≡◌, ℕ, Bool, true, not, ◌+◌, ◌&&◌, ◌==◌, nat_lt, if◌then◌else◌, List, [], ◌∷◌, ◌++◌, length, take, drop, map, filter, flat_map, Result, Ok, Err, bytes_eq, codes}
 use Rattle.std.specs.List.{find, list_any}
 use Rattle.std.specs.Option.{option_map_or}
@@ -99,7 +100,8 @@ accept_lines rows = flat_map (λ row. row_text row ++ 10 ∷ []) (filter (λ row
 abbrev pub has_key : DiffRow → Bool
 has_key row = nat_lt 0 (length (key_names row))
 
--- the bytes are a file of accepted lines, none of which is stale, and the rows that are left are the harmless ones
+-- the bytes are a file of accepted lines, none of which is stale, and the rows that are left are
+-- the harmless ones
 pub record AcceptsAll (bytes : List ℕ) (rows : List DiffRow) : Type 0 where
   pub lines : List Line
   pub read : accepted_of bytes ≡ Ok lines

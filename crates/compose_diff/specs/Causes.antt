@@ -1,5 +1,5 @@
--- A source of the old table all of whose sequences are removed, for example because an include is missing, as one line
--- (this project's profile).
+-- A source of the old table all of whose sequences are removed, for example because an include is
+-- missing, as one line (this project's profile).
 use Rattle.std.specs.Prelude.{ℕ, Bool, false, not, ◌==◌, ◌&&◌, ◌||◌, nat_lt, nat_eq, unwrap_or, if◌then◌else◌, List, ◌++◌, length, filter, Option, Some, None, codes}
 use Rattle.std.specs.List.{list_all}
 use Rattle.std.specs.Fmt.{decimal}
@@ -25,7 +25,8 @@ count_in source rows = length (filter (λ row. is_in_source source row.old) rows
 abbrev pub removed_in : ℕ → List DiffRow → ℕ
 removed_in source rows = length (filter (λ row. is_same row.change Removed && is_in_source source row.old) rows)
 
--- the old table has two rows or more in this source, and as many of the printed rows are removed from it
+-- the old table has two rows or more in this source, and as many of the printed rows are removed
+-- from it
 abbrev pub is_gone : List DiffRow → List DiffRow → ℕ → Bool
 is_gone rows shown source = nat_lt 1 (count_in source rows) && removed_in source shown == count_in source rows
 
@@ -48,7 +49,8 @@ are_removed source rows = list_all (λ row. is_same row.change Removed || not (i
 
 -- ---- counts by source
 
--- the row is counted for this source: all rows that the old table has in it, or the removed ones alone
+-- the row is counted for this source: all rows that the old table has in it, or the removed ones
+-- alone
 abbrev pub is_counted : Bool → ℕ → DiffRow → Bool
 is_counted removed_alone source row = (not removed_alone || is_same row.change Removed) && is_in_source source row.old
 

@@ -1,5 +1,5 @@
--- The lines of `diff` in colours, like those of `git diff`, by the escape sequences of terminals (ECMA-48, Select
--- Graphic Rendition).
+-- The lines of `diff` in colours, like those of `git diff`, by the escape sequences of terminals
+-- (ECMA-48, Select Graphic Rendition).
 use Rattle.std.specs.Prelude.{ℕ, Bool, true, false, not, ◌==◌, if◌then◌else◌, List, [], ◌∷◌, ◌++◌, flat_map, codes}
 use Rattle.std.specs.List.{list_any}
 use Rattle.compose_compare.specs.declared.Change.{Change}
@@ -26,8 +26,8 @@ colored_lines all = flat_map colored_line all
 
 -- ---- back
 
--- the text without its escape sequences, each of which ends in `m` (code 109); the first argument is whether one has
--- begun
+-- the text without its escape sequences, each of which ends in `m` (code 109); the first argument
+-- is whether one has begun
 abbrev pub uncolored_from : Bool → List ℕ → List ℕ
 uncolored_from begun [] = []
 uncolored_from false (b ∷ bytes) = if b == 27 then uncolored_from true bytes else b ∷ uncolored_from false bytes

@@ -22,7 +22,8 @@ is_same _ _ = false
 abbrev pub count_of : Change → List DiffRow → ℕ
 count_of change rows = length (filter (λ row. is_same row.change change) rows)
 
--- the counts of rows that are not accepted, the number of accepted rows, and the number of lost texts
+-- the counts of rows that are not accepted, the number of accepted rows, and the number of lost
+-- texts
 abbrev pub counts_of : List DiffRow → ℕ → Counts
 counts_of rows accepted = record {
   kept = count_of Kept rows;
@@ -43,7 +44,8 @@ starts_word n = if n == 1 then codes " new start" else codes " new starts"
 abbrev pub texts_word : ℕ → List ℕ
 texts_word n = if n == 1 then codes " text" else codes " texts"
 
--- for example `diff: 5205 kept, 3 changed, 0 waiting, 298 removed, 0 new starts, 12 added, 2 accepted; 4 texts lost`
+-- for example `diff: 5205 kept, 3 changed, 0 waiting, 298 removed, 0 new starts, 12 added, 2
+-- accepted; 4 texts lost`
 abbrev pub counts_line : Counts → List ℕ
 counts_line counts =
     codes "diff: " ++ (decimal counts.kept ++ (codes " kept, " ++ (decimal counts.changed ++ (codes " changed, " ++ (decimal counts.waiting ++ (codes " waiting, " ++ (decimal counts.removed

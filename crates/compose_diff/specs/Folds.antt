@@ -1,4 +1,5 @@
--- Rows as lines: one line for rows that fold together, and one for a source that is gone (this project's profile).
+-- Rows as lines: one line for rows that fold together, and one for a source that is gone (this
+-- project's profile).
 use Rattle.std.specs.Prelude.{ℕ, Bool, not, nat_lt, if◌then◌else◌, List, [], ◌∷◌, ◌++◌, length, take, filter, flat_map, Option, Some, None, codes}
 use Rattle.std.specs.Fmt.{decimal}
 use Rattle.compose_compare.specs.declared.Change.TheVariants.{Kept}
@@ -15,8 +16,8 @@ use Rattle.compose_diff.specs.Groups.{fold_keys, groups}
 abbrev pub texts_part : List DiffRow → List ℕ
 texts_part rows = flat_map (λ row. text_part row.old ++ text_part row.new) rows
 
--- what happens, the keys with which all begin, the number of rows, the texts of the first three, and the places of the
--- first
+-- what happens, the keys with which all begin, the number of rows, the texts of the first three,
+-- and the places of the first
 abbrev pub fold_line : List DiffRow → List ℕ
 fold_line [] = []
 fold_line (row ∷ rows) =
@@ -37,7 +38,8 @@ diff_lines rows = row_lines (reported rows)
 
 -- ---- folded
 
--- the rows of a source that is gone share a line, and so do rows that fold together; a single row has its own line
+-- the rows of a source that is gone share a line, and so do rows that fold together; a single row
+-- has its own line
 abbrev pub lines_by : Option TextPlace → List DiffRow → List ℕ
 lines_by (Some entry) rows = cause_line entry (length rows)
 lines_by None rows = if nat_lt (length rows) 2 then row_lines rows else fold_line rows

@@ -13,7 +13,8 @@ use Rattle.compose_diff.specs.Causes.{gone_entry}
 
 -- ---- what rows have in common
 
--- the keys by which rows are folded: the first two, or the first of two; none for a sequence of one key
+-- the keys by which rows are folded: the first two, or the first of two; none for a sequence of one
+-- key
 abbrev pub fold_keys : DiffRow → List (List ℕ)
 fold_keys row = take (min (length row.keys.now - 1) 2) (key_names row)
 
@@ -22,14 +23,15 @@ can_fold Removed = true
 can_fold Added = true
 can_fold _ = false
 
--- what happens to all rows of a line, as its rank among the changes, and the source with which they are gone, or the
--- keys with which they begin
+-- what happens to all rows of a line, as its rank among the changes, and the source with which they
+-- are gone, or the keys with which they begin
 pub record Common : Type 0 where
   pub change : ℕ
   pub source : Option ℕ
   pub keys : List (List ℕ)
 
--- for a row that is removed with its source, the source; otherwise, if it can be folded, its first keys
+-- for a row that is removed with its source, the source; otherwise, if it can be folded, its first
+-- keys
 abbrev pub common_by : Option TextPlace → DiffRow → Option Common
 common_by (Some entry) row = Some (record { change = group row.change; source = Some entry.source; keys = [] })
 common_by None row = if can_fold row.change && nat_lt 1 (length row.keys.now) then Some (record { change = group row.change; source = None; keys = fold_keys row }) else None
@@ -56,7 +58,8 @@ abbrev pub firsts : (ℕ → Bool) → List DiffRow → List DiffRow → List Di
 firsts gone earlier [] = []
 firsts gone earlier (row ∷ rows) = if list_any (folds_with gone row) earlier then firsts gone (earlier ++ row ∷ []) rows else row ∷ firsts gone (earlier ++ row ∷ []) rows
 
--- all rows that fold together with a row, in order; a row that has nothing in common with others is alone
+-- all rows that fold together with a row, in order; a row that has nothing in common with others is
+-- alone
 abbrev pub group_of : (ℕ → Bool) → List DiffRow → DiffRow → List DiffRow
 group_of gone rows row = option_map_or (λ what. filter (has gone what) rows) (common gone row) (row ∷ [])
 
@@ -68,7 +71,7 @@ groups gone rows = map (group_of gone rows) (firsts gone [] rows)
 abbrev pub all_of : List (List DiffRow) → List DiffRow
 all_of them = flat_map (λ rows. rows) them
 
--- some of the rows, in their order, are all rows that fold together with one row; or they are a single row, which folds
--- together with none
+-- some of the rows, in their order, are all rows that fold together with one row; or they are a
+-- single row, which folds together with none
 abbrev pub IsGroup : (ℕ → Bool) → List DiffRow → List DiffRow → Type 0
 IsGroup gone rows part = (row : DiffRow) × ((part ≡ filter (folds_with gone row) rows) ⊎ ((part ≡ row ∷ []) × ((other : DiffRow) → folds_with gone row other ≡ false)))

@@ -10,8 +10,8 @@ use Rattle.compose_diff.specs.declared.row.DiffRow.{DiffRow}
 use Rattle.compose_diff.specs.declared.row.NewSequence.{NewSequence}
 use Rattle.compose_diff.specs.Line.{change_word, key_names}
 
--- a backslash before a quote (code 34) or a backslash (code 92), a character that could control a terminal by its
--- number, any other character itself
+-- a backslash before a quote (code 34) or a backslash (code 92), a character that could control a
+-- terminal by its number, any other character itself
 abbrev pub json_character : ℕ → List ℕ
 json_character c =
     if c == 34 || c == 92 then 92 ∷ c ∷ [] else
@@ -59,7 +59,8 @@ json_sequence name (Some s) =
     codes ",\"" ++ (name ++ (codes "\":" ++ (json_strings (map (λ key. key.now) s.keys.now)
     ++ (codes ",\"" ++ (name ++ (codes "_file\":" ++ (json_string s.path.now ++ (codes ",\"" ++ (name ++ (codes "_line\":" ++ decimal s.line))))))))))
 
--- both places, the longer sequence for which a waiting one waits, and the sequence that gives the old text now
+-- both places, the longer sequence for which a waiting one waits, and the sequence that gives the
+-- old text now
 abbrev pub json_end : DiffRow → List ℕ
 json_end row = json_places row ++ (json_sequence (codes "longer") row.longer ++ json_sequence (codes "now") row.typing)
 

@@ -1,4 +1,5 @@
--- Sequences that people lose, and whose text no sequence of the new table gives any more (this project's profile).
+-- Sequences that people lose, and whose text no sequence of the new table gives any more (this
+-- project's profile).
 use Rattle.std.specs.Prelude.{ℕ, Bool, not, ◌&&◌, if◌then◌else◌, List, [], map, filter, is_some}
 use Rattle.std.specs.Option.{option_map_or}
 use Rattle.compose_model.specs.Nodes.{rising_lists}

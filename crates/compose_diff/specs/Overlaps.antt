@@ -1,5 +1,5 @@
--- The line that counts overlaps: sequences that are a prefix of another one, of which the longer one counts (this
--- project's profile).
+-- The line that counts overlaps: sequences that are a prefix of another one, of which the longer
+-- one counts (this project's profile).
 use Rattle.std.specs.Prelude.{ℕ, ◌==◌, ◌&&◌, if◌then◌else◌, List, [], ◌++◌, codes}
 use Rattle.std.specs.Fmt.{decimal}
 use Rattle.compose_diff.specs.declared.overlaps.Overlaps.{Overlaps}

@@ -17,8 +17,8 @@ use Rattle.compose_diff.specs.declared.answer.Printed.{Printed}
 abbrev pub lines_text : Bool → List DiffRow → List DiffRow → List ℕ
 lines_text folds rows shown = if folds then folded_lines rows shown else diff_lines shown
 
--- the lines of the rows that are printed of those that are not accepted, then that of the overlaps, and that of the
--- counts
+-- the lines of the rows that are printed of those that are not accepted, then that of the overlaps,
+-- and that of the counts
 abbrev pub answer_text : Printed → Overlaps → List DiffRow → List DiffRow → List ℕ
 answer_text printed overlaps rows left = lines_text printed.folds rows (shown_rows printed.lost_alone left) ++ (overlaps_line overlaps ++ counts_line (counts_of left (length rows - length left)))
 

@@ -1,10 +1,10 @@
 //! Rows as JSON.
 ghost use Rattle.std.specs.Prelude.{◌≡◌, ◌++◌, map, IfOk, OnOk, string_bytes};
-ghost use Rattle.compose_shown.specs.Shown as shown;
 ghost use Rattle.compose_diff.specs.Json as words;
 
 use crate::line::change_word;
 use crate::row::{DiffRow, NewSequence, TextPlace};
+use compose_shown::is_unsafe;
 use std::alloc::{AllocError, Global};
 use std::fmt::Write;
 
@@ -200,11 +200,4 @@ fn push_character(text: &mut String, character: char) -> Result<(), AllocError>
         return Ok(());
     }
     text.push(character)
-}
-
-/// Returns whether the character could control a terminal. O(1).
-pub fn is_unsafe(number: u32) -> bool
-    ensures { result ≡ shown.is_unsafe number }
-{
-    matches!(number, 0..=0x1f | 0x7f..=0x9f | 0x202a..=0x202e | 0x2066..=0x2069)
 }

@@ -46,7 +46,7 @@ pub use answer::{Printed, answer_diff};
 pub use color::colored_text;
 pub use counts::{Counts, loses_nothing};
 pub use fold::{diff_text, folded_text};
-pub use json::{is_unsafe, json_text, push_json_string};
+pub use json::{json_text, push_json_string};
 pub use json_counts::json_answer;
 pub use line::is_loss;
 pub use lost::{is_lost, lost_rows};

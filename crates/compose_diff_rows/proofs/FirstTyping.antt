@@ -1,5 +1,5 @@
--- The first of the shortest sequences that give a text: no other one is shorter, and none of the same length comes
--- before it.
+-- The first of the shortest sequences that give a text: no other one is shorter, and none of the
+-- same length comes before it.
 use Rattle.std.proofs.Common.{◌≡◌, ℕ, List, Bool, true, false, not, sym, ◌∙◌, ap, refl}
 use Rattle.std.specs.Prelude.{Option, Some, None, is_some}
 use Rattle.std.specs.Option.{option_map_or}

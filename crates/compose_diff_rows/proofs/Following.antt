@@ -1,5 +1,5 @@
--- The answer is yes exactly if each change is harmless or named by an accepted line, and without such lines exactly if
--- the new table follows the old one.
+-- The answer is yes exactly if each change is harmless or named by an accepted line, and without
+-- such lines exactly if the new table follows the old one.
 use Rattle.std.proofs.Common.{◌≡◌, ℕ, List, [], ◌∷◌, ◌++◌, Bool, true, false, cond, not, ◌&&◌, ◌||◌, map, refl, sym, ◌∙◌, ap, ap₂, subst, inl, inr, nat_cmp}
 use Rattle.std.specs.Prelude.{◌↔◌, Option, Some, None, Result, Ok, Err, filter}
 use Rattle.std.specs.Option.{option_map, option_map_or}

@@ -76,7 +76,8 @@ not_stale bytes n h = go (list_lines_from 1 (lines_of bytes)) (find (λ line. no
 -- ---- the whole
 
 module _ (asked : Asked) (e : Explainable) (is : compared_parts asked.migration ≡ Ok e) where
-  -- for what is compared, the first line that is not in the required form is refused; or memory ran out
+  -- for what is compared, the first line that is not in the required form is refused; or memory ran
+  -- out
   pub accept_refused : (fault : AcceptFault) → Returns {A = List Line} (Err fault) (accepted_of asked.accepted) → AnswersDiff asked (Err (accept_raised fault))
   accept_refused (Stale n) h = absurd (not_stale asked.accepted n h)
   accept_refused (BadLine n) h = (e, is, h)

@@ -1,4 +1,5 @@
--- What `diff` answers on the sources of two tables and on the intended changes (this project's profile).
+-- What `diff` answers on the sources of two tables and on the intended changes (this project's
+-- profile).
 use Rattle.std.specs.Prelude.{◌≡◌, ℕ, Bool, true, false, not, List, [], ◌∷◌, ◌++◌, map, Option, Result, Ok, Err, string_bytes, IsTrue}
 use Rattle.std.specs.Option.{option_map_or}
 use Rattle.std.specs.Ordering.{nat_cmp}
@@ -38,8 +39,8 @@ use Rattle.compose_diff_rows.specs.declared.asking.DiffFault.TheVariants.{Input,
 
 -- ---- what is compared
 
--- the input of `diff`: a migration, the paths of the sources of both tables, the list of intended changes, and the form
--- in which the other rows are printed
+-- the input of `diff`: a migration, the paths of the sources of both tables, the list of intended
+-- changes, and the form in which the other rows are printed
 pub record Asked : Type 0 where
   pub migration : GivenMigration
   pub old_paths : List (List ℕ)
@@ -58,8 +59,8 @@ asked input = record {
   form = input.form;
 }
 
--- the tables, and the fresh keysyms in rising order, each once; or the first condition that these do not meet for the
--- old table
+-- the tables, and the fresh keysyms in rising order, each once; or the first condition that these
+-- do not meet for the old table
 abbrev pub compared : Parts → Result Explainable NoAnswer
 compared move =
     let fresh = rising nat_cmp move.keys in
@@ -95,8 +96,8 @@ old_written asked e = written_in e.move.names asked.migration.old.sources asked.
 abbrev pub new_written : Asked → Explainable → Written
 new_written asked e = written_in e.move.names asked.migration.new.sources asked.new_paths e.move.new
 
--- the rows: those that are reported, each once, in the order in which they are printed; and then the kept ones, if
--- these are not reported
+-- the rows: those that are reported, each once, in the order in which they are printed; and then
+-- the kept ones, if these are not reported
 pub record AreSorted (whole : Bool) (names : KeysymNames) (fresh : List ℕ) (old new : Written) (rows : List DiffRow) : Type 0 where
   pub reported : List DiffRow
   pub kept : List DiffRow
@@ -157,8 +158,8 @@ pub record IsStale (asked : Asked) (e : Explainable) (line : ℕ) : Type 0 where
   pub are : AreRows asked e rows
   pub stale : left_of lines rows ≡ Err (Stale line)
 
--- the answer, or what is refused first: the migration, its fresh keysyms, a line of the list, a line that matches no
--- row
+-- the answer, or what is refused first: the migration, its fresh keysyms, a line of the list, a
+-- line that matches no row
 abbrev pub AnswersDiff : Asked → Result Answer DiffFault → Type 0
 AnswersDiff asked (Ok answer) = (e : Explainable) × (compared_parts asked.migration ≡ Ok e) × IsDiff asked e answer
 AnswersDiff asked (Err (Input refusal)) = IsRefused refusal (compared_parts asked.migration)

@@ -35,8 +35,8 @@ pub record WrittenSequence : Type 0 where
   pub path : List ℕ
   pub line : ℕ
 
--- what happens to a sequence, the names of its keys, what each table has for it, the longer one for which it waits, and
--- how its text is typed now
+-- what happens to a sequence, the names of its keys, what each table has for it, the longer one for
+-- which it waits, and how its text is typed now
 pub record ReportedRow : Type 0 where
   pub change : Change
   pub keys : List (List ℕ)
@@ -56,7 +56,8 @@ reported_row row = record { change = row.change; keys = map (λ key. key.now) ro
 
 -- ---- a table as it is written
 
--- its definitions, the line that counts for each of its sequences in order, and the paths of its sources
+-- its definitions, the line that counts for each of its sequences in order, and the paths of its
+-- sources
 pub record Written : Type 0 where
   pub table : List Definition
   pub lines : List (Option WrittenLine)
@@ -97,7 +98,8 @@ sequence_in w s = option_map (sequence_at w) (line_of w s)
 abbrev pub first_typing : List Definition → List ℕ → Option (List ℕ)
 first_typing table text = slice_get (shortest_first (giving table text)) 0
 
--- if people lose a sequence for which the old table has this entry, how its text is typed with the new one
+-- if people lose a sequence for which the old table has this entry, how its text is typed with the
+-- new one
 abbrev pub now_of : Written → Change → Option ReportedEntry → Option WrittenSequence
 now_of new c None = None
 now_of new c (Some entry) = if is_loss c then option_and_then (sequence_in new) (first_typing new.table entry.text) else None
@@ -127,7 +129,8 @@ row_of names fresh old new s = record {
 
 -- ---- the sequences that get a row
 
--- whether a sequence of the old table to which this happens gets a row; a kept one only if all rows are wanted
+-- whether a sequence of the old table to which this happens gets a row; a kept one only if all rows
+-- are wanted
 abbrev pub is_reported : Bool → Change → Bool
 is_reported whole Kept = whole
 is_reported whole _ = true
@@ -158,8 +161,8 @@ kept_rows whole names fresh old new = map (kept_row old) (filter (λ s. not (is_
 
 -- ---- definitions for private functions
 
--- a sequence of one of the tables: what happens to it, the names of its keys, what the table has for it, the longer
--- one, and how its text is typed now
+-- a sequence of one of the tables: what happens to it, the names of its keys, what the table has
+-- for it, the longer one, and how its text is typed now
 pub record Reported : Type 0 where
   pub change : Change
   pub keys : List (List ℕ)
@@ -188,7 +191,8 @@ reported_of names fresh old new w s = record {
   typing = now_of new (change names fresh old.table new.table s) (entry_of old s);
 }
 
--- the row of a sequence of the old table; what the new table has for it is found by the names of its keys
+-- the row of a sequence of the old table; what the new table has for it is found by the names of
+-- its keys
 abbrev pub old_row : KeysymNames → Written → Reported → ReportedRow
 old_row names new reported = record { change = reported.change; keys = reported.keys; old = reported.entry; new = option_and_then (entry_of new) (sequence_named names reported.keys); longer = reported.longer; typing = reported.typing }
 

@@ -24,7 +24,8 @@ use Rattle.compose_diff_rows.specs.declared.asking.DiffInput.{DiffInput}
 use Rattle.compose_diff_rows.specs.declared.asking.DiffFault.{DiffFault}
 use Rattle.compose_diff_rows.specs.declared.asking.DiffFault.TheVariants.{Input, Accept}
 
--- a fault of the list of intended changes as one of `diff`; running out of memory is a fault of its own
+-- a fault of the list of intended changes as one of `diff`; running out of memory is a fault of its
+-- own
 abbrev pub accept_raised : AcceptFault → DiffFault
 accept_raised (Stale n) = Accept (Stale n)
 accept_raised (BadLine n) = Accept (BadLine n)
@@ -34,7 +35,8 @@ accept_raised NoMemory = Input refusals.NoMemory
 abbrev pub placed_parts : {T : Type 0} → (T → List Definition) → Migration (PlacedTable T) → Parts
 placed_parts {T} view m = parts (λ (placed : PlacedTable T). view placed.table) m
 
--- the migration is that of the input, with the lines that count in both tables, and the number of overlaps of each
+-- the migration is that of the input, with the lines that count in both tables, and the number of
+-- overlaps of each
 pub record IsPlaced {T : Type 0} (view : T → List Definition) (input : DiffInput) (m : Migration (PlacedTable T)) : Type 0 where
   pub expected : Parts
   pub read : migration_of (given_of input.tables) ≡ Ok expected

@@ -70,6 +70,8 @@ mod rows;
 #[cfg(test)]
 mod sources;
 #[cfg(test)]
+mod state_files;
+#[cfg(test)]
 mod table_files;
 #[cfg(test)]
 mod tables;

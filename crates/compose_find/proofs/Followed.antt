@@ -1,5 +1,5 @@
--- What is found so far: each source is the root or included by one before it, and the includes of those that were read
--- are followed.
+-- What is found so far: each source is the root or included by one before it, and the includes of
+-- those that were read are followed.
 use Rattle.std.proofs.Common.{◌≡◌, ◌⊎◌, ℕ, suc, zero, ◌+◌, ◌<◌, ◌≤◌, List, [], ◌∷◌, ◌++◌, Bool, true, false, cond, map, length, Option, Some, None, refl, sym, ◌∙◌, ap, subst, inl, inr, arith}
 use Rattle.std.specs.Prelude.{Result, Ok, Err, slice_get, Contains, bytes_eq, nat_le, is_some}
 use Rattle.std.specs.List.{find, IsDistinct, AllByRecursion}

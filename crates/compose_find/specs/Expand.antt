@@ -8,8 +8,8 @@ use Rattle.compose_lex.specs.declared.LexFault.{LexFault}
 use Rattle.compose_find.specs.declared.fault.IncludeFault.{IncludeFault}
 use Rattle.compose_find.specs.declared.fault.IncludeFault.TheVariants.{Text, UnknownPercent, NoLocale, NoHome}
 
--- the values of `%S`, `%L` and `%H`, and the folder below which an absolute path is looked for first; only the system's
--- folder has to be known
+-- the values of `%S`, `%L` and `%H`, and the folder below which an absolute path is looked for
+-- first; only the system's folder has to be known
 pub record Words : Type 0 where
   pub system : List ℕ
   pub locale : Option (List ℕ)

@@ -23,7 +23,8 @@ abbrev pub onto : List ℕ → Result (List ℕ) IncludeFault → Result (List �
 onto prefix (Ok path) = Ok (prefix ++ path)
 onto prefix (Err e) = Err e
 
--- the text expands to the piece, followed by what the rest expands to, and the rest is shorter; or it has this fault
+-- the text expands to the piece, followed by what the rest expands to, and the rest is shorter; or
+-- it has this fault
 abbrev pub IsPiece : Words → List ℕ → Result (Bor (List ℕ) × Bor (List ℕ)) IncludeFault → Type 0
 IsPiece words text (Ok x) = (path_of words text ≡ onto x.0.now (path_of words x.1.now)) × (length x.1.now < length text)
 IsPiece words text (Err NoMemory) = Unit {0}

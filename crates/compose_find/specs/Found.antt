@@ -1,4 +1,5 @@
--- The search for the files of a table: every file that an include names, by the raw text of the include.
+-- The search for the files of a table: every file that an include names, by the raw text of the
+-- include.
 use Rattle.std.specs.Prelude.{ℕ, ◌+◌, nat_le, zero, suc, if◌then◌else◌, List, [], ◌∷◌, ◌++◌, length, Option, Some, None, is_some, Result, Ok, Err, unwrap_or, bytes_eq, slice_get}
 use Rattle.std.specs.List.{find, cons_option}
 use Rattle.std.specs.Option.{option_and_then, option_map, option_map_or}
@@ -15,14 +16,15 @@ pub record TriedFile : Type 0 where
   pub path : List ℕ
   pub bytes : Option (List ℕ)
 
--- a source: the raw text that names it, its path, and the smallest number of includes that lead from the root to it
+-- a source: the raw text that names it, its path, and the smallest number of includes that lead
+-- from the root to it
 pub record FoundSource : Type 0 where
   pub name : List ℕ
   pub path : List ℕ
   pub depth : ℕ
 
--- why the search ends: a path has to be looked for first; there is no root; or the include on this line (counted from
--- 1) of the file at this path has no file, or can't be resolved
+-- why the search ends: a path has to be looked for first; there is no root; or the include on this
+-- line (counted from 1) of the file at this path has no file, or can't be resolved
 pub data Stop : Type 0 where
   wanted : List ℕ → Stop
   missing_root : List ℕ → Stop
@@ -35,7 +37,8 @@ abbrev pub includes_or_wanted : List ℕ → Option TriedFile → Result (Option
 includes_or_wanted path None = Err (wanted path)
 includes_or_wanted path (Some file) = Ok (option_map includes_of file.bytes)
 
--- the includes of the file at a path, none if there is no file; the path is wanted if it was not looked for
+-- the includes of the file at a path, none if there is no file; the path is wanted if it was not
+-- looked for
 abbrev pub found_includes : List TriedFile → List ℕ → Result (Option (List Include)) Stop
 found_includes files path = includes_or_wanted path (find (λ f. bytes_eq path f.path) files)
 
@@ -62,8 +65,8 @@ abbrev pub at_include : {A : Type 0} → FoundSource → Include → Result A In
 at_include from include (Ok x) = Ok x
 at_include from include (Err fault) = Err (refusal from include fault)
 
--- the places where the file of an include is looked for, in this order: an absolute path below the root, if a root is
--- given; the path itself; and beside the including file
+-- the places where the file of an include is looked for, in this order: an absolute path below the
+-- root, if a root is given; the path itself; and beside the including file
 abbrev pub places : Option (List ℕ) → List ℕ → List ℕ → List (List ℕ)
 places root from path = cons_option (below_root root path) (path ∷ beside from path ∷ [])
 
@@ -112,15 +115,16 @@ with_includes_of files words from sources = do
   includes ← includes_at files from.path
   with_includes files words from includes sources
 
--- the sources with those that the sources from this index on include, one source after another; the number bounds how
--- many sources are read
+-- the sources with those that the sources from this index on include, one source after another; the
+-- number bounds how many sources are read
 unfoldable pub search_from : List TriedFile → Words → ℕ → ℕ → List FoundSource → Result (List FoundSource) Stop
 search_from files words zero index sources = Ok sources
 search_from files words (suc left) index sources = option_map_or (λ from. do
   more ← with_includes_of files words from sources
   search_from files words left (1 + index) more) (slice_get sources index) (Ok sources)
 
--- every source, the root first, whose name is its path; the others in the order in which they are first included
+-- every source, the root first, whose name is its path; the others in the order in which they are
+-- first included
 abbrev pub found : List TriedFile → Words → List ℕ → Result (List FoundSource) Stop
 found files words root = search_from files words max_sources 0 (record { name = root; path = root; depth = 0 } ∷ [])
 

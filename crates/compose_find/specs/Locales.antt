@@ -1,4 +1,5 @@
--- The files `compose.dir` and `locale.alias` in the folder of a system's locales. Each line has two words.
+-- The files `compose.dir` and `locale.alias` in the folder of a system's locales. Each line has two
+-- words.
 use Rattle.std.specs.Prelude.{ℕ, Bool, not, ◌&&◌, ◌||◌, ◌==◌, if◌then◌else◌, List, [], ◌∷◌, length, Option, Some, None, unwrap_or, bytes_eq}
 use Rattle.std.specs.List.{filter_map, find}
 use Rattle.std.specs.Option.{option_map, option_map_or}
@@ -29,8 +30,8 @@ left_word line = leading is_left_byte (skip_blanks line)
 abbrev pub right_word : List ℕ → List ℕ
 right_word line = leading is_word_byte (skip_blanks (past_colon (behind is_left_byte (skip_blanks line))))
 
--- the two words of a line, `LEFT: RIGHT` or `LEFT RIGHT`; the rest of the line is ignored. A comment (it begins with
--- code 35) has none
+-- the two words of a line, `LEFT: RIGHT` or `LEFT RIGHT`; the rest of the line is ignored. A
+-- comment (it begins with code 35) has none
 abbrev pub pair_of : List ℕ → Option (List ℕ × List ℕ)
 pair_of line =
     if length (left_word line) == 0 || length (right_word line) == 0 || begins (λ b. b == 35) (left_word line) then None else Some (left_word line, right_word line)

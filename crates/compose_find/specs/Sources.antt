@@ -1,4 +1,5 @@
--- What the search finds: the sources of a table, each of which is the root or included by another one.
+-- What the search finds: the sources of a table, each of which is the root or included by another
+-- one.
 use Rattle.std.specs.Prelude.{◌≡◌, ◌+◌, ◌<◌, ◌≤◌, ℕ, List, length, Option, Some, None, IsSome, Ok, All, Contains, map, slice_get, bytes_eq}
 use Rattle.std.specs.List.{IsDistinct}
 use Rattle.compose_read.specs.Sources.{max_sources}
@@ -14,8 +15,8 @@ pub record IsFirstPlace (files : List TriedFile) (places : List (List ℕ)) (pla
   pub there : held_at files place ≡ Some bytes
   pub none_before : (i : ℕ) (other : List ℕ) → i < index → slice_get places i ≡ Some other → found_includes files other ≡ Ok None
 
--- the include names the source by its raw text, which expands to a path: the source is at the first of the path's
--- places that has a file
+-- the include names the source by its raw text, which expands to a path: the source is at the first
+-- of the path's places that has a file
 pub record LeadsTo (files : List TriedFile) (words : Words) (from : FoundSource) (include : Include) (to : FoundSource) : Type 0 where
   pub name : to.name ≡ include.raw
   pub path : List ℕ
@@ -36,8 +37,8 @@ pub record IsFollowed (files : List TriedFile) (words : Words) (sources : List F
   pub there : held_at files from.path ≡ Some bytes
   pub lead : (include : Include) → Contains (includes_of bytes) include → (to : FoundSource) × Contains sources to × LeadsTo files words from include to
 
--- the root comes first, each include of each source leads to a source, each source but the root is included by one
--- before it, no two have the same name, and there are not too many
+-- the root comes first, each include of each source leads to a source, each source but the root is
+-- included by one before it, no two have the same name, and there are not too many
 pub record AreSources (files : List TriedFile) (words : Words) (root : List ℕ) (sources : List FoundSource) : Type 0 where
   pub root_first : slice_get sources 0 ≡ Some (record { name = root; path = root; depth = 0 })
   pub followed : (from : FoundSource) → Contains sources from → IsFollowed files words sources from
@@ -45,7 +46,8 @@ pub record AreSources (files : List TriedFile) (words : Words) (root : List ℕ)
   pub distinct : IsDistinct bytes_eq (map (λ m. m.name) sources)
   pub few : length sources ≤ max_sources
 
--- there is a file at the path of each of these sources, no two have the same name, and there are not too many
+-- there is a file at the path of each of these sources, no two have the same name, and there are
+-- not too many
 pub record AreHeld (files : List TriedFile) (sources : List FoundSource) : Type 0 where
   pub there : All (λ m. IsSome (held_at files m.path)) sources
   pub distinct : IsDistinct bytes_eq (map (λ m. m.name) sources)

@@ -1,4 +1,5 @@
--- Trees of locales, such as /usr/share/X11/locale: each locale has a folder with its table, a file named `Compose`.
+-- Trees of locales, such as /usr/share/X11/locale: each locale has a folder with its table, a file
+-- named `Compose`.
 use Rattle.std.specs.Prelude.{◌≡◌, ◌≢◌, ◌<◌, ℕ, Bool, nat_eq, List, ◌∷◌, [], ◌++◌, length, codes, All}
 use Rattle.std.specs.List.{starts_with}
 

@@ -6,7 +6,8 @@ use Rattle.compose_folder.specs.declared.reading.Unread.{Unread}
 use Rattle.compose_folder.specs.declared.reading.Unread.TheVariants.{Refused, NoMemory}
 use Rattle.compose_folder.specs.Content.{Entry, File, Unreadable, held, then_asked}
 
--- the bytes of the file under the path, or the reason why it cannot be read, if it is known what the folder holds
+-- the bytes of the file under the path, or the reason why it cannot be read, if it is known what
+-- the folder holds
 abbrev pub Reads : Option (List Entry) → List ℕ → Result (Vec ℕ Global) Unread → Type 0
 Reads None path r = Unit {0}
 Reads (Some folder) path (Err NoMemory) = Unit {0}

@@ -46,7 +46,8 @@ any_last q xs x = list_any-append q xs (x ∷ []) ∙ ap (λ b. list_any q xs ||
     or_false true = refl
     or_false false = refl
 
--- one of the first elements up to this index passes exactly if an earlier one passes or this one does
+-- one of the first elements up to this index passes exactly if an earlier one passes or this one
+-- does
 pub any_more : {X : Type 0} (q : X → Bool) (xs : List X) (i : ℕ) (d : X) → i < length xs → list_any q (take (i + 1) xs) ≡ list_any q (take i xs) || q (get_or xs i d)
 any_more q xs i d h = ap (list_any q) (take_more xs i d h) ∙ any_last q (take i xs) (get_or xs i d)
 

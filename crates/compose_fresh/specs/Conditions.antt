@@ -1,5 +1,5 @@
--- Conditions on a certificate, each with the fault that is reported if it is not met; the first one that is not met
--- decides.
+-- Conditions on a certificate, each with the fault that is reported if it is not met; the first one
+-- that is not met decides.
 use Rattle.std.specs.Prelude.{Bool, not, List, Option}
 use Rattle.std.specs.List.{find}
 use Rattle.std.specs.Option.{option_map}

@@ -5,3 +5,4 @@ pub mod Least
 pub mod Rooms
 pub mod Rounding
 pub mod Trying
+pub mod Looping

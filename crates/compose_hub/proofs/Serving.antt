@@ -89,8 +89,8 @@ pub differ : (m n : ℕ) (b : Bool) → m == n ≡ b → (m ≡ n → ⊥) → m
 differ m n true e f = absurd (f (eqb-true m n e))
 differ m n false e f = e
 
--- whether a connection has ended this way depends only on the bytes that are left of its stream, and on whether that
--- has failed
+-- whether a connection has ended this way depends only on the bytes that are left of its stream,
+-- and on whether that has failed
 ends_on : (end : Result StreamEnd ServeFault) (left : Option (List ℕ)) (r w r' w' : Bool) (state : ConnectionState) → (r ≡ true → r' ≡ true) → (w ≡ true → w' ≡ true) → EndsAs end left r w state → EndsAs end left r' w' state
 ends_on (Ok InputEnd) left r w r' w' state f g h = h
 ends_on (Ok Malformed) left r w r' w' state f g h = h
@@ -138,7 +138,8 @@ module _ (limits : Limits) (reading : Reading) (first : World) (state : OwnedSer
     served_forth : (n : ℕ) → IsServed slots n → IsServed now n
     served_forth n h = let p = still_forth (get_or slots h.0 None) (get_or now h.0 None) h.1 (still h.0) h.2 in (h.0, p.0, p.1, p.2.0 ∙ h.3)
 
-    -- and if also no further connection is accepted and all clients are unchanged, what was true stays true
+    -- and if also no further connection is accepted and all clients are unchanged, what was true
+    -- stays true
     so_far_still : (s : ServedSoFar limits reading first (at_now state streams reported) accepted slots) → EndsStay s.so_far → ServedSoFar limits reading first (at_now state streams' reported) accepted' now
     so_far_still s ended = record {
       so_far = serves_still s.so_far ended;
@@ -186,7 +187,8 @@ module _ (limits : Limits) (reading : Reading) (first : World) (state : OwnedSer
   pub serves_stay : AllStay streams streams' → ServesMany limits reading first (world state.service streams reported) → ServesMany limits reading first (world state.service streams' reported)
   serves_stay stay s = serves_still limits reading first state streams streams' reported (stays streams streams' stay) s (ends_stay stay s)
 
-  -- and if also no further connection is accepted and all clients are unchanged, what was true stays true
+  -- and if also no further connection is accepted and all clients are unchanged, what was true
+  -- stays true
   pub still_so_far : AllStay streams streams' → (accepted accepted' : ℕ) (slots now : List (Option Client)) → accepted' ≡ accepted → AllAreStill slots now
       → ServedSoFar limits reading first (at_now state streams reported) accepted slots → ServedSoFar limits reading first (at_now state streams' reported) accepted' now
   still_so_far stay accepted accepted' slots now same still s =
@@ -628,8 +630,8 @@ module _ (limits : Limits) (reading : Reading) (first : World) (old new : OwnedS
     at_none : SlotGoesOn limits.own_sessions limits reading old new streams streams' (get_or slots key None) x ended
     at_none = subst (λ (o : Option Client). SlotGoesOn limits.own_sessions limits reading old new streams streams' o x ended) (get_or_default slots key d None lt) h
 
-    -- once the connection in a slot had its turns and its end was reported, what happened so far is what happened
-    -- before, followed by these turns
+    -- once the connection in a slot had its turns and its end was reported, what happened so far is
+    -- what happened before, followed by these turns
     pub slot_goes_on : Reports reported reported' ended → ServedSoFar limits reading first (at_now new streams' reported') accepted (set slots key x)
     slot_goes_on t = goes_on ended t at_none
 
@@ -748,7 +750,8 @@ none_served limits reading state owners streams reported accepted slots none zer
   none_closed = λ n h. refl;
 }
 
--- if as many were accepted as were asked for and no slot has a client, each was reported as ended, once
+-- if as many were accepted as were asked for and no slot has a client, each was reported as ended,
+-- once
 pub all_reported : (limits : Limits) (reading : Reading) (first : World) (now : Now) (accepted : ℕ) (slots : List (Option Client)) → is_done limits accepted slots ≡ true
     → (s : ServedSoFar limits reading first now accepted slots) → EachIsReported limits.connections s.so_far.ends
 all_reported limits reading first now accepted slots done s n some le =

@@ -11,7 +11,8 @@ use Rattle.compose_hub.specs.declared.client.Client.{Client}
 use Rattle.compose_hub.specs.declared.client.Limits.{Limits}
 use Rattle.compose_hub.specs.declared.server.Queue.{Queue}
 
--- there was an attempt, or not yet: then all that is known is as before, and the first slots are not free
+-- there was an attempt, or not yet: then all that is known is as before, and the first slots are
+-- not free
 pub record NotYet (before now : Option ℕ) (was is : Queue) (had has : ℕ) (count : ℕ) (slots : List (Option Client)) : Type 0 where
   pub attempts : now ≡ before
   pub queue : is ≡ was

@@ -25,7 +25,8 @@ none_after : (es fs : List Event) → es ++ fs ≡ [] → fs ≡ []
 none_after [] fs none = none
 none_after (e ∷ es) fs none = absurd (cc)
 
--- this number of turns, after each of which the connection goes on, and in which no load was answered
+-- this number of turns, after each of which the connection goes on, and in which no load was
+-- answered
 pub record WentOn (turns unsent : ℕ) (reading : Reading) (old new : OwnedService) (number : ℕ) (streams streams' : ℕ → StreamState) (before now : ConnectionState) : Type 0 where
   pub events : List Event
   pub are : AreTurns unsent reading old.service new.service number streams streams' before now events

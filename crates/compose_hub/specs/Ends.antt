@@ -22,9 +22,9 @@ reported_more (Some ends) more = Some (ends ++ more)
 abbrev pub max_held : ℕ
 max_held = 65536
 
--- a connection in this state, on this stream, can have ended this way: as a turn ends it, so if that is a failed read
--- or write, then the stream is marked as failed; or it held much of a load that didn't come; or it was idle, if there
--- is a limit on that
+-- a connection in this state, on this stream, can have ended this way: as a turn ends it, so if
+-- that is a failed read or write, then the stream is marked as failed; or it held much of a load
+-- that didn't come; or it was idle, if there is a limit on that
 abbrev pub HasEnded : Limits → ConnectionEnd → StreamState → ConnectionState → Type 0
 HasEnded limits (Served end) stream state = EndsAs end stream.left (is_failed stream.read_mark) (is_failed stream.write_mark) state
 HasEnded limits Stalled stream state = max_held ≤ length state.held

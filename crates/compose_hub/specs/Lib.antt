@@ -1,8 +1,11 @@
 pub mod Sockets
+pub mod Waits
 pub mod Ends
 pub mod Slots
 pub mod Turns
 pub mod Serving
 pub mod Rounds
 pub mod Round
+pub mod Loop
 pub mod Polled
+pub mod Calls

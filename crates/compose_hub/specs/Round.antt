@@ -11,23 +11,24 @@ use Rattle.compose_hub.specs.declared.client.Limits.{Limits}
 use Rattle.compose_hub.specs.declared.ends.ConnectionEnd.{ConnectionEnd}
 use Rattle.compose_hub.specs.declared.sockets.Ready.{Ready}
 
--- each slot takes this step, one after another, and nothing else happens: neither to the service and the owners of its
--- sessions, nor to a stream, nor to the reported ends
+-- each slot takes this step, one after another, and nothing else happens: neither to the service
+-- and the owners of its sessions, nor to a stream, nor to the reported ends
 abbrev pub EachSlot : (Now → Now → Option Client → Option Client → Type 0) → Now → Now → List (Option Client) → List (Option Client) → Type 0
 EachSlot step old new [] [] = new ≡ old
 EachSlot step old new (before ∷ slots) (now ∷ slots') = (mid : Now) × step old mid before now × EachSlot step mid new slots slots'
 EachSlot step old new _ _ = ⊥
 
--- the connection in a slot has its turns if its turn is next, and otherwise nothing happens. If it ended, that is
--- reported, and its sessions are closed if they end with it. From now on it waits since this time or a later one
+-- the connection in a slot has its turns if its turn is next, and otherwise nothing happens. If it
+-- ended, that is reported, and its sessions are closed if they end with it. From now on it waits
+-- since this time or a later one
 abbrev pub TakesTurns : Limits → Reading → ℕ → Now → Now → Option Client → Option Client → Type 0
 TakesTurns limits reading earliest old new before now =
     (ended : Option (ℕ × ConnectionEnd)) × (time : ℕ) × (turned : OwnedService) × (earliest ≤ time)
     × SlotTurnsAs limits.unsent time reading old.state turned old.streams new.streams before now ended
     × ClosesAfter ended limits.own_sessions reading turned new.state × (new.reported ≡ reported_end old.reported ended)
 
--- the connection in a slot is ended if there is a cause, and otherwise nothing happens. If it ended, that is reported,
--- and its sessions are closed if they end with it
+-- the connection in a slot is ended if there is a cause, and otherwise nothing happens. If it
+-- ended, that is reported, and its sessions are closed if they end with it
 abbrev pub GivesUp : Limits → Bool → ℕ → Reading → Now → Now → Option Client → Option Client → Type 0
 GivesUp limits short time reading old new before now =
     (ended : Option (ℕ × ConnectionEnd)) × SlotGivesUp limits.idle short time old.streams new.streams before now ended
@@ -48,8 +49,8 @@ pub record SharesRoom (time : ℕ) (before now : List (Option Client)) : Type 0 
       (waits_for_room now ≡ false)
       ⊎ (count_by slot_waits_for_room now + (max_rooms - count_by slot_uses_room before) ≡ count_by slot_waits_for_room before)
 
--- a round after a wait that reported these sources as ready, and in which this much time passed; it begins and ends
--- with these slots, at these times. Nothing else happens in it
+-- a round after a wait that reported these sources as ready, and in which this much time passed; it
+-- begins and ends with these slots, at these times. Nothing else happens in it
 pub record IsRound (limits : Limits) (reading : Reading) (ready : List Ready) (passed : ℕ) (old new : Now) (time time' : ℕ) (slots slots' : List (Option Client)) : Type 0 where
   -- whoever was reported as ready and waited for its stream has its turn next,
   pub marked : List (Option Client)

@@ -54,7 +54,8 @@ abbrev pub is_failed_queue : Queue → Bool
 is_failed_queue Failed = true
 is_failed_queue _ = false
 
--- a further connection is accepted into a free slot: one may wait, and fewer were accepted than are asked for
+-- a further connection is accepted into a free slot: one may wait, and fewer were accepted than are
+-- asked for
 abbrev pub is_wanted : Queue → ℕ → Limits → Bool
 is_wanted queue accepted limits = is_waits queue && nat_lt accepted limits.connections
 
@@ -64,7 +65,8 @@ lesser least key None = least
 lesser None key (Some n) = Some (key, n)
 lesser (Some w) key (Some n) = if nat_lt n w.1 then Some (key, n) else Some w
 
--- this is the least number that one of the first slots has, with its slot; or none of them has a number
+-- this is the least number that one of the first slots has, with its slot; or none of them has a
+-- number
 abbrev pub LeastTo : (Option Client → Option ℕ) → List (Option Client) → ℕ → Option (ℕ × ℕ) → Type 0
 LeastTo of slots count None = (j : ℕ) → j < count → of (get_or slots j None) ≡ None
 LeastTo of slots count (Some w) = (w.0 < count) × (of (get_or slots w.0 None) ≡ Some w.1) × ((j n : ℕ) → j < count → of (get_or slots j None) ≡ Some n → w.1 ≤ n)
@@ -93,9 +95,9 @@ sooner None wait = wait
 sooner wait None = wait
 sooner (Some m) (Some n) = Some (if nat_lt n m then n else m)
 
--- the maximum wait in nanoseconds, apart from connections that become idle: 0 if a connection has its turn or one may
--- be accepted into a slot; a second if none could be accepted, a connection waits for room, or an end could not be
--- reported; otherwise no limit
+-- the maximum wait in nanoseconds, apart from connections that become idle: 0 if a connection has
+-- its turn or one may be accepted into a slot; a second if none could be accepted, a connection
+-- waits for room, or an end could not be reported; otherwise no limit
 abbrev pub wait_for_work : Queue → Bool → Bool → Bool → Option ℕ
 wait_for_work queue slot turns waits = if turns || (is_waits queue && slot) then Some 0 else if is_failed_queue queue || waits then Some 1000000000 else None
 
@@ -125,7 +127,8 @@ is_key key (Key k) = k == key
 abbrev pub queue_with : List Ready → Queue → Queue
 queue_with ready queue = if list_any is_listener ready then Waits else queue
 
--- each client whose stream is ready has its next turn if it waits for its stream, and nothing else changes
+-- each client whose stream is ready has its next turn if it waits for its stream, and nothing else
+-- changes
 abbrev pub MarksReady : List Ready → List (Option Client) → List (Option Client) → Type 0
 MarksReady ready before now = (key : ℕ) → get_or now key None ≡ (let slot = get_or before key None in if list_any (is_key key) ready then given_turn slot else slot)
 

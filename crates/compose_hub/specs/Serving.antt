@@ -34,11 +34,12 @@ world service streams reported = record { service = service; streams = streams; 
 abbrev pub AreNumberedTo : ℕ → List NumberedEvent → Type 0
 AreNumberedTo last all = AllByRecursion (λ (e : NumberedEvent). (0 < e.connection) × (e.connection ≤ last)) all
 
--- everything that happened, in order, each event with the number of its connection. All connections were new, and the
--- service goes on by the exchanges of all of them. The bytes that were read from a stream and written to it are those
--- that came and were sent in the events of its own connection. Each connection that was reported as ended has ended in
--- that way, and its sessions with it if they end with their connection. No session was closed for any other connection,
--- except for one whose end could not be reported
+-- everything that happened, in order, each event with the number of its connection. All connections
+-- were new, and the service goes on by the exchanges of all of them. The bytes that were read from
+-- a stream and written to it are those that came and were sent in the events of its own connection.
+-- Each connection that was reported as ended has ended in that way, and its sessions with it if
+-- they end with their connection. No session was closed for any other connection, except for one
+-- whose end could not be reported
 pub record ServesMany (limits : Limits) (reading : Reading) (first now : World) : Type 0 where
   pub all : List NumberedEvent
   pub after : ℕ → ConnectionState
@@ -76,8 +77,8 @@ SlotIsStill (Some c) now = (d : Client) × (now ≡ Some d) × IsStill c d
 abbrev pub AllAreStill : List (Option Client) → List (Option Client) → Type 0
 AllAreStill before now = (key : ℕ) → SlotIsStill (get_or before key None) (get_or now key None)
 
--- a slot once the next connection was accepted into it, if one could be; the numbers of accepted connections, before
--- and after
+-- a slot once the next connection was accepted into it, if one could be; the numbers of accepted
+-- connections, before and after
 abbrev pub AcceptsAs : ℕ → ℕ → Option Client → Option Client → Type 0
 AcceptsAs accepted accepted' before now = ((accepted' ≡ accepted) × (now ≡ before)) ⊎ ((accepted' ≡ accepted + 1) × StandsAs accepted' new_connection now)
 
@@ -95,22 +96,23 @@ abbrev pub GoesOnOrEnds : Limits → Client → ConnectionState → StreamState 
 GoesOnOrEnds limits c after stream now None = StandsAs c.number after now
 GoesOnOrEnds limits c after stream now (Some reported) = (now ≡ None) × (reported.0 ≡ c.number) × HasEnded limits reported.1 stream after
 
--- if the connection with this number ended and sessions end with it, a Close was answered for each of its sessions
--- after its last request; otherwise no session was closed without a request
+-- if the connection with this number ended and sessions end with it, a Close was answered for each
+-- of its sessions after its last request; otherwise no session was closed without a request
 abbrev pub ClosesLast : Option (ℕ × ConnectionEnd) → Bool → ℕ → List Owner → List Event → Type 0
 ClosesLast (Some e) true number owners events =
     (before : List Event) × (h : List Exchange) × (events ≡ before ++ map closes h) × (closings before ≡ []) × ClosesOwn number (owners_by number owners (exchanges before)) h
 ClosesLast (Some e) false number owners events = closings events ≡ []
 ClosesLast None own number owners events = closings events ≡ []
 
--- a Close is answered for each session of a connection that ended, if sessions end with it; otherwise nothing happens
+-- a Close is answered for each session of a connection that ended, if sessions end with it;
+-- otherwise nothing happens
 abbrev pub ClosesAfter : Option (ℕ × ConnectionEnd) → Bool → Reading → OwnedService → OwnedService → Type 0
 ClosesAfter (Some e) true reading old new = SessionsCloseAs e.0 old.owners new.owners reading old.service new.service
 ClosesAfter (Some e) false reading old new = new ≡ old
 ClosesAfter None own reading old new = new ≡ old
 
--- the client in a slot has had turns, which are events of its connection, or nothing happened. If it ended, its end is
--- the result, and its sessions are closed if they end with it
+-- the client in a slot has had turns, which are events of its connection, or nothing happened. If
+-- it ended, its end is the result, and its sessions are closed if they end with it
 abbrev pub SlotGoesOn : Bool → Limits → Reading → OwnedService → OwnedService → (ℕ → StreamState) → (ℕ → StreamState) → Option Client → Option Client → Option (ℕ × ConnectionEnd) → Type 0
 SlotGoesOn own limits reading old new streams streams' before now ended =
     ((new ≡ old) × AllStay streams streams' × (now ≡ before) × (ended ≡ None))
@@ -124,19 +126,20 @@ waits_after Waits = ForStream
 waits_after NeedsRoom = ForRoom
 waits_after _ = ForTurn
 
--- the slot of a connection after its turns: the connection goes on as they leave it, and waits from this time on for
--- what the last one demands; or it ended, and its end is the result
+-- the slot of a connection after its turns: the connection goes on as they leave it, and waits from
+-- this time on for what the last one demands; or it ended, and its end is the result
 abbrev pub SlotFollows : Turn → ℕ → Client → ConnectionState → Option Client → Option (ℕ × ConnectionEnd) → Type 0
 SlotFollows (Ends end) time c state now ended = (now ≡ None) × (ended ≡ Some (c.number, Served end))
 SlotFollows turn time c state now ended = (ended ≡ None) × StandsAs c.number state now × WaitsSince (waits_after turn) time now
 
--- the stream of a connection is closed if the connection ended, and is then still marked as failed if it was; otherwise
--- all streams stay
+-- the stream of a connection is closed if the connection ended, and is then still marked as failed
+-- if it was; otherwise all streams stay
 abbrev pub ClosesAs : Turn → ℕ → (ℕ → StreamState) → (ℕ → StreamState) → Type 0
 ClosesAs (Ends end) number streams streams' = KeepsBytes number streams streams' × StaysFailed (streams number) (streams' number)
 ClosesAs _ number streams streams' = AllStay streams streams'
 
--- the client in a slot has had its turns, if its turn was next, and otherwise nothing happened; this is the time then
+-- the client in a slot has had its turns, if its turn was next, and otherwise nothing happened;
+-- this is the time then
 abbrev pub SlotTurnsAs : ℕ → ℕ → Reading → OwnedService → OwnedService → (ℕ → StreamState) → (ℕ → StreamState) → Option Client → Option Client → Option (ℕ × ConnectionEnd) → Type 0
 SlotTurnsAs unsent time reading old new streams streams' before now ended =
     ((new ≡ old) × AllStay streams streams' × (now ≡ before) × (ended ≡ None) × (slot_has_turn before ≡ false))
@@ -157,7 +160,8 @@ HasNone slots = (key : ℕ) → get_or slots key None ≡ None
 abbrev pub IsServed : List (Option Client) → ℕ → Type 0
 IsServed slots n = (key : ℕ) × (c : Client) × IsIn slots key c × (c.number ≡ n)
 
--- the service with the owners of its sessions, the streams of all connections, and the ends that were reported
+-- the service with the owners of its sessions, the streams of all connections, and the ends that
+-- were reported
 pub record Now : Type 0 where
   pub state : OwnedService
   pub streams : ℕ → StreamState
@@ -169,9 +173,10 @@ at_now state streams reported = record { state = state; streams = streams; repor
 abbrev pub world_now : Now → World
 world_now now = world now.state.service now.streams now.reported
 
--- what happened since the first connection was accepted: each connection in a slot is as its events left it; no two
--- have the same number; this number was accepted; each of these is served, or was reported as ended once; the sessions
--- have their owners; and no session was closed for a connection that was not reported as ended
+-- what happened since the first connection was accepted: each connection in a slot is as its events
+-- left it; no two have the same number; this number was accepted; each of these is served, or was
+-- reported as ended once; the sessions have their owners; and no session was closed for a
+-- connection that was not reported as ended
 pub record ServedSoFar (limits : Limits) (reading : Reading) (first : World) (now : Now) (accepted : ℕ) (slots : List (Option Client)) : Type 0 where
   pub so_far : ServesMany limits reading first (world_now now)
   pub within : accepted ≤ limits.connections

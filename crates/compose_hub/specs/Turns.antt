@@ -25,18 +25,19 @@ owned service owners = record { service = service; owners = owners }
 abbrev pub max_turns : ℕ
 max_turns = 4
 
--- the state of a connection after these events: as they leave it; unless it ends, and then they leave it in a state
--- that can end this way
+-- the state of a connection after these events: as they leave it; unless it ends, and then they
+-- leave it in a state that can end this way
 abbrev pub LeavesAs : Turn → ConnectionState → ConnectionState → StreamState → Type 0
 LeavesAs (Ends end) after now stream = EndsAs end stream.left (is_failed stream.read_mark) (is_failed stream.write_mark) after
 LeavesAs _ after now stream = now ≡ after
 
--- the stream takes none of the unsent bytes for now, or has no bytes while there is nothing else to do
+-- the stream takes none of the unsent bytes for now, or has no bytes while there is nothing else to
+-- do
 abbrev pub IsWaiting : ConnectionState → StreamState → Type 0
 IsWaiting now stream = ((stream.write_mark ≡ Some WouldBlock) × (now.unsent ≢ [])) ⊎ ((stream.read_mark ≡ Some WouldBlock) × IsIdle now)
 
--- a turn was taken: if the connection goes on, something happened on it; if it waits, its stream makes it wait; and if
--- it needs room, it holds as much as it may, and there is nothing else to do
+-- a turn was taken: if the connection goes on, something happened on it; if it waits, its stream
+-- makes it wait; and if it needs room, it holds as much as it may, and there is nothing else to do
 abbrev pub WasHad : Turn → List Event → ConnectionState → StreamState → Type 0
 WasHad GoesOn events after stream = events ≢ []
 WasHad Loaded events after stream = events ≢ []
@@ -44,15 +45,15 @@ WasHad Waits events after stream = IsWaiting after stream
 WasHad NeedsRoom events after stream = (max_held ≤ length after.held) × IsIdle after
 WasHad (Ends end) events after stream = ⊤
 
--- the bytes that these events read from the stream with this number and write to it are those that come and are sent in
--- them; the service goes on by their exchanges; and no other stream changes
+-- the bytes that these events read from the stream with this number and write to it are those that
+-- come and are sent in them; the service goes on by their exchanges; and no other stream changes
 pub record AreTurns (unsent : ℕ) (reading : Reading) (old new : ServiceState) (number : ℕ) (streams streams' : ℕ → StreamState) (before after : ConnectionState) (events : List Event) : Type 0 where
   pub turn : IsTurn (max unsent 1) reading old new before after (streams number).left (streams' number).left (streams number).written (streams' number).written events
   pub others : OthersStay number streams streams'
 
--- up to this number of turns of a connection are events of it, in which a bounded number of bytes comes. One load is
--- answered if the result is Loaded, and none otherwise; the last turn was taken; no session was closed without a
--- request; and a session that was opened is owned by the connection
+-- up to this number of turns of a connection are events of it, in which a bounded number of bytes
+-- comes. One load is answered if the result is Loaded, and none otherwise; the last turn was taken;
+-- no session was closed without a request; and a session that was opened is owned by the connection
 abbrev pub TurnsAs : ℕ → ℕ → Reading → Turn → OwnedService → OwnedService → ℕ → (ℕ → StreamState) → (ℕ → StreamState) → ConnectionState → ConnectionState → Type 0
 TurnsAs most unsent reading turn old new number streams streams' before now =
     (events : List Event) × (after : ConnectionState) × AreTurns unsent reading old.service new.service number streams streams' before after events

@@ -6,7 +6,7 @@ ghost use Rattle.compose_hub.specs.Turns.{max_turns, owned};
 ghost use Rattle.compose_hub.specs.Serving.{ClientTurnsAs};
 ghost use Rattle.compose_hub.specs.Slots.{uses_room, is_stalled, is_idle, idle_in, KeepsShare};
 
-use compose_many::{Connection, Owner, Streams, Turn, TurnLimits, turn_on};
+use compose_many::{Connection, Owners, Streams, Turn, TurnLimits, turn_on};
 use compose_serve::Responder;
 use std::alloc::Global;
 
@@ -168,13 +168,13 @@ impl Client {
         &mut self,
         streams: &mut N,
         service: &mut A,
-        owners: &mut Vec<Owner>,
+        owners: &mut Owners,
         alloc: Global,
         unsent: usize,
     ) -> Turn
         ensures turns { ClientTurnsAs max_turns unsent A.reading result
-            (owned (A.state service.old) owners.old.items)
-            (owned (A.state service.new) owners.new.items) (N.stream streams.old) (N.stream streams.new) self.old self.new }
+            (owned (A.state service.old) owners.old.list)
+            (owned (A.state service.new) owners.new.list) (N.stream streams.old) (N.stream streams.new) self.old self.new }
         ensures share { KeepsShare result self.old self.new }
         ensures waits { self.new.waits_for ≡ self.old.waits_for }
     {
@@ -192,13 +192,13 @@ impl Client {
         &mut self,
         streams: &mut N,
         service: &mut A,
-        owners: &mut Vec<Owner>,
+        owners: &mut Owners,
         alloc: Global,
         unsent: usize,
     ) -> Turn
         ensures turn { ClientTurnsAs 1 unsent A.reading result
-            (owned (A.state service.old) owners.old.items)
-            (owned (A.state service.new) owners.new.items) (N.stream streams.old) (N.stream streams.new) self.old self.new }
+            (owned (A.state service.old) owners.old.list)
+            (owned (A.state service.new) owners.new.list) (N.stream streams.old) (N.stream streams.new) self.old self.new }
         ensures share { KeepsShare result self.old self.new }
         ensures waits { self.new.waits_for ≡ self.old.waits_for }
     {

@@ -6,19 +6,20 @@ ghost use Rattle.compose_hub.specs.Sockets.{KeepsBytes, one_more, IsMore};
 ghost use Rattle.compose_hub.specs.Ends.{ReportedEnd};
 ghost use Rattle.compose_hub.specs.Turns.{OwnedService, owned};
 ghost use Rattle.compose_hub.specs.Serving.{world, at_now, ServesMany, ServesAll, HasServed, GoesOnServing, AcceptsAs, WaitsSince, AllAreStill, HasNone, SlotIsStill, SlotTurnsAs, ClosesAfter};
+ghost use Rattle.compose_hub.specs.Loop.{AllKeepOrAccept, IsLoop};
 ghost use Rattle.compose_hub.specs.Round.{EachSlot, TakesTurns, GivesUp, SharesRoom, AllAreKept, IsRound};
 ghost use Rattle.compose_hub.specs.Rounds.{queue_after, retried, is_waits, is_wanted, is_done, has_turns, waits_for_room, has_slot, later, wait_for_work, sooner, IsNextIdle, why_ended, SlotGivesUp, queue_with, MarksReady, KeepsRooms, KeepsRoom, is_room_short};
 ghost use Rattle.compose_hub.specs.Slots.{slot_uses_room, slot_has_room, given_turn, given_room, kept_room};
-ghost use Rattle.compose_hub.specs.Sockets.{AllStay};
+ghost use Rattle.compose_hub.specs.Sockets.{AllStay, BytesStay};
 ghost use Rattle.std.specs.Option.{option_map, is_none};
 ghost use Rattle.std.specs.List.{list_any, list_all};
 ghost use Rattle.std.specs.Duration.{as_nanos};
 
 use crate::client::{Client, Limits, WaitsFor};
 use crate::ends::{ConnectionEnd, EndReport, tell};
-use crate::sockets::{AcceptedStream, Ready, Sockets};
+use crate::sockets::{AcceptedStream, Readiness, Ready, Sockets};
 use crate::waits::{next_idle, sooner, waits_longest};
-use compose_many::{Owner, Turn, close_own};
+use compose_many::{Owners, Turn, close_own};
 use compose_serve::Responder;
 use std::alloc::Global;
 use std::io;
@@ -45,7 +46,7 @@ struct Server {
     accepted: u32,
     queue: Queue,
     /// The open sessions, each with the connection on which it was opened.
-    owners: Vec<Owner>,
+    owners: Owners,
     /// How long the server has been serving, in nanoseconds.
     time: u64,
 }
@@ -59,7 +60,13 @@ struct Server {
 /// those that were sent in them. The connections are numbered from 1, up to the number that was
 /// asked for. The laws `law_connections` and `law_streams` of `compose_many` apply to this list.
 /// Each connection that is reported as ended has ended in the reported way, and if the function
-/// returns `Ok`, each was reported once. Which connections are ready is not part of any contract.
+/// returns `Ok`, each was reported once.
+///
+/// What it does is one round for each wait, and nothing else: it accepts connections into free
+/// slots, waits, and takes the round after the wait. In it each connection that was reported as
+/// ready and waited for its stream has its turns, those that were idle for too long are ended, free
+/// room is given, and the time that passed is counted. Which connections are ready is what the
+/// waits report.
 ///
 /// If a connection can't be accepted for a cause that is not its own, such as too many open files,
 /// it is tried again after at most a second. A connection that is idle for longer than it may be is
@@ -69,13 +76,14 @@ struct Server {
 /// of the connection. No session that was opened on another connection is closed for it, whoever
 /// opened one with the same number before.
 ///
-/// Errors: an I/O error of waiting, of the memory for the slots, or of the report; `TimedOut` after
-/// 2^64 - 1 rounds.
+/// Errors: an I/O error of waiting, of the memory for the slots, or of the report, which breaks off
+/// its round; `TimedOut` after 2^64 - 1 rounds.
 ///
 /// It takes memory for as many slots as connections are served at once. A round costs O(slots)
 /// besides the turns in it.
-pub fn serve_at_once<N: Sockets, A: Responder, E: EndReport>(
+pub fn serve_at_once<N: Sockets, W: Readiness, A: Responder, E: EndReport>(
     sockets: &mut N,
+    readiness: &mut W,
     alloc: Global,
     service: &mut A,
     limits: Limits,
@@ -87,6 +95,9 @@ pub fn serve_at_once<N: Sockets, A: Responder, E: EndReport>(
     ensures all { OnOk result (ServesAll limits A.reading
         (world (A.state service.old) (N.stream sockets.old) (E.reported report.old))
         (world (A.state service.new) (N.stream sockets.new) (E.reported report.new))) }
+    ensures rounds { IsLoop limits A.reading (W.waits readiness.old) (W.waits readiness.new)
+        (world (A.state service.old) (N.stream sockets.old) (E.reported report.old))
+        (world (A.state service.new) (N.stream sockets.new) (E.reported report.new)) result }
 {
     let mut ready = Vec::new(alloc);
     let mut server = Server::new(alloc, limits.at_once)?;
@@ -96,9 +107,10 @@ pub fn serve_at_once<N: Sockets, A: Responder, E: EndReport>(
         if server.is_done(limits) {
             return Ok(());
         }
-        sockets.poll(server.longest_wait(limits, behind), &mut ready)?;
-        let passed = sockets.passed();
-        server.round(sockets, service, alloc, limits, report, &ready, passed)?;
+        let passed = readiness.wait(server.longest_wait(limits, behind), &mut ready)?;
+        server.round(
+            sockets, readiness, service, alloc, limits, report, &ready, passed,
+        )?;
     }
     Err(io::Error::from(io::ErrorKind::TimedOut))
 }
@@ -108,7 +120,7 @@ impl Server {
     fn new(alloc: Global, at_once: usize) -> io::Result<Server>
         ensures { IfOk result
             (λ server. (vec_len server.slots ≡ max at_once 1) × HasNone server.slots.items
-            × (server.accepted ≡ 0) × (server.owners.items ≡ [])) }
+            × (server.accepted ≡ 0) × (server.owners.list ≡ []) × (server.time ≡ 0)) }
     {
         let mut slots = Vec::new(alloc);
         'slots: for _ in 0..at_once.max(1) {
@@ -118,7 +130,7 @@ impl Server {
             slots,
             accepted: 0,
             queue: Queue::Waits,
-            owners: Vec::new(alloc),
+            owners: Owners::new(alloc),
             time: 0,
         })
     }
@@ -213,9 +225,10 @@ impl Server {
     ///
     /// Errors: an I/O error of the report; then the round is not taken to its end. O(slots), and
     /// what the turns cost.
-    fn round<N: Sockets, A: Responder, E: EndReport>(
+    fn round<N: Sockets, W: Readiness, A: Responder, E: EndReport>(
         &mut self,
         sockets: &mut N,
+        readiness: &mut W,
         service: &mut A,
         alloc: Global,
         limits: Limits,
@@ -224,29 +237,30 @@ impl Server {
         passed: Duration,
     ) -> io::Result<()>
         ensures happened { HasServed limits A.reading
-            (at_now (owned (A.state service.old) self.old.owners.items) (N.stream sockets.old)
+            (at_now (owned (A.state service.old) self.old.owners.list) (N.stream sockets.old)
             (E.reported report.old))
             (world (A.state service.new) (N.stream sockets.new) (E.reported report.new))
             self.old.accepted self.old.slots.items }
         ensures goes_on { OnOk result (GoesOnServing limits A.reading
-            (at_now (owned (A.state service.old) self.old.owners.items) (N.stream sockets.old)
+            (at_now (owned (A.state service.old) self.old.owners.list) (N.stream sockets.old)
             (E.reported report.old))
-            (at_now (owned (A.state service.new) self.new.owners.items) (N.stream sockets.new)
+            (at_now (owned (A.state service.new) self.new.owners.list) (N.stream sockets.new)
             (E.reported report.new))
             self.old.accepted self.new.accepted self.old.slots.items self.new.slots.items) }
         ensures round { OnOk result (IsRound limits A.reading ready.now (as_nanos passed)
-            (at_now (owned (A.state service.old) self.old.owners.items) (N.stream sockets.old)
+            (at_now (owned (A.state service.old) self.old.owners.list) (N.stream sockets.old)
             (E.reported report.old))
-            (at_now (owned (A.state service.new) self.new.owners.items) (N.stream sockets.new)
+            (at_now (owned (A.state service.new) self.new.owners.list) (N.stream sockets.new)
             (E.reported report.new))
             self.old.time self.new.time self.old.slots.items self.new.slots.items) }
         ensures queue { OnOk result (self.new.queue ≡ queue_with ready.now self.old.queue) }
         ensures rooms { KeepsRooms self.old.slots.items self.new.slots.items }
+        ensures waits { W.waits readiness.new ≡ W.waits readiness.old }
     {
         let began = self.time;
         self.count_time(passed);
         self.mark_ready(ready);
-        self.take_turns(sockets, service, alloc, limits, report)?;
+        self.take_turns(sockets, readiness, service, alloc, limits, report)?;
         self.give_up(sockets, service, alloc, limits, report, began)?;
         self.share_room();
         Ok(())
@@ -266,11 +280,14 @@ impl Server {
             → GoesOnServing limits reading (at_now state (N.stream sockets.old) reported)
             (at_now state (N.stream sockets.new) reported) self.old.accepted
             self.new.accepted self.old.slots.items self.new.slots.items }
-        ensures owners { self.new.owners.items ≡ self.old.owners.items }
+        ensures owners { self.new.owners.list ≡ self.old.owners.list }
         ensures rooms { KeepsRooms self.old.slots.items self.new.slots.items }
         ensures tries { is_waits (retried self.old.queue) ≡ true
             → has_slot limits self.old.accepted self.old.slots.items ≡ true
             → IsMore (N.attempts sockets.old) (N.attempts sockets.new) }
+        ensures bytes { BytesStay (N.stream sockets.old) (N.stream sockets.new) }
+        ensures time { self.new.time ≡ self.old.time }
+        ensures slots { AllKeepOrAccept self.old.time self.old.slots.items self.new.slots.items }
     {
         self.queue = retried(self.queue);
         'slots: for (key, slot) in self.slots.iter_mut().enumerate() {
@@ -286,7 +303,7 @@ impl Server {
     fn mark_ready(&mut self, ready: &[Ready])
         ensures still { (self.new.accepted ≡ self.old.accepted)
             × AllAreStill self.old.slots.items self.new.slots.items }
-        ensures owners { self.new.owners.items ≡ self.old.owners.items }
+        ensures owners { self.new.owners.list ≡ self.old.owners.list }
         ensures time { self.new.time ≡ self.old.time }
         ensures queue { self.new.queue ≡ queue_with ready.now self.old.queue }
         ensures marks { MarksReady ready.now self.old.slots.items self.new.slots.items }
@@ -302,7 +319,7 @@ impl Server {
     fn mark(&mut self, source: Ready)
         ensures still { (self.new.accepted ≡ self.old.accepted)
             × AllAreStill self.old.slots.items self.new.slots.items }
-        ensures owners { self.new.owners.items ≡ self.old.owners.items }
+        ensures owners { self.new.owners.list ≡ self.old.owners.list }
         ensures time { self.new.time ≡ self.old.time }
         ensures queue { self.new.queue ≡ queue_with (source ∷ []) self.old.queue }
         ensures marks { MarksReady (source ∷ []) self.old.slots.items self.new.slots.items }
@@ -318,39 +335,42 @@ impl Server {
     }
 
     /// Takes the turns of all connections whose turn is next, in the order of their slots.
-    fn take_turns<N: Sockets, A: Responder, E: EndReport>(
+    fn take_turns<N: Sockets, W: Readiness, A: Responder, E: EndReport>(
         &mut self,
         sockets: &mut N,
+        readiness: &mut W,
         service: &mut A,
         alloc: Global,
         limits: Limits,
         report: &mut E,
     ) -> io::Result<()>
         ensures happened { HasServed limits A.reading
-            (at_now (owned (A.state service.old) self.old.owners.items) (N.stream sockets.old)
+            (at_now (owned (A.state service.old) self.old.owners.list) (N.stream sockets.old)
             (E.reported report.old))
             (world (A.state service.new) (N.stream sockets.new) (E.reported report.new))
             self.old.accepted self.old.slots.items }
         ensures goes_on { OnOk result (GoesOnServing limits A.reading
-            (at_now (owned (A.state service.old) self.old.owners.items) (N.stream sockets.old)
+            (at_now (owned (A.state service.old) self.old.owners.list) (N.stream sockets.old)
             (E.reported report.old))
-            (at_now (owned (A.state service.new) self.new.owners.items) (N.stream sockets.new)
+            (at_now (owned (A.state service.new) self.new.owners.list) (N.stream sockets.new)
             (E.reported report.new))
             self.old.accepted self.new.accepted self.old.slots.items self.new.slots.items) }
         ensures turns { OnOk result (EachSlot (TakesTurns limits A.reading self.old.time)
-            (at_now (owned (A.state service.old) self.old.owners.items) (N.stream sockets.old)
+            (at_now (owned (A.state service.old) self.old.owners.list) (N.stream sockets.old)
             (E.reported report.old))
-            (at_now (owned (A.state service.new) self.new.owners.items) (N.stream sockets.new)
+            (at_now (owned (A.state service.new) self.new.owners.list) (N.stream sockets.new)
             (E.reported report.new))
             self.old.slots.items self.new.slots.items) }
         ensures later { self.old.time ≤ self.new.time }
         ensures queue { self.new.queue ≡ self.old.queue }
         ensures rooms { KeepsRooms self.old.slots.items self.new.slots.items }
+        ensures waits { W.waits readiness.new ≡ W.waits readiness.old }
     {
         'slots: for slot in self.slots.iter_mut() {
             let ended = serve_slot(
                 slot,
                 sockets,
+                readiness,
                 service,
                 &mut self.owners,
                 alloc,
@@ -367,7 +387,7 @@ impl Server {
     fn give_back_rooms(&mut self)
         ensures accepted { self.new.accepted ≡ self.old.accepted }
         ensures still { AllAreStill self.old.slots.items self.new.slots.items }
-        ensures owners { self.new.owners.items ≡ self.old.owners.items }
+        ensures owners { self.new.owners.list ≡ self.old.owners.list }
         ensures time { (self.new.time ≡ self.old.time) × (self.new.queue ≡ self.old.queue) }
         ensures rooms { KeepsRooms self.old.slots.items self.new.slots.items }
         ensures used { count_by slot_has_room self.new.slots.items ≡ count_by slot_uses_room self.new.slots.items }
@@ -383,7 +403,7 @@ impl Server {
     fn share_room(&mut self)
         ensures still { (self.new.accepted ≡ self.old.accepted)
             × AllAreStill self.old.slots.items self.new.slots.items }
-        ensures owners { self.new.owners.items ≡ self.old.owners.items }
+        ensures owners { self.new.owners.list ≡ self.old.owners.list }
         ensures time { (self.new.time ≡ self.old.time) × (self.new.queue ≡ self.old.queue) }
         ensures shared { SharesRoom self.old.time self.old.slots.items self.new.slots.items }
         ensures rooms { KeepsRooms self.old.slots.items self.new.slots.items }
@@ -403,7 +423,7 @@ impl Server {
         requires { key < length self.old.slots.items }
         ensures still { (self.new.accepted ≡ self.old.accepted)
             × AllAreStill self.old.slots.items self.new.slots.items }
-        ensures owners { self.new.owners.items ≡ self.old.owners.items }
+        ensures owners { self.new.owners.list ≡ self.old.owners.list }
         ensures time { (self.new.time ≡ self.old.time) × (self.new.queue ≡ self.old.queue) }
         ensures given { self.new.slots.items ≡ slice_set self.old.slots.items key
             (given_room self.old.time (get_or self.old.slots.items key None)) }
@@ -426,20 +446,20 @@ impl Server {
         time: u64,
     ) -> io::Result<()>
         ensures happened { HasServed limits A.reading
-            (at_now (owned (A.state service.old) self.old.owners.items) (N.stream sockets.old)
+            (at_now (owned (A.state service.old) self.old.owners.list) (N.stream sockets.old)
             (E.reported report.old))
             (world (A.state service.new) (N.stream sockets.new) (E.reported report.new))
             self.old.accepted self.old.slots.items }
         ensures goes_on { OnOk result (GoesOnServing limits A.reading
-            (at_now (owned (A.state service.old) self.old.owners.items) (N.stream sockets.old)
+            (at_now (owned (A.state service.old) self.old.owners.list) (N.stream sockets.old)
             (E.reported report.old))
-            (at_now (owned (A.state service.new) self.new.owners.items) (N.stream sockets.new)
+            (at_now (owned (A.state service.new) self.new.owners.list) (N.stream sockets.new)
             (E.reported report.new))
             self.old.accepted self.new.accepted self.old.slots.items self.new.slots.items) }
         ensures ends { OnOk result (EachSlot (GivesUp limits (is_room_short self.old.slots.items) time A.reading)
-            (at_now (owned (A.state service.old) self.old.owners.items) (N.stream sockets.old)
+            (at_now (owned (A.state service.old) self.old.owners.list) (N.stream sockets.old)
             (E.reported report.old))
-            (at_now (owned (A.state service.new) self.new.owners.items) (N.stream sockets.new)
+            (at_now (owned (A.state service.new) self.new.owners.list) (N.stream sockets.new)
             (E.reported report.new))
             self.old.slots.items self.new.slots.items) }
         ensures time { (self.new.time ≡ self.old.time) × (self.new.queue ≡ self.old.queue) }
@@ -578,20 +598,22 @@ fn accept_into<N: Sockets>(
 
 /// Takes the turns of the connection in this slot, if its turn is next. If the connection ended,
 /// returns its number and how it ended.
-fn serve_slot<N: Sockets, A: Responder>(
+fn serve_slot<N: Sockets, W: Readiness, A: Responder>(
     slot: &mut Option<Client>,
     sockets: &mut N,
+    readiness: &mut W,
     service: &mut A,
-    owners: &mut Vec<Owner>,
+    owners: &mut Owners,
     alloc: Global,
     unsent: usize,
     time: &mut u64,
 ) -> Option<(u32, ConnectionEnd)>
     ensures turns { SlotTurnsAs unsent time.new A.reading
-        (owned (A.state service.old) owners.old.items)
-        (owned (A.state service.new) owners.new.items) (N.stream sockets.old) (N.stream sockets.new) slot.old slot.new result }
+        (owned (A.state service.old) owners.old.list)
+        (owned (A.state service.new) owners.new.list) (N.stream sockets.old) (N.stream sockets.new) slot.old slot.new result }
     ensures room { KeepsRoom slot.old slot.new }
     ensures later { time.old ≤ time.new }
+    ensures waits { W.waits readiness.new ≡ W.waits readiness.old }
 {
     let Some(client) = slot else {
         return None;
@@ -601,10 +623,10 @@ fn serve_slot<N: Sockets, A: Responder>(
     }
     let number = client.number();
     match client.take_turns(sockets, service, owners, alloc, unsent) {
-        Turn::GoesOn => pause(client, WaitsFor::Turn, sockets, time),
-        Turn::Loaded => pause(client, WaitsFor::Turn, sockets, time),
-        Turn::Waits => pause(client, WaitsFor::Stream, sockets, time),
-        Turn::NeedsRoom => pause(client, WaitsFor::Room, sockets, time),
+        Turn::GoesOn => pause(client, WaitsFor::Turn, readiness, time),
+        Turn::Loaded => pause(client, WaitsFor::Turn, readiness, time),
+        Turn::Waits => pause(client, WaitsFor::Stream, readiness, time),
+        Turn::NeedsRoom => pause(client, WaitsFor::Room, readiness, time),
         Turn::Ends(how) => {
             *slot = None;
             sockets.close(u64::from(number));
@@ -619,12 +641,12 @@ fn close_sessions<A: Responder>(
     ended: Option<(u32, ConnectionEnd)>,
     own_sessions: bool,
     service: &mut A,
-    owners: &mut Vec<Owner>,
+    owners: &mut Owners,
     alloc: Global,
 )
     ensures { ClosesAfter ended own_sessions A.reading
-        (owned (A.state service.old) owners.old.items)
-        (owned (A.state service.new) owners.new.items) }
+        (owned (A.state service.old) owners.old.list)
+        (owned (A.state service.new) owners.new.list) }
 {
     let Some((number, _)) = ended else {
         return;
@@ -636,18 +658,18 @@ fn close_sessions<A: Responder>(
 
 /// Makes the client wait for this, from the time that it is now. Its connection has not ended, so
 /// the result is `None`.
-fn pause<N: Sockets>(
+fn pause<W: Readiness>(
     client: &mut Client,
     waits_for: WaitsFor,
-    sockets: &mut N,
+    readiness: &mut W,
     time: &mut u64,
 ) -> Option<(u32, ConnectionEnd)>
     ensures waits { client.new ≡ record client.old { waits_for = waits_for; since = time.new } }
-    ensures stay { AllStay (N.stream sockets.old) (N.stream sockets.new) }
+    ensures none_ended { W.waits readiness.new ≡ W.waits readiness.old }
     ensures later { time.old ≤ time.new }
     ensures none { result ≡ None }
 {
-    *time = later(*time, sockets.passed());
+    *time = later(*time, readiness.passed());
     client.wait(waits_for, *time);
     None
 }

@@ -1,4 +1,5 @@
--- Each system has a table of the locale, or none; a table that is found without it is the one that is found with it.
+-- Each system has a table of the locale, or none; a table that is found without it is the one that
+-- is found with it.
 use Rattle.std.proofs.Common.{◌≡◌, ℕ, List, [], ◌∷◌, ◌++◌, Option, Some, None, refl, inl, inr}
 use Rattle.std.specs.Prelude.{option_copied, codes}
 use Rattle.compose_folder.specs.Content.{Entry, Content, File, Unreadable, held}

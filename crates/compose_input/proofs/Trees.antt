@@ -10,7 +10,8 @@ use Rattle.compose_manifest.specs.Outside.{outside_text}
 use Rattle.compose_input.specs.Search.{IsTree, IsNote}
 use Rattle.compose_input.specs.declared.places.Places.{Places}
 
--- the folder that was given is the tree, or else the one in which the path is that of a locale's table
+-- the folder that was given is the tree, or else the one in which the path is that of a locale's
+-- table
 pub is_tree : (given found : Option (Bor (List ℕ))) (tree : Bor (List ℕ)) (path : List ℕ) → Some tree ≡ option_or given found
     → MatchOption found ((tree : List ℕ) → ¬ (IsTableOf tree path)) (λ tree. IsTableOf tree.now path) → IsTree (option_copied given) path (Some tree.now)
 is_tree (Some g) found tree path e shows = ap option_copied e

@@ -1,5 +1,5 @@
--- Why an input of a command can't be read, by what the folder has (this project's profile). Memory may run out at any
--- time; nothing more is known then.
+-- Why an input of a command can't be read, by what the folder has (this project's profile). Memory
+-- may run out at any time; nothing more is known then.
 use Rattle.std.specs.Prelude.{◌≡◌, ◌⊎◌, ℕ, if◌then◌else◌, List, [], ◌∷◌, ◌++◌, Option, Some, None, Result, Err, MatchBool, bytes_eq, string_bytes, codes}
 use Rattle.std.specs.List.{cons_option}
 use Rattle.std.specs.declared.io.ErrorKind.{ErrorKind}
@@ -96,7 +96,8 @@ AreUnopened folder root paths unopened = ⊥
 abbrev pub tried_places : Option (List ℕ) → List ℕ → List ℕ → List (List ℕ)
 tried_places root from path = cons_option (below_root root path) (path ∷ (if bytes_eq (beside from path) path then [] else beside from path ∷ []))
 
--- the places at which the file of an include was searched for; none if the search ended for another reason
+-- the places at which the file of an include was searched for; none if the search ended for another
+-- reason
 abbrev pub places_of : Option (List ℕ) → FindFault → List (List ℕ)
 places_of root (finding.MissingFile from line path) = tried_places root (string_bytes from) (string_bytes path)
 places_of root fault = []

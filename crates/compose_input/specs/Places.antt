@@ -1,5 +1,5 @@
--- The folders of a system's tables (Compose(5): `%S`, `%L` and `%H`), and the table of its locale (XLocale's
--- `compose.dir` and `locale.alias`).
+-- The folders of a system's tables (Compose(5): `%S`, `%L` and `%H`), and the table of its locale
+-- (XLocale's `compose.dir` and `locale.alias`).
 use Rattle.std.specs.Prelude.{◌≡◌, ◌⊎◌, ℕ, List, [], ◌∷◌, ◌++◌, Option, Some, None, option_copied, codes}
 use Rattle.std.specs.List.{cons_option}
 use Rattle.std.specs.Option.{option_map}

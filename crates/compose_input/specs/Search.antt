@@ -11,8 +11,8 @@ use Rattle.compose_input.specs.Texts.{IsFound}
 use Rattle.compose_input.specs.Places.{words_with, IsLocaleTable}
 use Rattle.compose_input.specs.declared.places.Places.{Places}
 
--- what is opened for a path: a hyphen (code 45) is standard input if it was given as the root, and otherwise a file
--- name
+-- what is opened for a path: a hyphen (code 45) is standard input if it was given as the root, and
+-- otherwise a file name
 abbrev pub opened : List ℕ → List ℕ → List ℕ
 opened root path = if bytes_eq path (45 ∷ []) && not (bytes_eq root (45 ∷ [])) then codes "./-" else path
 
@@ -20,8 +20,8 @@ opened root path = if bytes_eq path (45 ∷ []) && not (bytes_eq root (45 ∷ []
 abbrev pub AreSearched : Option (List Entry) → List ℕ → List TriedFile → Type 0
 AreSearched folder root files = All (λ f. IsFound folder (opened root f.path) f.bytes) files
 
--- the sources are those that the search finds in what the folder has, and each has the bytes in which its includes were
--- found
+-- the sources are those that the search finds in what the folder has, and each has the bytes in
+-- which its includes were found
 pub record IsTable (folder : Option (List Entry)) (words : Words) (root : List ℕ) (table : FoundTable) : Type 0 where
   pub files : List TriedFile
   pub looked : AreSearched folder root files
@@ -36,7 +36,8 @@ pub record IsSystemTable (folder : Option (List Entry)) (places : Places) (path 
 
 -- ---- the notes on the places of the files
 
--- the tree of tables: the folder that was given, or else the one in which the path is that of a locale's table
+-- the tree of tables: the folder that was given, or else the one in which the path is that of a
+-- locale's table
 abbrev pub IsTree : Option (List ℕ) → List ℕ → Option (List ℕ) → Type 0
 IsTree (Some given) path tree = tree ≡ Some given
 IsTree None path (Some tree) = IsTableOf tree path

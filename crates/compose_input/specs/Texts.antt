@@ -1,5 +1,5 @@
--- What a command reads from a folder (this project's profile). If it is not known what the folder has, nothing is
--- stated.
+-- What a command reads from a folder (this project's profile). If it is not known what the folder
+-- has, nothing is stated.
 use Rattle.std.specs.Prelude.{◌≡◌, ℕ, if◌then◌else◌, List, [], ◌∷◌, Option, Some, None, Result, Ok, Err, string_bytes, codes, bytes_eq}
 use Rattle.std.specs.declared.alloc.Global.{Global}
 use Rattle.std.specs.declared.io.ErrorKind.{ErrorKind}
@@ -17,7 +17,8 @@ IsRead folder path (Err (faults.Unread unopened)) = (string_bytes unopened.path 
 IsRead folder path (Err faults.NoMemory) = Unit {0}
 IsRead folder path (Err fault) = ⊥
 
--- the fault that the file under the path can't be read, with the reason, unless memory ran out for reporting it
+-- the fault that the file under the path can't be read, with the reason, unless memory ran out for
+-- reporting it
 abbrev pub IsUnread : List ℕ → ErrorKind → Fault → Type 0
 IsUnread path kind (faults.Unread unopened) = (string_bytes unopened.path ≡ path) × (unopened.kind ≡ kind)
 IsUnread path kind faults.NoMemory = Unit {0}
@@ -39,7 +40,8 @@ IsRefused part expected (faults.Refused p text) = (p.now ≡ part) × (expected 
 IsRefused part expected faults.NoMemory = (error : AllocError) × (expected ≡ Err error)
 IsRefused part expected fault = ⊥
 
--- the fault that the socket at this path can't be used, with the reason, unless memory ran out for reporting it
+-- the fault that the socket at this path can't be used, with the reason, unless memory ran out for
+-- reporting it
 abbrev pub IsSocket : Result (String Global) AllocError → ErrorKind → Fault → Type 0
 IsSocket path kind (faults.Socket unopened) = (path ≡ Ok unopened.path) × (unopened.kind ≡ kind)
 IsSocket path kind faults.NoMemory = (error : AllocError) × (path ≡ Err error)

@@ -20,7 +20,8 @@ use Rattle.compose_keep.specs.Keeping.{Keeping, HasTable, IsServed, IsNext, MayB
 use Rattle.compose_keep.specs.Laws.{KeepsAll, fresh_at, fresh_of, Leaves, StaysServed, CutsLeave, Life, IsLife, all_fresh, LivesFollow, NextLoadGoesThrough}
 use Rattle.compose_keep.proofs.Steps.{all_so, frame, other_frame, nothing_more}
 
--- what is served and kept after a request, or after several: a table that follows, but for these keys
+-- what is served and kept after a request, or after several: a table that follows, but for these
+-- keys
 pub record Moved (old new : ServiceState) (k : Kept) (fresh : List ℕ) : Type 0 where
   pub served : HasTable new.names k new.table
   pub names : new.names ≡ old.names

@@ -27,7 +27,8 @@ HasTable names k table = (certificate : Certificate) × (reading k.rule names k.
 abbrev pub IsServed : Keeping → Type 0
 IsServed s = HasTable s.service.names s.kept s.service.table
 
--- the load of this body, as it is kept, if it was judged and found to follow the table that is served
+-- the load of this body, as it is kept, if it was judged and found to follow the table that is
+-- served
 abbrev pub IsNext : ServiceState → Body → Kept → Type 0
 IsNext s (load rule bytes) k = (table : List Definition) × (certificate : Certificate) × IsJudged s rule bytes table certificate × (k ≡ record { rule = rule; payload = bytes })
 IsNext s _ k = ⊥

@@ -27,8 +27,9 @@ abbrev pub fresh_of : KeysymNames → List Exchange → List ℕ
 fresh_of names [] = []
 fresh_of names (x ∷ h) = fresh_at names x.request.body x.reply.answer ++ fresh_of names h
 
--- at a cut a start finds k: what is kept, or a table that the service was about to take. It serves a table that follows
--- the one that was served, except for the fresh keysyms of that load, and the one of the start
+-- at a cut a start finds k: what is kept, or a table that the service was about to take. It serves
+-- a table that follows the one that was served, except for the fresh keysyms of that load, and the
+-- one of the start
 pub record Leaves (start mid : Keeping) (before : List ℕ) (k : Kept) : Type 0 where
   pub table : List Definition
   pub has : HasTable start.service.names k table
@@ -49,8 +50,9 @@ CutsLeave = (start mid new : Keeping) (h : List Exchange) (q : Request) (r : Rep
 
 -- ---- one service after another
 
--- a service: its start, the requests that it answered, its state when it is cut, the request that it was about to answer,
--- what the next start finds, and the fresh keysyms of the load that was cut off, if that is what it finds
+-- a service: its start, the requests that it answered, its state when it is cut, the request that
+-- it was about to answer, what the next start finds, and the fresh keysyms of the load that was cut
+-- off, if that is what it finds
 pub record Life : Type 0 where
   pub start : Keeping
   pub answered : List Exchange
@@ -84,7 +86,8 @@ LivesFollow = (names : KeysymNames) (k last : Kept) (ls : List Life) (table : Li
 
 -- ---- the next load
 
--- a load whose table follows the one that is served is refused for memory, or since it can't be kept, and for nothing else
+-- a load whose table follows the one that is served is refused for memory, or since it can't be
+-- kept, and for nothing else
 abbrev pub NextLoadGoesThrough : Type 0
 NextLoadGoesThrough = (old new : ServiceState) (n : ℕ) (rule : Rule) (bytes : List ℕ) (table : List Definition) (certificate : Certificate) (answer : ReplyBody)
     → reading rule old.names bytes ≡ parts table certificate → Accepts old table certificate → Answers reading old n (load rule bytes) answer new

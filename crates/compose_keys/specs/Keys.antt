@@ -4,8 +4,8 @@
 --   word = item { "," item } [ "," ] | ","           as `Multi_key,minus,greater`; a word of one byte is a key
 --   item = "<" key ">" { "<" key ">" } | key         as `<Multi_key><minus><greater>`
 --
--- A key is a name or a character; which keysym it has is another question. An empty key stays one, so that no
--- keysym is found for it.
+-- A key is a name or a character; which keysym it has is another question. An empty key stays one,
+-- so that no keysym is found for it.
 use Rattle.std.specs.Prelude.{ℕ, Bool, ◌-◌, ◌&&◌, ◌==◌, if◌then◌else◌, List, [], ◌∷◌, length, take, drop, map, flat_map}
 use Rattle.std.specs.List.{slice_index, slice_split}
 use Rattle.compose_keys.specs.Words.{words_in}

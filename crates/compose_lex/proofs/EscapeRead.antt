@@ -49,7 +49,8 @@ run_is_some p most rest h =
     (and_from (nat_lt 0 (length ds) && nat_le (length ds) most) (list_all p ds) (and_from (nat_lt 0 (length ds)) (nat_le (length ds) most) some few) (prefix_passes p (take most rest)))
     (run_ends p most rest)
 
--- so the code of a run is that of the digits that are read; no digits are the number 0, which does not stand for a byte
+-- so the code of a run is that of the digits that are read; no digits are the number 0, which does
+-- not stand for a byte
 run_code : (p : ℕ → Bool) (most radix : ℕ) (rest : List ℕ)
     → let ds = leading p (take most rest) in let after = drop (length ds) rest in cond (is_run p most ds after) (byte_of (digits_value radix ds)) None ≡ byte_of (digits_value radix ds)
 run_code p most radix rest = go (leading p (take most rest)) (drop (length (leading p (take most rest))) rest) (run_is_some p most rest)
@@ -71,8 +72,8 @@ prefix_taken p (suc m) (r ∷ rest) = go (p r) (prefix_taken p m rest)
 
 -- ---- codes
 
--- the byte that an escape stands for, after its backslash, the number of bytes that it takes, and its fault if it
--- stands for none
+-- the byte that an escape stands for, after its backslash, the number of bytes that it takes, and
+-- its fault if it stands for none
 pub record EscapeIs (at : ℕ) (rest : List ℕ) (byte : Option ℕ) (len : ℕ) (fault : LexFault) : Type 0 where
   pub stands : escape_byte rest ≡ byte
   pub takes : escape_len rest ≡ len

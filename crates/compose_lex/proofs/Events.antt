@@ -1,4 +1,5 @@
--- A loop that reads the events after the first one: the events so far come before those of the rest.
+-- A loop that reads the events after the first one: the events so far come before those of the
+-- rest.
 use Rattle.std.proofs.Common.{◌≡◌, ℕ, suc, zero, ◌+◌, ◌-◌, ◌<◌, ◌≤◌, List, [], ◌∷◌, ◌++◌, refl, sym, ◌∙◌, ap, arith}
 use Rattle.std.specs.Prelude.{Result, Ok, Err}
 use Rattle.std.proofs.lemmas.List.{append_assoc}

@@ -1,4 +1,5 @@
--- The name at the beginning of a line is the word `include` exactly if the line begins with that word.
+-- The name at the beginning of a line is the word `include` exactly if the line begins with that
+-- word.
 use Rattle.std.proofs.Common.{◌≡◌, ◌≢◌, ℕ, List, [], ◌∷◌, ◌++◌, drop, Bool, true, false, cond, not, refl, sym, ◌∙◌, ap}
 use Rattle.std.specs.Prelude.{nat_eq, codes}
 use Rattle.std.specs.List.{starts_with}

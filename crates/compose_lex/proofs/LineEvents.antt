@@ -20,8 +20,8 @@ use Rattle.compose_lex.proofs.LineStops.{Reached, reached_more, whole_before, op
 
 -- ---- the cause of an Err
 
--- if two steps one after the other fail, the first one failed, or it returned the value with which the second one
--- failed
+-- if two steps one after the other fail, the first one failed, or it returned the value with which
+-- the second one failed
 pub bind_fails : {A B P : Type 0} (r : Result A LexFault) (f : A → Result B LexFault) (y : LexFault) → (r >>= f) ≡ Err y → (r ≡ Err y → P) → ((x : A) → r ≡ Ok x → f x ≡ Err y → P) → P
 bind_fails (Ok x) f y e first then = then x refl e
 bind_fails {A} (Err e) f y h first then = let q : e ≡ y = cc in first (ap (λ x. let r : Result A LexFault = Err x in r) q)
@@ -76,7 +76,8 @@ name_whole n bytes name rest e =
       | inr x ↦ (let w = x.1 in cc)
     ]
 
--- if the rest does not begin with a byte of one class, it does not begin with one of a narrower class
+-- if the rest does not begin with a byte of one class, it does not begin with one of a narrower
+-- class
 pub may_not : (p q : ℕ → Bool) (rest : List ℕ) → ((b : ℕ) → p b ≡ false → q b ≡ false) → begins p rest ≡ false → begins q rest ≡ false
 may_not p q [] f h = refl
 may_not p q (b ∷ rest) f h = f b h

@@ -16,7 +16,8 @@ use Rattle.compose_lex.proofs.Runs.{parts_of, prefix_passes}
 
 -- ---- the cause of an Ok
 
--- if two steps one after the other succeed, the first one returned the value with which the second one succeeded
+-- if two steps one after the other succeed, the first one returned the value with which the second
+-- one succeeded
 pub bind_with : {A B P : Type 0} (r : Result A LexFault) (f : A → Result B LexFault) (y : B) → (r >>= f) ≡ Ok y → ((x : A) → r ≡ Ok x → f x ≡ Ok y → P) → P
 bind_with (Ok x) f y e k = k x refl e
 bind_with (Err e) f y h k = cc
@@ -69,7 +70,8 @@ byte_sound n wanted (b ∷ bytes) rest e = elim (chosen (b == wanted) (Ok bytes)
 prefix_some : (p : ℕ → Bool) (b : ℕ) (bytes : List ℕ) → p b ≡ true → 0 < length (leading p (b ∷ bytes))
 prefix_some p b bytes h = rw h (omega arith)
 
--- the bytes that are read by a test are at least one, all of them pass it, and the rest is what follows them
+-- the bytes that are read by a test are at least one, all of them pass it, and the rest is what
+-- follows them
 pub taken : (p : ℕ → Bool) (f : LexFault) (bytes name rest : List ℕ) → cond {A = Result (List ℕ × List ℕ) LexFault} (begins p bytes) (Ok (leading p bytes, behind p bytes)) (Err f) ≡ Ok (name, rest)
     → (bytes ≡ name ++ rest) × (0 < length name) × (list_all p name ≡ true)
 taken p f [] name rest e = cc
@@ -117,7 +119,8 @@ pub closed_sound : {A : Type 0} (f : LexFault) (o : Option A) (x : A) → closed
 closed_sound f None x e = cc
 closed_sound f (Some y) x e = cc
 
--- if a string is read after its opening quote, it is there and closed, and the rest is what follows it
+-- if a string is read after its opening quote, it is there and closed, and the rest is what follows
+-- it
 pub string_sound : (n : ℕ) (bytes raw rest : List ℕ) → string_at n bytes ≡ Ok (raw, rest) → (34 ∷ bytes ≡ quoted raw ++ rest) × (is_inside raw ≡ true)
 string_sound n bytes raw rest e =
     let r = inside_sound false bytes raw rest (closed_sound _ (inside_from false bytes) (raw, rest) e) in

@@ -1,4 +1,5 @@
--- How far a line was read: the tokens so far, with which some valid reading begins; and when no valid reading goes on.
+-- How far a line was read: the tokens so far, with which some valid reading begins; and when no
+-- valid reading goes on.
 use Rattle.std.proofs.Common.{◌≡◌, ℕ, ◌+◌, ◌-◌, ◌<◌, ◌≤◌, List, [], ◌∷◌, ◌++◌, length, Bool, true, false, cond, not, ◌&&◌, ◌||◌, refl, sym, ◌∙◌, ap, subst, arith, append_assoc, eqb-true}
 use Rattle.std.specs.Prelude.{◌==◌, Some, None, is_some, flat_map, codes}
 use Rattle.std.specs.List.{list_all}
@@ -19,8 +20,8 @@ use Rattle.compose_lex.proofs.Stages.{Stage, start, goes, step, on, walk, walk_a
 
 -- ---- lines read so far
 
--- these tokens are at the beginning of the line up to this rest, some valid reading begins with them, and they lead to
--- this stage
+-- these tokens are at the beginning of the line up to this rest, some valid reading begins with
+-- them, and they lead to this stage
 pub record Reached (line : List ℕ) (done : List (List ℕ)) (rest : List ℕ) (stage : Stage) : Type 0 where
   pub begun : BeginsWith done line rest
   pub right : AreFirst done
@@ -199,7 +200,8 @@ no_string_at done rest none g =
     empty [] e is = let some = is.first [] in cc
     empty (b ∷ t) e is = cc
 
--- a quote that is never closed, where a string may begin, is the line's fault, unless the reading may end there
+-- a quote that is never closed, where a string may begin, is the line's fault, unless the reading
+-- may end there
 pub unclosed : (line : List ℕ) (done : List (List ℕ)) (rest : List ℕ) (s : Stage) → Reached line done (34 ∷ rest) s → inside_from false rest ≡ None → (raw : List ℕ)
     → AreFirst (done ++ quoted raw ∷ []) → is_end s ≡ false
     → IsLineFault line (UnclosedString (length line - length (34 ∷ rest)))

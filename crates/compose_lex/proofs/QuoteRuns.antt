@@ -1,5 +1,5 @@
--- A loop that quotes a text run by run: what was appended is the quoted prefix, and the bytes since then stand for
--- themselves.
+-- A loop that quotes a text run by run: what was appended is the quoted prefix, and the bytes since
+-- then stand for themselves.
 use Rattle.std.proofs.Common.{◌≡◌, ℕ, ◌+◌, ◌-◌, ◌<◌, ◌≤◌, List, [], ◌∷◌, ◌++◌, length, take, drop, get_or, Bool, true, false, not, ◌||◌, nat_lt, refl, sym, ◌∙◌, ap, arith}
 use Rattle.std.specs.Prelude.{◌==◌}
 use Rattle.std.specs.Str.{IsUtf8, IsCharBoundary}
@@ -14,7 +14,8 @@ use Rattle.compose_lex.specs.Escape.{quote_byte, quote_inside}
 abbrev pub stands : ℕ → Bool
 stands b = not (b == 92 || b == 34 || (nat_lt b 32 || b == 127))
 
--- the text up to the index `done` was appended quoted, and from there to the index `at` each byte stands for itself
+-- the text up to the index `done` was appended quoted, and from there to the index `at` each byte
+-- stands for itself
 pub record Quoted (text start pushed : List ℕ) (done at : ℕ) : Type 0 where
   pub order : done ≤ at
   pub cut : IsCharBoundary text done

@@ -1,4 +1,5 @@
--- The number of leading bytes of a class: these bytes, what follows them, and that the text may be cut there.
+-- The number of leading bytes of a class: these bytes, what follows them, and that the text may be
+-- cut there.
 use Rattle.std.proofs.Common.{◌≡◌, ℕ, suc, ◌+◌, ◌-◌, ◌<◌, List, [], ◌∷◌, take, drop, get_or, Bool, true, false, cond, refl, sym, ◌∙◌, ap, subst, arith, inl, inr}
 use Rattle.std.specs.List.{prefix_len}
 use Rattle.std.specs.Str.{IsUtf8, IsCharBoundary}

@@ -10,8 +10,8 @@ use Rattle.compose_lex.specs.LineFault.{AreFirst, AreAll, GoesOn}
 use Rattle.compose_lex.proofs.Runs.{name_differs}
 use Rattle.compose_lex.proofs.Productions.{right_parts}
 
--- after: nothing; the word `include`; a number of events, the first `<` of a further one, or its name; the colon; a
--- string; the last token
+-- after: nothing; the word `include`; a number of events, the first `<` of a further one, or its
+-- name; the colon; a string; the last token
 pub data Stage : Type 0 where
   start : Stage
   word : Stage
@@ -198,7 +198,8 @@ step_may : (s : Stage) (t more : List ℕ) → is_some (step s t) ≡ true → b
 step_may s [] more h = cc
 step_may s (b ∷ t) more h = h
 
--- if the rest does not begin with a byte that may begin a token at the stage, no valid reading goes on
+-- if the rest does not begin with a byte that may begin a token at the stage, no valid reading goes
+-- on
 pub no_token_at : (done : List (List ℕ)) (rest : List ℕ) (s : Stage) → walk start done ≡ Some s → begins (λ b. is_some (goes s b)) rest ≡ false → GoesOn done rest → ⊥
 no_token_at done rest s at none g =
     let may : begins (λ b. is_some (goes s b)) rest ≡ true = ap (begins (λ b. is_some (goes s b))) g.4 ∙ step_may s g.0 g.1 (first_steps done g.0 s at g.2) in

@@ -1,4 +1,5 @@
--- A loop that reads a string up to its closing quote: what was read comes before the raw text of the rest.
+-- A loop that reads a string up to its closing quote: what was read comes before the raw text of
+-- the rest.
 use Rattle.std.proofs.Common.{◌≡◌, ℕ, suc, ◌+◌, ◌<◌, ◌≤◌, List, [], ◌∷◌, ◌++◌, length, take, drop, get_or, Bool, true, false, not, cond, ◌||◌, refl, sym, ◌∙◌, ap, subst, arith, ◌≢◌, ne_eqb}
 use Rattle.std.specs.Prelude.{◌==◌, Option, Some, None}
 use Rattle.std.specs.Option.{option_map}

@@ -58,13 +58,15 @@ not_text bytes u h t =
 all_kept : (kept bytes : List ℕ) (len : ℕ) → IsDecoded kept len bytes → len ≤ 255 → kept ≡ bytes
 all_kept kept bytes len d few = d.0 ∙ take_all 255 bytes (let l = d.1 in omega arith)
 
--- the bytes of a decoded text are those that were kept, if their number passes the check and they are UTF-8
+-- the bytes of a decoded text are those that were kept, if their number passes the check and they
+-- are UTF-8
 pub decoded_right : (kept bytes : List ℕ) (len : ℕ) (u : Unit {0}) → IsDecoded kept len bytes → len_check len ≡ Ok u → len ≤ 255 → IsUtf8 kept → text_or (Ok bytes) ≡ Ok kept
 decoded_right kept bytes len u d h few t =
     let all = all_kept kept bytes len d few in
     right_text bytes u (ap len_check (sym d.1) ∙ h) (subst IsUtf8 all t) ∙ ap (λ x. let r : Result (List ℕ) LexFault = Ok x in r) (sym all)
 
--- the bytes of a decoded text are not UTF-8, if their number passes the check and those that were kept are not
+-- the bytes of a decoded text are not UTF-8, if their number passes the check and those that were
+-- kept are not
 pub decoded_other : (kept bytes : List ℕ) (len : ℕ) (u : Unit {0}) → IsDecoded kept len bytes → len_check len ≡ Ok u → len ≤ 255 → (IsUtf8 kept → ⊥) → text_or (Ok bytes) ≡ Err TextNotUtf8
 decoded_other kept bytes len u d h few t = not_text bytes u (ap len_check (sym d.1) ∙ h) (λ v. t (subst IsUtf8 (sym (all_kept kept bytes len d few)) v))
 

@@ -152,7 +152,8 @@ all_whole (t ∷ ts) bytes s a =
     let later = all_whole ts a.1 s.1 a.4 in
     record { rest = later.rest; begun = (a.0, a.1, a.2, token_whole t ts a.1 s.0 a.4, a.3, later.begun); comment = later.comment }
 
--- in a line with the tokens of a reading each of them is whole, and a comment or nothing follows the last
+-- in a line with the tokens of a reading each of them is whole, and a comment or nothing follows
+-- the last
 pub reading_whole : (r : Reading) (line : List ℕ) → AreTokens (tokens r) line → Whole (tokens r) line
 reading_whole r line a = all_whole (tokens r) line (separated r) a
 

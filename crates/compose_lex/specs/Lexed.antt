@@ -42,8 +42,8 @@ Returns view (Ok x) content = content ≡ Ok (view x)
 Returns view (Err NoMemory) content = Unit {0}
 Returns view (Err e) content = content ≡ Err e
 
--- the function appends the value of the definition to the old text; an error, which is that of the definition or that
--- memory ran out, leaves the text as it was
+-- the function appends the value of the definition to the old text; an error, which is that of the
+-- definition or that memory ran out, leaves the text as it was
 abbrev pub PushReturns : List ℕ → List ℕ → Result (Unit {0}) LexFault → Result (List ℕ) LexFault → Type 0
 PushReturns old new (Ok u) content = (bytes : List ℕ) × (content ≡ Ok bytes) × (new ≡ old ++ bytes)
 PushReturns old new (Err NoMemory) content = new ≡ old

@@ -1,5 +1,5 @@
--- The faults of a line, defined with the grammar and not with the function that reads a line: how many of its tokens
--- begin a valid line, and what follows them.
+-- The faults of a line, defined with the grammar and not with the function that reads a line: how
+-- many of its tokens begin a valid line, and what follows them.
 use Rattle.std.specs.Prelude.{◌≡◌, ℕ, Bool, not, ◌+◌, ◌&&◌, ◌||◌, ◌==◌, List, [], ◌∷◌, ◌++◌, length, flat_map, IsTrue}
 use Rattle.std.specs.Char.{is_ascii_alphabetic}
 use Rattle.std.specs.List.{list_all}
@@ -22,8 +22,8 @@ AreAll done = (reading : Reading) × IsTrue (is_reading reading) × (tokens read
 abbrev pub is_whole : List ℕ → List ℕ → Bool
 is_whole token rest = not (is_name token && begins is_name_byte rest)
 
--- the bytes are these tokens, each one whole, with blanks before, between and after them; then this rest, which does
--- not begin with a blank
+-- the bytes are these tokens, each one whole, with blanks before, between and after them; then this
+-- rest, which does not begin with a blank
 abbrev pub BeginsWith : List (List ℕ) → List ℕ → List ℕ → Type 0
 BeginsWith [] bytes rest = (blanks : List ℕ) × IsTrue (list_all is_blank blanks) × IsTrue (not (begins is_blank rest)) × (bytes ≡ blanks ++ rest)
 BeginsWith (t ∷ ts) bytes rest = (blanks : List ℕ) × (more : List ℕ) × IsTrue (list_all is_blank blanks) × IsTrue (is_whole t more) × (bytes ≡ blanks ++ (t ++ more)) × BeginsWith ts more rest
@@ -32,7 +32,8 @@ BeginsWith (t ∷ ts) bytes rest = (blanks : List ℕ) × (more : List ℕ) × I
 abbrev pub GoesOn : List (List ℕ) → List ℕ → Type 0
 GoesOn done rest = (token : List ℕ) × (more : List ℕ) × AreFirst (done ++ token ∷ []) × IsTrue (is_whole token more) × (rest ≡ token ++ more)
 
--- after these tokens of a valid reading, at this offset, the line neither goes on with a token that may follow nor ends
+-- after these tokens of a valid reading, at this offset, the line neither goes on with a token that
+-- may follow nor ends
 pub record StopsAt (line : List ℕ) (at : ℕ) (done : List (List ℕ)) (rest : List ℕ) : Type 0 where
   pub begun : BeginsWith done line rest
   pub right : AreFirst done
@@ -54,7 +55,8 @@ is_modifier_first b = b == 33 || b == 126 || is_ascii_alphabetic b
 abbrev pub IsModifierList : List (List ℕ) → List ℕ → Type 0
 IsModifierList done rest = AreEvents done × IsTrue (begins is_modifier_first rest)
 
--- a quote (code 34) where a string may begin; since the line stops there, no closing quote follows it
+-- a quote (code 34) where a string may begin; since the line stops there, no closing quote follows
+-- it
 abbrev pub IsUnclosedString : List (List ℕ) → List ℕ → Type 0
 IsUnclosedString done rest = (raw : List ℕ) × AreFirst (done ++ quoted raw ∷ []) × IsTrue (begins (λ b. b == 34) rest)
 

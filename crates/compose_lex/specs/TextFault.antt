@@ -1,5 +1,5 @@
--- The faults of a raw text, defined with `Unescapes` and not with the function that decodes: a backslash after valid
--- pieces that begins no escape, or bytes that are not a text.
+-- The faults of a raw text, defined with `Unescapes` and not with the function that decodes: a
+-- backslash after valid pieces that begins no escape, or bytes that are not a text.
 use Rattle.std.specs.Prelude.{◌≡◌, ℕ, Bool, not, ◌<◌, ◌≤◌, ◌==◌, ◌||◌, List, [], ◌∷◌, ◌++◌, length, Some, IsTrue}
 use Rattle.std.specs.Str.{IsUtf8}
 use Rattle.compose_text.specs.Bytes.{begins}
@@ -11,8 +11,8 @@ use Rattle.compose_lex.specs.declared.LexFault.TheVariants.{UnknownEscape, BadCo
 abbrev pub BeginsNoPiece : List ℕ → Type 0
 BeginsNoPiece bytes = (first rest : List ℕ) (byte : ℕ) → bytes ≡ first ++ rest → piece first rest ≡ Some byte → ⊥
 
--- up to this offset the raw text stands for some bytes; a backslash (code 92) is there that begins no escape, and this
--- is what follows it
+-- up to this offset the raw text stands for some bytes; a backslash (code 92) is there that begins
+-- no escape, and this is what follows it
 pub record StopsAt (raw : List ℕ) (at : ℕ) (behind : List ℕ) : Type 0 where
   pub before : List ℕ
   pub bytes : List ℕ
@@ -25,7 +25,8 @@ pub record StopsAt (raw : List ℕ) (at : ℕ) (behind : List ℕ) : Type 0 wher
 abbrev pub is_code_first : ℕ → Bool
 is_code_first b = b == 120 || b == 88 || is_octal b
 
--- a code that is not that of a byte, a backslash with neither a code nor a known letter, or bytes that are not a text
+-- a code that is not that of a byte, a backslash with neither a code nor a known letter, or bytes
+-- that are not a text
 abbrev pub IsTextFault : List ℕ → LexFault → Type 0
 IsTextFault raw (BadCode at) = (behind : List ℕ) × StopsAt raw at behind × IsTrue (begins is_code_first behind)
 IsTextFault raw (UnknownEscape at) = (behind : List ℕ) × StopsAt raw at behind × IsTrue (not (begins is_code_first behind))

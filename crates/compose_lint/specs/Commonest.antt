@@ -53,7 +53,8 @@ abbrev pub count_of : Option Leading → List ℕ → ℕ → ℕ
 count_of None value count = count
 count_of (Some l) value count = if bytes_eq value l.value then l.count else count
 
--- how often `v` occurs with `k`, after that was `old` and after the value was counted with the key, if it doesn't lead
+-- how often `v` occurs with `k`, after that was `old` and after the value was counted with the key,
+-- if it doesn't lead
 abbrev pub other_count : Leading → List ℕ → List ℕ → ℕ → List ℕ → List ℕ → ℕ → ℕ
 other_count l key value count k v old =
     if bytes_eq value l.value then old else

@@ -1,5 +1,5 @@
--- Lines that libX11 or libxkbcommon skips because of how they are written, whatever the names in them mean. Each class
--- is one row of the table in docs/READERS.md.
+-- Lines that libX11 or libxkbcommon skips because of how they are written, whatever the names in
+-- them mean. Each class is one row of the table in docs/READERS.md.
 use Rattle.std.specs.Prelude.{ℕ, Bool, true, false, ◌+◌, ◌&&◌, ◌||◌, ◌==◌, nat_eq, nat_lt, nat_le, if◌then◌else◌, List, [], ◌∷◌, ◌++◌, length, drop, flat_map, bytes_eq, codes}
 use Rattle.std.specs.List.{list_all, list_any, starts_with}
 use Rattle.std.specs.Char.{is_ascii_digit}
@@ -40,8 +40,8 @@ is_skipped line = has_return_in_include line || option_map_or (is_skipped_produc
 
 -- ---- the lines of a file
 
--- libX11 or libxkbcommon skips the line; `marked`: a byte order mark precedes it, `cut`: it is the last line and has no
--- newline, `before`: the line before it
+-- libX11 or libxkbcommon skips the line; `marked`: a byte order mark precedes it, `cut`: it is the
+-- last line and has no newline, `before`: the line before it
 abbrev pub is_lost : Bool → Bool → List ℕ → List ℕ → Bool
 is_lost marked cut before line = ((marked || ends_in_backslash before) && has_content line) || (cut && ends_in_string line) || is_skipped line
 
@@ -61,9 +61,10 @@ lost_count sources = length (flat_map (λ (s : Source). lost_lines s.bytes) sour
 
 -- ---- signs: found without splitting a line into tokens
 
--- two consecutive bytes that a skipped line may have: a carriage return (code 13) after any byte; a blank, a `0` or an
--- `N` after a `<`; a `>` after a blank; or a digit after a blank, a quote or a colon. Any byte up to 32 counts as a
--- blank before these, any byte up to 34 as a blank or a quote, and any byte up to 48 as a blank or a `0` after a `<`
+-- two consecutive bytes that a skipped line may have: a carriage return (code 13) after any byte; a
+-- blank, a `0` or an `N` after a `<`; a `>` after a blank; or a digit after a blank, a quote or a
+-- colon. Any byte up to 32 counts as a blank before these, any byte up to 34 as a blank or a quote,
+-- and any byte up to 48 as a blank or a `0` after a `<`
 abbrev pub is_sign : ℕ → ℕ → Bool
 is_sign first second =
     second == 13

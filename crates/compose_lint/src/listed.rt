@@ -1,12 +1,12 @@
 //! The line of a list that accepts a finding.
 ghost use Rattle.std.specs.Prelude.{◌≡◌, ◌++◌, IfOk, OnOk, string_bytes};
-ghost use Rattle.compose_shown.specs.Shown as shown;
 ghost use Rattle.compose_lint.specs.Accepted as words;
 
 use crate::comment::behind;
 use crate::file_lines::is_blank;
 use crate::report::kind_word;
 use crate::row::Row;
+use compose_shown::is_unsafe;
 use compose_text::blank_len;
 use std::alloc::{AllocError, Global};
 use std::fmt::Write;
@@ -63,11 +63,4 @@ fn push_character(text: &mut String, character: char) -> Result<(), AllocError>
         return Ok(());
     }
     text.push(character)
-}
-
-/// Returns whether a terminal may interpret the character as a control.
-fn is_unsafe(number: u32) -> bool
-    ensures { result ≡ shown.is_unsafe number }
-{
-    matches!(number, 0..=0x1f | 0x7f..=0x9f | 0x202a..=0x202e | 0x2066..=0x2069)
 }

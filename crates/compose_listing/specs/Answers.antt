@@ -26,8 +26,8 @@ lines_of_sources sources = read_lines sources (root_of sources)
 
 -- ---- list
 
--- the lines of exactly the sequences that begin with these keys, and give the text if one is asked for, each once and
--- in the order that is asked for
+-- the lines of exactly the sequences that begin with these keys, and give the text if one is asked
+-- for, each once and in the order that is asked for
 pub record IsListing (names : KeysymNames) (visits : List Visit) (paths : List (List ℕ)) (table : List Definition) (keys : List ℕ) (text : Option (List ℕ))
     (order : ListOrder) (form : ListForm) (printed : List ℕ) : Type 0 where
   pub sequences : List (List ℕ)
@@ -69,7 +69,8 @@ how_parts header given repertoire = do
 abbrev pub shown_of : {X : Type 0} → Bool → List X → List X
 shown_of first xs = if first then take 1 xs else xs
 
--- the sequences that give a text and have only keys of the repertoire, if one is given: the shortest first
+-- the sequences that give a text and have only keys of the repertoire, if one is given: the
+-- shortest first
 abbrev pub typed_by : List Definition → Option Repertoire → List ℕ → List (List ℕ)
 typed_by table repertoire text = filter (is_typable repertoire) (shortest_first (giving table text))
 

@@ -26,8 +26,8 @@ begins_with keys s = starts_with nat_eq s keys
 abbrev pub gives_asked : List Definition → Option (List ℕ) → List ℕ → Bool
 gives_asked table text s = option_map_or (λ t. gives table t s) text true
 
--- the sequences of a table that begin with these keys, and give the text if one is asked for, in the order of their
--- keysyms
+-- the sequences of a table that begin with these keys, and give the text if one is asked for, in
+-- the order of their keysyms
 abbrev pub chosen : List Definition → List ℕ → Option (List ℕ) → List (List ℕ)
 chosen table keys text = filter (λ s. begins_with keys s && gives_asked table text s) (leaves table)
 
@@ -54,7 +54,8 @@ place_for names visits s = place_of (counting_line names visits s)
 abbrev pub place_cmp : ℕ × ℕ → ℕ × ℕ → Ordering
 place_cmp a b = ordering_then (nat_cmp a.0 b.0) (nat_cmp a.1 b.1)
 
--- each of these sequences once, by their texts, and those with the same text in the order that they had
+-- each of these sequences once, by their texts, and those with the same text in the order that they
+-- had
 pub record AreByText (table : List Definition) (sequences ordered : List (List ℕ)) : Type 0 where
   pub each : IsPermutation sequences ordered
   pub rise : IsSortedByKey (text_for table) (slice_cmp nat_cmp) ordered

@@ -1,5 +1,5 @@
--- The line of a sequence in the form of a Compose file (Compose(5), "FILE DESCRIPTION"), with its place as a comment;
--- or a JSON object (RFC 8259).
+-- The line of a sequence in the form of a Compose file (Compose(5), "FILE DESCRIPTION"), with its
+-- place as a comment; or a JSON object (RFC 8259).
 use Rattle.std.specs.Prelude.{ℕ, ◌==◌, if◌then◌else◌, List, ◌++◌, length, flat_map, codes}
 use Rattle.std.specs.Fmt.{decimal}
 use Rattle.compose_lex.specs.Escape.{quote}
@@ -12,7 +12,8 @@ use Rattle.compose_listing.specs.declared.form.ListForm.TheVariants.{Lines, Json
 abbrev pub keys_text : List (List ℕ) → List ℕ
 keys_text keys = flat_map (λ key. codes "<" ++ (key ++ codes "> ")) keys
 
--- the text in quotes, or if it is empty, the name of the keysym without a text (no string of a Compose file is empty)
+-- the text in quotes, or if it is empty, the name of the keysym without a text (no string of a
+-- Compose file is empty)
 abbrev pub result_text : List ℕ → List ℕ
 result_text text = if length text == 0 then codes "VoidSymbol" else quote text
 

@@ -28,7 +28,8 @@ leads_line key None n = key_text key (codes "> .. ") ++ (decimal n ++ sequences_
 abbrev pub key_member : List ℕ → List ℕ
 key_member key = codes "{\"key\":" ++ json_string key
 
--- for example `{"key":"e","text":"é","sequences":null}`, or `{"key":"apostrophe","text":null,"sequences":61}`
+-- for example `{"key":"e","text":"é","sequences":null}`, or
+-- `{"key":"apostrophe","text":null,"sequences":61}`
 abbrev pub leads_object : List ℕ → Option (List ℕ) → ℕ → List ℕ
 leads_object key (Some text) n = key_member key ++ (codes ",\"text\":" ++ (json_string text ++ codes ",\"sequences\":null}"))
 leads_object key None n = key_member key ++ (codes ",\"text\":null,\"sequences\":" ++ (decimal n ++ codes "}"))
@@ -37,7 +38,8 @@ abbrev pub leads : ListForm → List ℕ → Option (List ℕ) → ℕ → List 
 leads Lines = leads_line
 leads Json = leads_object
 
--- what the key k leads to after these keys, and a newline (code 10): a text, or the number of sequences that go on
+-- what the key k leads to after these keys, and a newline (code 10): a text, or the number of
+-- sequences that go on
 abbrev pub next_line : ListForm → KeysymNames → List Definition → List ℕ → ℕ → List ℕ
 next_line form names table keys k = leads form (printed names k) (text_at table (keys ++ k ∷ [])) (count_after table (keys ++ k ∷ [])) ++ 10 ∷ []
 

@@ -40,6 +40,7 @@ mod wanted;
 pub use form::{ListForm, ListOrder};
 pub use how::{HowWanted, Ways, how_to_type};
 pub use list::{ListWanted, list_table};
+pub use listed::{ListedTable, push_leaves};
 pub use next::list_next;
 pub use wanted::wanted_text;
 

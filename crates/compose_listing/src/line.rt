@@ -3,7 +3,8 @@ ghost use Rattle.std.specs.Prelude.{◌≡◌, ◌++◌, ◌∷◌, [], map, OnO
 ghost use Rattle.compose_listing.specs.Line as words;
 
 use crate::form::ListForm;
-use crate::json::{push_json_string, push_json_strings};
+use crate::json::push_json_strings;
+use compose_diff::push_json_string;
 use compose_lex::quote;
 use compose_shown::Shown;
 use std::alloc::{AllocError, Global};

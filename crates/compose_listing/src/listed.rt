@@ -13,14 +13,16 @@ use std::alloc::{AllocError, Global};
 /// A table, the names with which it is read, the lines that count for its sequences, and the paths
 /// of its sources.
 #[derive(Drop)]
-pub(crate) struct ListedTable<'a, T> {
-    pub(crate) names: &'a Names,
-    pub(crate) table: &'a T,
+pub struct ListedTable<'a, T> {
+    /// The names.
+    pub names: &'a Names,
+    /// The table.
+    pub table: &'a T,
     /// For each leaf, by its number, the line that counts for its sequence, as `read_placed_table`
     /// returns them.
-    pub(crate) lines: &'a [Option<CountingLine<'a>>],
+    pub lines: &'a [Option<CountingLine<'a>>],
     /// The path of each source, by its index.
-    pub(crate) paths: &'a [&'a str],
+    pub paths: &'a [&'a str],
 }
 
 /// Appends what is printed of a leaf's sequence to the lines.
@@ -73,8 +75,10 @@ fn path_at<'a>(paths: &[&'a str], index: usize) -> &'a str
     }
 }
 
-/// Appends what is printed of these leaves' sequences to the lines, in their order.
-pub(crate) fn push_leaves<T: ComposeTable>(
+/// Appends what is printed of these leaves' sequences to the lines, in their order. O(bytes of their
+/// lines).
+/// Errors: `AllocError` if memory runs out.
+pub fn push_leaves<T: ComposeTable>(
     alloc: Global,
     lines: &mut String,
     form: ListForm,

@@ -10,9 +10,9 @@ ghost use Rattle.compose_listing.specs.Answers.{IsNext};
 ghost use Rattle.compose_listing.specs.Next as words;
 
 use crate::form::ListForm;
-use crate::json::push_json_string;
 use crate::line::push_result;
 use compose_answer::{Answer, Refusal};
+use compose_diff::push_json_string;
 use compose_lookup::{sequences_after, text_of};
 use compose_migration::{Named, TableInput, read_only_table};
 use compose_places::PlacedTable;

@@ -1,5 +1,5 @@
--- The first of the shortest sequences that pass a test: no other one is shorter, and none of its length comes before
--- it.
+-- The first of the shortest sequences that pass a test: no other one is shorter, and none of its
+-- length comes before it.
 use Rattle.std.proofs.Common.{◌≡◌, ℕ, zero, suc, ◌+◌, ◌<◌, ◌≤◌, List, [], ◌∷◌, ◌++◌, Bool, true, false, cond, ◌&&◌, length, map, flat_map, refl, sym, ◌∙◌, ap, ◌⊎◌, inl, inr, Less, Equal, Greater, nat_cmp, arith}
 use Rattle.std.specs.declared.cmp.Ordering.{Ordering}
 use Rattle.std.specs.Ordering.{is_lt}

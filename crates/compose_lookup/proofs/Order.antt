@@ -65,7 +65,8 @@ module _ (table : List Definition) (settled : IsSettled table) where
       tested : (a b : ℕ) → a < b → nat_lt a b ≡ true
       tested a b h = search rules
 
-  -- of the leaves that give one of these texts, those with one of them are in the order of their lengths
+  -- of the leaves that give one of these texts, those with one of them are in the order of their
+  -- lengths
   pub shortest : (lengths : List ℕ) → lengths ≡ map length (leaves table) → (texts : List (List ℕ)) (text : List ℕ) → IsTrue (is_among texts text)
       → map (sequence_at table) (filter (has_text table text) (by_length lengths (giving_one table texts))) ≡ shortest_first (giving table text)
   shortest lengths e texts text among =

@@ -83,7 +83,8 @@ module _ (table : List Definition) where
       second true b e f = e
       second false b e f = cc
 
-  -- of two leaves that are the shortest, each by a test, the one that is no later is the shortest by either
+  -- of two leaves that are the shortest, each by a test, the one that is no later is the shortest
+  -- by either
   winner : (p q : List ℕ → Bool) (one other : FoundLeaf) → IsShortest table p one → IsShortest table q other → NoLater one other → IsShortest table (λ s. p s || q s) one
   winner p q one other f g order = record {
     sequence = f.sequence;

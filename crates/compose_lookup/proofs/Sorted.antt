@@ -1,4 +1,5 @@
--- Elements in the order of their texts: a stable sort keeps those of each text in order, and they are adjacent.
+-- Elements in the order of their texts: a stable sort keeps those of each text in order, and they
+-- are adjacent.
 use Rattle.std.proofs.Common.{◌≡◌, ℕ, ◌+◌, ◌<◌, ◌≤◌, List, [], ◌∷◌, ◌++◌, Bool, true, false, not, ◌&&◌, ◌||◌, length, get_or, take, drop, refl, sym, ◌∙◌, ap, ap₂, subst, inl, inr, arith}
 use Rattle.std.specs.Prelude.{filter}
 use Rattle.std.specs.List.{All, AllWithin, list_any}

@@ -1,4 +1,5 @@
--- The sequences of a table that begin with another one, and which of them comes first (this project's profile).
+-- The sequences of a table that begin with another one, and which of them comes first (this
+-- project's profile).
 use Rattle.std.specs.Prelude.{◌≡◌, ℕ, Bool, true, nat_eq, nat_lt, ◌&&◌, ◌||◌, ◌≤◌, if◌then◌else◌, List, length, filter, slice_get, Option, Some, None}
 use Rattle.compose_model.specs.Table.{Definition, is_sequence, is_proper_prefix}
 use Rattle.compose_model.specs.Nodes.{leaves}
@@ -25,7 +26,8 @@ sooner None other = other
 sooner (Some one) None = Some one
 sooner (Some one) (Some other) = Some (if is_sooner other one then other else one)
 
--- the leaf of a sequence that is reached: none of these has fewer keys, and none of as many a lower number
+-- the leaf of a sequence that is reached: none of these has fewer keys, and none of as many a lower
+-- number
 pub record IsShortest (table : List Definition) (reached : List ℕ → Bool) (found : FoundLeaf) : Type 0 where
   pub sequence : List ℕ
   pub there : is_sequence table sequence ≡ true

@@ -1,4 +1,5 @@
--- The sequences of a table that give a text, and the order in which people want them (this project's profile).
+-- The sequences of a table that give a text, and the order in which people want them (this
+-- project's profile).
 use Rattle.std.specs.Prelude.{ℕ, Bool, false, nat_eq, List, length, filter, flat_map}
 use Rattle.std.specs.Option.{option_map_or}
 use Rattle.std.specs.List.{range_with_len}

@@ -29,7 +29,8 @@ has_text table text leaf = same text (text_of table leaf)
 abbrev pub is_among : List (List ℕ) → List ℕ → Bool
 is_among texts text = list_any (λ t. bytes_eq text t) texts
 
--- leaves in the order of their texts; those with this text are the sequences that give it, shortest first
+-- leaves in the order of their texts; those with this text are the sequences that give it, shortest
+-- first
 pub record IsTextIndex (table : List Definition) (text : List ℕ) (index : List LeafId) : Type 0 where
   pub in_table : All (IsLeaf table) index
   pub rise : IsSortedByKey (text_of table) (slice_cmp nat_cmp) index

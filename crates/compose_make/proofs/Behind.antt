@@ -1,4 +1,5 @@
--- What the pass has visited: the sequences that go on from a node by some of its keys, and in the end all of them.
+-- What the pass has visited: the sequences that go on from a node by some of its keys, and in the
+-- end all of them.
 use Rattle.std.proofs.Common.{◌≡◌, ℕ, ◌+◌, ◌≤◌, List, [], ◌∷◌, ◌++◌, Bool, true, false, ◌&&◌, ◌||◌, length, map, take, refl, sym, ◌∙◌, ap, inl, inr, eqb-true}
 use Rattle.std.specs.Prelude.{Some, ◌==◌, encode_utf8, slice_get}
 use Rattle.std.specs.List.{list_any, list_all}
@@ -157,7 +158,8 @@ module _ (names : KeysymNames) (table : List Definition) (repertoire : Repertoir
       (λ c v. or_none (passes c v || is_through table repertoire c p (take i es) v) ∙ ap (λ b. (passes c v || is_through table repertoire c p (take i es) v) || b) (sym (not_by c k v n))
       ∙ sym (next_through (passes c v) c es i k v at)) rows (h passes a)
 
-  -- after an edge to a node from which the rows have seen all sequences, they have seen one more edge
+  -- after an edge to a node from which the rows have seen all sequences, they have seen one more
+  -- edge
   pub seen_node : (es : List ℕ) (i k : ℕ) (before rows next : List WantedCharacter) → slice_get es i ≡ Some k → is_extended table (p ++ k ∷ []) ≡ true → HasSeen (take i es) before rows
       → ((passes : ℕ → List ℕ → Bool) → AreLeast passes rows → AreLeast (λ c v. passes c v || is_whole_after table repertoire c (p ++ k ∷ []) v) next) → HasSeen (take (i + 1) es) before next
   seen_node es i k before rows next at x h more passes a =
@@ -166,7 +168,8 @@ module _ (names : KeysymNames) (table : List Definition) (repertoire : Repertoir
       (λ c v. ap (λ b. (passes c v || is_through table repertoire c p (take i es) v) || b) (by_node c k v x) ∙ sym (next_through (passes c v) c es i k v at)) next
       (more (λ c v. passes c v || is_through table repertoire c p (take i es) v) (h passes a))
 
-  -- past an edge to a leaf, whose text and keys were offered to the rows, they have seen one edge more
+  -- past an edge to a leaf, whose text and keys were offered to the rows, they have seen one edge
+  -- more
   pub seen_leaf : (es : List ℕ) (i k : ℕ) (t : List ℕ) (before rows : List WantedCharacter) → slice_get es i ≡ Some k → is_sequence table (p ++ k ∷ []) ≡ true → text_at table (p ++ k ∷ []) ≡ Some t
       → are_keys repertoire (p ++ k ∷ []) ≡ true
       → HasSeen (take i es) before rows → HasSeen (take (i + 1) es) before (map (offered_row t (p ++ k ∷ [])) rows)

@@ -30,8 +30,8 @@ some_target table p k = go (is_node table (p ++ k ∷ [])) (is_sequence table (p
     go false true = refl
     go false false = refl
 
--- if the first of three tests holds and the second fails, the first without the other two holds exactly if the third
--- fails
+-- if the first of three tests holds and the second fails, the first without the other two holds
+-- exactly if the third fails
 pub plain_test : (a b e r : Bool) → a ≡ true → b ≡ false → e ≡ not r → r ≡ a && not b && not e
 plain_test true false true true ha hb hr = cc
 plain_test true false true false ha hb hr = refl

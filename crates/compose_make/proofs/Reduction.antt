@@ -1,4 +1,5 @@
--- The reduction: what types a character has, no later in the order, a plain key or a whole sequence that types it.
+-- The reduction: what types a character has, no later in the order, a plain key or a whole sequence
+-- that types it.
 use Rattle.std.proofs.Common.{◌≡◌, ◌⊎◌, ℕ, ◌+◌, ◌-◌, ◌<◌, ◌≤◌, List, [], ◌∷◌, ◌++◌, Bool, true, false, not, ◌&&◌, ◌||◌, length, map, replicate, refl, sym, ◌∙◌, ap, subst, inl, inr, arith, append-nil, append_assoc, length-append, eq-eqb, suc}
 use Rattle.std.specs.Prelude.{Option, Some, None, unwrap_or, encode_utf8, ◌==◌, nat_lt, nat_le}
 use Rattle.std.specs.Option.{option_map_or}
@@ -28,7 +29,8 @@ use Rattle.compose_make.specs.Candidates.{spells, is_plain, is_plain_key, is_who
 
 -- ---- the lists that need to be checked
 
--- keys that are checked for a character: one plain key, or a whole sequence by keys of the repertoire
+-- keys that are checked for a character: one plain key, or a whole sequence by keys of the
+-- repertoire
 abbrev pub is_candidate : KeysymNames → List Definition → Repertoire → ℕ → List ℕ → Bool
 is_candidate names table repertoire c w = is_plain names table repertoire c w || is_whole table repertoire c w
 
@@ -166,7 +168,8 @@ module _ (names : KeysymNames) (table : List Definition) (repertoire : Repertoir
   spelled c None h = cc
   spelled c (Some t) h = ap Some (sym (same_is (encode_utf8 c) t h))
 
-  -- a whole sequence for a character is a sequence of the table by keys of the repertoire whose text is the character
+  -- a whole sequence for a character is a sequence of the table by keys of the repertoire whose
+  -- text is the character
   pub whole_parts : (c : ℕ) (w : List ℕ) → is_whole table repertoire c w ≡ true → Whole c w
   whole_parts c w h =
       let a = and_parts (is_sequence table w && are_keys repertoire w) (option_map_or (spells c) (text_at table w) false) h in

@@ -103,7 +103,8 @@ pub are_same : (p q : ℕ → List ℕ → Bool) → ((c : ℕ) (v : List ℕ) �
 are_same p q alike [] a = tt
 are_same p q alike (row ∷ rows) a = (least_same (p row.character) (q row.character) (alike row.character) row.keys a.0, are_same p q alike rows a.1)
 
--- after an offer the rows hold the least of what they held and of the offered keys, for the character that the text is
+-- after an offer the rows hold the least of what they held and of the offered keys, for the
+-- character that the text is
 pub are_offered : (p : ℕ → List ℕ → Bool) (t w : List ℕ) (rows : List WantedCharacter) → AreLeast p rows → AreLeast (λ c v. p c v || (spells c t && same v w)) (map (offered_row t w) rows)
 are_offered p t w [] a = tt
 are_offered p t w (row ∷ rows) a = (go (spells row.character t) refl, are_offered p t w rows a.1)

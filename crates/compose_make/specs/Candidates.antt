@@ -1,5 +1,5 @@
--- The only lists of keys that need to be checked, and the first of those that pass a test. Definitions for private
--- functions.
+-- The only lists of keys that need to be checked, and the first of those that pass a test.
+-- Definitions for private functions.
 use Rattle.std.specs.Prelude.{◌≡◌, ◌⊎◌, ℕ, Bool, true, false, not, ◌&&◌, List, [], ◌∷◌, Option, Some, None, encode_utf8}
 use Rattle.std.specs.Option.{option_map_or}
 use Rattle.keysym_core.specs.Keysym.{is_ignored}

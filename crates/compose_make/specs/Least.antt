@@ -1,5 +1,5 @@
--- The least typings: for each character a shortest list of keys that types it, and of several the first in the order of
--- sequences.
+-- The least typings: for each character a shortest list of keys that types it, and of several the
+-- first in the order of sequences.
 use Rattle.std.specs.Prelude.{◌≡◌, ◌⊎◌, ◌<◌, ℕ, Bool, not, List, map, IsTrue}
 use Rattle.std.specs.List.{list_all, AllByRecursion}
 use Rattle.keysym_core.specs.Names.{KeysymNames}
@@ -29,8 +29,8 @@ pub record IsUnreachable (names : KeysymNames) (table : List Definition) (repert
   pub untyped : (w : List ℕ) → IsTrue (are_keys repertoire w) → Types names table w c → ⊥
   pub earlier_typed : (d : ℕ) → IsTrue (has_key repertoire.characters d) → d < c → (w : List ℕ) × IsLeastTyping names table repertoire d w
 
--- these are, in order, the characters of the repertoire that no list of its keys types: each of the others has a least
--- typing
+-- these are, in order, the characters of the repertoire that no list of its keys types: each of the
+-- others has a least typing
 pub record AreUntypable (names : KeysymNames) (table : List Definition) (repertoire : Repertoire) (characters : List ℕ) : Type 0 where
   pub rise : IsTrue (keys_rise characters)
   pub wanted : (c : ℕ) → IsTrue (has_key characters c) → IsTrue (has_key repertoire.characters c)

@@ -1,5 +1,5 @@
--- The characters that are wanted, each with the first of the lists of keys that were offered so far. Definitions for
--- private functions.
+-- The characters that are wanted, each with the first of the lists of keys that were offered so
+-- far. Definitions for private functions.
 use Rattle.std.specs.Prelude.{◌≡◌, ℕ, Bool, ◌&&◌, if◌then◌else◌, List, [], ◌∷◌, map, Option, Some, None, is_some, unwrap_or}
 use Rattle.std.specs.List.{AllByRecursion}
 use Rattle.compose_model.specs.Table.{Definition, is_proper_prefix}

@@ -62,7 +62,8 @@ no_entry text h = ap (entry_of_parts (leading is_no_tab text)) (no_tab text h).0
 pub bad_entry : (text : List ℕ) (at : ℕ) → TabAt text at → (name path : List ℕ) → name ≡ take at text → path ≡ drop (at + 1) text → are_parts name path ≡ false → entry_of text ≡ None
 bad_entry text at tab name path n p bad = entry_by text at tab name path n p ∙ rw bad refl
 
--- a line whose name and path are not empty, and whose path has no other tab, is the entry of these two
+-- a line whose name and path are not empty, and whose path has no other tab, is the entry of these
+-- two
 pub good_entry : (text : List ℕ) (at : ℕ) → TabAt text at → (name path : List ℕ) → name ≡ take at text → path ≡ drop (at + 1) text → are_parts name path ≡ true
     → entry_of text ≡ Some (let e : ManifestEntry = record { name = name; path = path } in e)
 good_entry text at tab name path n p good = entry_by text at tab name path n p ∙ rw good refl

@@ -1,4 +1,5 @@
--- Manifests: the files of a table, under the names by which includes name them (this project's own format).
+-- Manifests: the files of a table, under the names by which includes name them (this project's own
+-- format).
 use Rattle.std.specs.Prelude.{ℕ, Bool, true, false, not, ◌+◌, ◌-◌, ◌&&◌, ◌||◌, ◌==◌, nat_lt, if◌then◌else◌, List, [], ◌∷◌, ◌++◌, length, take, drop, Option, Some, None, is_some, Result, Ok, Err, bytes_eq, codes}
 use Rattle.std.specs.Str.{is_utf8}
 use Rattle.std.specs.Option.{option_map_or}
@@ -16,8 +17,8 @@ pub record ManifestEntry : Type 0 where
   pub name : List ℕ
   pub path : List ℕ
 
--- a manifest: the rule for overlaps, if it has one; whether the paths of the entries are relative to the manifest; and
--- the entries, the root first
+-- a manifest: the rule for overlaps, if it has one; whether the paths of the entries are relative
+-- to the manifest; and the entries, the root first
 pub record Listing : Type 0 where
   pub rule : Option Rule
   pub paths_here : Bool
@@ -67,7 +68,8 @@ is_paths_here line = bytes_eq line (codes "paths here")
 abbrev pub with_rule : ℕ → Listing → Rule → Result Listing ManifestFault
 with_rule n listing rule = if is_some listing.rule || nat_lt 0 (length listing.entries) then Err (BadLine n) else Ok (record listing { rule = Some rule })
 
--- the listing whose paths are relative to the manifest; the line for this comes before the entries, and at most once
+-- the listing whose paths are relative to the manifest; the line for this comes before the entries,
+-- and at most once
 abbrev pub with_paths_here : ℕ → Listing → Result Listing ManifestFault
 with_paths_here n listing = if listing.paths_here || nat_lt 0 (length listing.entries) then Err (BadLine n) else Ok (record listing { paths_here = true })
 

@@ -32,7 +32,8 @@ abbrev pub is_refuse : Rule → Bool
 is_refuse Refuse = true
 is_refuse Longest = false
 
--- the listing has the sources' entries, and refuses overlaps; its relative paths are relative to the working directory
+-- the listing has the sources' entries, and refuses overlaps; its relative paths are relative to
+-- the working directory
 abbrev pub lists : Listing → List FoundSource → Bool
 lists listing sources = not listing.paths_here && is_refuse (unwrap_or listing.rule Refuse) && are_entries listing.entries sources
 
@@ -44,7 +45,8 @@ file_path listing manifest path = if listing.paths_here then beside manifest pat
 abbrev pub ReadsAs : List ℕ → List FoundSource → Type 0
 ReadsAs bytes sources = (listing : Listing) × (listing_of bytes ≡ Ok listing) × IsTrue (lists listing sources)
 
--- the text is the sources' manifest, and reading it lists them; it is unwritable if reading it would not
+-- the text is the sources' manifest, and reading it lists them; it is unwritable if reading it
+-- would not
 abbrev pub IsWritten : List FoundSource → Result (String Global) WriteFault → Type 0
 IsWritten sources (Ok text) = (string_bytes text ≡ manifest_bytes sources) × ReadsAs (manifest_bytes sources) sources
 IsWritten sources (Err Unwritable) = ¬ (ReadsAs (manifest_bytes sources) sources)

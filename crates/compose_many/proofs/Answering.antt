@@ -76,8 +76,8 @@ module _ (limit : ℕ) (reading : Reading) (old : ServiceState) (before : Connec
       owned_still : owners' ≡ owners → owners' ≡ owners_by number first (exchanges events)
       owned_still e = e ∙ owned
 
-      -- if nothing further is answered, for any reason, these are all answers up to this stop; a load comes last among
-      -- them
+      -- if nothing further is answered, for any reason, these are all answers up to this stop; a
+      -- load comes last among them
       pub answers_stop : (stop : Stop) → loads events ≡ 0 → NextAs limit number owners owners' reading mid new s now (Err stop) → AnswersAs limit number first owners' reading old new before now stop
       answers_stop Loaded none n = (
         events ++ answers n.0 ∷ [],

@@ -34,7 +34,8 @@ ends_as_stream limit events now (Err TooManyFrames) left' rf wf h e n =
 ends_as_stream limit events now (Err NoMemory) left' rf wf h e n = record { some = e.0; written = all_written limit events now (has_its_own limit events now h) e.1 }
 ends_as_stream limit events now (Err Write) left' rf wf h e n = absurd (n refl)
 
--- if a write failed, the last bytes of the replies are missing: fewer than the limit plus the maximum length of a reply
+-- if a write failed, the last bytes of the replies are missing: fewer than the limit plus the
+-- maximum length of a reply
 pub ends_at_write : EndsAtWrite
 ends_at_write limit events now left' rf wf h e =
     let own = has_its_own limit events now h in
@@ -139,7 +140,8 @@ proper [] [] n = absurd (n refl)
 proper [] (y ∷ ys) n = refl
 proper (x ∷ xs) ys n = and_from (x == x) (is_proper_prefix xs (xs ++ ys)) (eq-eqb x x refl) (proper xs ys n)
 
--- with the limit 1, if a write failed, a part of the last reply is missing, as at the end of a stream
+-- with the limit 1, if a write failed, a part of the last reply is missing, as at the end of a
+-- stream
 pub ends_at_write_as_stream : EndsAtWriteAsStream
 ends_at_write_as_stream events now left' rf wf h e = of_part (part_on [] events new_connection now (own_at_first 1) (inl refl) h)
   where

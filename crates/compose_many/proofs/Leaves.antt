@@ -10,9 +10,9 @@ use Rattle.compose_machine.specs.Laws.{IsHistory}
 use Rattle.compose_machine.proofs.Rows.{session_of-with, session_of-append, session_of-without, session_of-loaded}
 use Rattle.compose_many.specs.Connection.{Event, receives, answers, refuses, sends, closes, exchange_of, exchanges}
 use Rattle.compose_many.specs.Service.{NumberedEvent}
-use Rattle.compose_many.specs.Owners.{owners_when, owners_after, owners_by, owners_of, without, with_owner, first_own, NoSessionStays}
+use Rattle.compose_many.specs.Owners.{owners_when, owners_after, owners_by, owners_of, without, with_owner, last_own, NoSessionStays}
 use Rattle.compose_many.specs.declared.owners.Owner.{Owner}
-use Rattle.compose_many.proofs.Owned.{none_later, ended_own_none}
+use Rattle.compose_many.proofs.Owned.{not_own, none_later, ended_own_none}
 
 none_there : {P : Type 0} (o : Option Session) → IsNone o → is_some o ≡ true → P
 none_there None h p = absurd (cc)
@@ -131,13 +131,15 @@ module _ (s : ℕ) where
     stays_owned [] old owners h f p = f (same_there old new h p)
     stays_owned (e ∷ all) old owners h f p = event_owned all (stays_owned all) e.connection e.event old owners h f p
 
-nobodys : {P : Type 0} (s : ℕ) (owners : List Owner) → ((c : ℕ) → first_own c owners ≡ None) → list_any (λ (o : Owner). o.session == s) owners ≡ true → P
+nobodys : {P : Type 0} (s : ℕ) (owners : List Owner) → ((c : ℕ) → last_own c owners ≡ None) → list_any (λ (o : Owner). o.session == s) owners ≡ true → P
 nobodys s [] none h = absurd (cc)
 nobodys s (o ∷ owners) none h =
-    let no : Some o.session ≡ None = sym (ap (λ (b : Bool). cond b (Some o.session) (first_own o.connection owners)) (eq-eqb o.connection o.connection refl)) ∙ none o.connection in
+    let others = not_own (o.connection == o.connection) o.session (last_own o.connection owners) (none o.connection) in
+    let no : true ≡ false = sym (eq-eqb o.connection o.connection refl) ∙ others.0 in
     absurd (cc)
 
--- if each connection ended with its sessions, or nothing happened on it, no session is open but those that were before
+-- if each connection ended with its sessions, or nothing happened on it, no session is open but
+-- those that were before
 pub no_session_stays : NoSessionStays
 no_session_stays reading first now all h ended n some =
     elim (stays_owned n (IsSome (session_of first.sessions n)) reading now all first [] h (λ p. inl p) some) [

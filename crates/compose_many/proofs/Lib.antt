@@ -6,6 +6,7 @@ pub mod Serving
 pub mod Ending
 pub mod OneOfMany
 pub mod TwoLists
+pub mod Once
 pub mod Owning
 pub mod Owned
 pub mod Leaves

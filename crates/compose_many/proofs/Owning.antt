@@ -1,6 +1,7 @@
 -- The owners of the open sessions.
-use Rattle.std.proofs.Common.{◌≡◌, ℕ, ◌<◌, ◌≤◌, List, [], ◌∷◌, ◌++◌, Bool, true, false, cond, length, map, refl, sym, ◌∙◌, ap, subst, append-nil, append_assoc, eq-eqb, arith}
+use Rattle.std.proofs.Common.{◌≡◌, ℕ, List, [], ◌∷◌, ◌++◌, Bool, true, false, cond, length, map, refl, sym, ◌∙◌, ap, subst, append-nil, append_assoc, eq-eqb, eqb-true, inl, inr}
 use Rattle.std.specs.Prelude.{not, Option, Some, None}
+use Rattle.std.specs.Option.{option_or}
 use Rattle.compose_wire.specs.Messages.{Body, close, ReplyBody, opened, fed, was_reset, closed, loaded, state, refused}
 use Rattle.compose_wire.specs.Requests.{body_of}
 use Rattle.compose_wire.specs.Replies.{HasAnswerValue}
@@ -11,16 +12,19 @@ use Rattle.compose_wire.specs.declared.reply.ReplyBody.TheVariants.{Opened, Fed,
 use Rattle.std.specs.Prelude.{◌==◌, fold}
 use Rattle.std.specs.Io.KnownBytes.{Consumes, Appends}
 use Rattle.std.proofs.KnownBytes.{Consumes-nil, Appends-nil}
+use Rattle.std.proofs.lemmas.Bool.{cases_Bool}
+use Rattle.std.proofs.lemmas.List.Elements.{filter-append}
 use Rattle.std.proofs.lemmas.List.Sums.{fold-append}
 use Rattle.compose_machine.specs.Machine.{ServiceState, Reading, Step}
 use Rattle.compose_machine.specs.Laws.{Exchange, IsHistory}
 use Rattle.compose_many.specs.Connection.{ConnectionState, Event, closes, AllHappen, exchange_of, closed_of, received, exchanges, closings, sent}
 use Rattle.compose_many.specs.Service.{NumberedEvent, events_of, numbered}
 use Rattle.compose_many.specs.Turns.{IsTurn}
-use Rattle.compose_many.specs.Owners.{owners_noted, owners_when, owners_after, owners_by, owners_of, without, first_own, ClosesOwn, ClosesAs, EndedWithItsSessions, ClosedNone, ClosedAtEnd}
+use Rattle.compose_many.specs.Owners.{owners_noted, owners_when, owners_after, owners_by, owners_of, EachOnce, without, of_others, last_own, ClosesOwn, ClosesAs, EndedWithItsSessions, ClosedNone, ClosedAtEnd}
 use Rattle.compose_many.specs.declared.owners.Owner.{Owner}
 use Rattle.compose_many.proofs.Happening.{flat-both, map-both, history-both}
 use Rattle.compose_many.proofs.Serving.{those_of, none_of, events_of-both}
+use Rattle.compose_many.proofs.Once.{once_filter, once_before, without_last, others_without, others_all}
 
 -- what is noted for the program's reply is what is noted for its meaning
 opened_is : (c n : ℕ) (owners : List Owner) (a : ProgramAnswer) (v : ReplyBody) → HasAnswerValue a v → owners_noted c n owners Open a ≡ owners_when c n owners (body_of Open) v
@@ -125,7 +129,8 @@ module _ (c : ℕ) (all : List NumberedEvent) (events : List Event) where
     last = events_other c n p.later events e ∙ p.last;
   }
 
-  -- the sessions that were closed for a connection that ended stay the same, whatever happens on another one
+  -- the sessions that were closed for a connection that ended stay the same, whatever happens on
+  -- another one
   pub closed_other : (own : Bool) (n : ℕ) → c == n ≡ false → ClosedAtEnd own n all → ClosedAtEnd own n (all ++ numbered c events)
   closed_other true n e p = ended_other n e p
   closed_other false n e p = none_closed_other n e p
@@ -147,62 +152,107 @@ ended_own c all before h none none_more own = record {
 
 -- ---- closing one session after another
 
--- these sessions were closed, each the connection's first; further ones are closed after them
-pub record ClosedSoFar (c : ℕ) (reading : Reading) (old now : ServiceState) (first owners : List Owner) : Type 0 where
-  pub closed : List Exchange
-  pub run : IsHistory reading old closed now
-  pub owners_are : owners ≡ owners_by c first closed
-  pub each : (more : List Exchange) → ClosesOwn c owners more → ClosesOwn c first (closed ++ more)
-
--- no session was closed
-pub closed_at_first : (c : ℕ) (reading : Reading) (old : ServiceState) (owners : List Owner) → ClosedSoFar c reading old old owners owners
-closed_at_first c reading old owners = record { closed = []; run = refl; owners_are = refl; each = λ more h. h }
-
 -- after a Close its session has no owner
 after_close : (c : ℕ) (owners : List Owner) (x : Exchange) → x.request.body ≡ close → owners_after c owners x ≡ without x.request.session owners
 after_close c owners x e = ap (λ (b : Body). owners_when c x.request.session owners b x.reply.answer) e
 
-module _ (c : ℕ) (reading : Reading) (old now new : ServiceState) (first owners owners' : List Owner) (s : ClosedSoFar c reading old now first owners) where
-  -- the first session that is left is closed
-  pub closed_more : (n : ℕ) → first_own c owners ≡ Some n → (x : Exchange) → x.request.session ≡ n → x.request.body ≡ close → Step reading now x.request x.reply new → owners' ≡ without n owners
-      → ClosedSoFar c reading old new first owners'
-  closed_more n is x same body step rest =
-      let after : owners' ≡ owners_after c owners x = rest ∙ ap (λ (m : ℕ). without m owners) (sym same) ∙ sym (after_close c owners x body) in
-      record {
-        closed = s.closed ++ x ∷ [];
-        run = history-both reading old now new s.closed (x ∷ []) s.run (new, step, refl);
-        owners_are = after ∙ ap (λ (o : List Owner). owners_after c o x) s.owners_are ∙ sym (fold-append (owners_after c) first s.closed (x ∷ []));
-        each = λ more h.
-            subst (λ (g : List Exchange). ClosesOwn c first g) (sym (append_assoc s.closed (x ∷ []) more))
-            (s.each (x ∷ more) (is ∙ ap (λ (m : ℕ). Some m) (sym same), body, subst (λ (o : List Owner). ClosesOwn c o more) after h));
-      }
-
-  -- no session is left
-  pub closed_all : first_own c owners ≡ None → ClosesAs c first owners reading old now
-  closed_all none = (s.closed, subst (λ (h : List Exchange). ClosesOwn c first h) (append-nil s.closed) (s.each [] none), s.run, s.owners_are)
-
-fewer : (n : ℕ) (owners : List Owner) → length (without n owners) ≤ length owners
-fewer n [] = omega arith
-fewer n (o ∷ owners) = by (o.session == n) (fewer n owners)
+-- of owners and one after them, a connection's last session is that of the one after them, if it is
+-- the connection's
+last_of_more : (c : ℕ) (owners : List Owner) (o : Owner) → last_own c (owners ++ o ∷ []) ≡ cond (o.connection == c) (Some o.session) (last_own c owners)
+last_of_more c [] o = refl
+last_of_more c (first ∷ owners) o =
+    ap (λ (l : Option ℕ). option_or l (cond (first.connection == c) (Some first.session) None)) (last_of_more c owners o) ∙ by (o.connection == c)
   where
-    by : (b : Bool) → length (without n owners) ≤ length owners → length (cond (not b) (o ∷ without n owners) (without n owners)) ≤ length {A = Owner} (o ∷ owners)
-    by true le = omega (arith, le)
-    by false le = omega (arith, le)
+    by : (b : Bool) → option_or (cond b (Some o.session) (last_own c owners)) (cond (first.connection == c) (Some first.session) None)
+        ≡ cond b (Some o.session) (option_or (last_own c owners) (cond (first.connection == c) (Some first.session) None))
+    by true = refl
+    by false = refl
 
--- there are fewer owners once a session that has one is closed
-pub fewer_left : (c n : ℕ) (owners : List Owner) → first_own c owners ≡ Some n → length (without n owners) < length owners
-fewer_left c n [] h = absurd (cc)
-fewer_left c n (o ∷ owners) h = by (o.connection == c) (fewer_left c n owners) h
+-- numbers that differ aren't equal
+apart : (a b : ℕ) → (a ≡ b → ⊥) → a == b ≡ false
+apart a b differ = elim (cases_Bool (a == b)) [ inl t ↦ absurd (differ (eqb-true a b t)) | inr f ↦ f ]
+
+-- what is closed of the owners before one of another connection is what is closed of all of them
+closes_before : (c : ℕ) (o : Owner) → o.connection == c ≡ false → (owners : List Owner) (h : List Exchange) → ClosesOwn c owners h → ClosesOwn c (owners ++ o ∷ []) h
+closes_before c o e owners [] own = last_of_more c owners o ∙ ap (λ (b : Bool). cond b (Some o.session) (last_own c owners)) e ∙ own
+closes_before c o e owners (x ∷ h) own = (
+  last_of_more c owners o ∙ ap (λ (b : Bool). cond b (Some o.session) (last_own c owners)) e ∙ own.0,
+  own.1,
+  subst (λ (os : List Owner). ClosesOwn c os h) (sym (after_close c (owners ++ o ∷ []) x own.1 ∙ filter-append (λ (p : Owner). not (p.session == x.request.session)) owners (o ∷ [])))
+      (by (o.session == x.request.session) (closes_before c o e (without x.request.session owners) h) (subst (λ (os : List Owner). ClosesOwn c os h) (after_close c owners x own.1) own.2)),
+)
   where
-    own : (b : Bool) → b ≡ true → length (cond (not b) (o ∷ without n owners) (without n owners)) < length {A = Owner} (o ∷ owners)
-    own true e = let le = fewer n owners in omega (arith, le)
-    own false e = absurd (cc)
+    by : (b : Bool) → (ClosesOwn c (without x.request.session owners) h → ClosesOwn c (without x.request.session owners ++ o ∷ []) h) → ClosesOwn c (without x.request.session owners) h
+        → ClosesOwn c (without x.request.session owners ++ cond (not b) (o ∷ []) []) h
+    by true f r = subst (λ (os : List Owner). ClosesOwn c os h) (sym (append-nil (without x.request.session owners))) r
+    by false f r = f r
 
-    other : (b : Bool) → length (without n owners) < length owners → length (cond (not b) (o ∷ without n owners) (without n owners)) < length {A = Owner} (o ∷ owners)
-    other true lt = omega (arith, lt)
-    other false lt = omega (arith, lt)
+-- the last owner's session is closed first, and then what is closed of the owners before it
+closes_last : (c : ℕ) (owners : List Owner) (o : Owner) → o.connection == c ≡ true → EachOnce (owners ++ o ∷ []) → (x : Exchange) → x.request.session ≡ o.session → x.request.body ≡ close
+    → (h : List Exchange) → ClosesOwn c owners h → ClosesOwn c (owners ++ o ∷ []) (x ∷ h)
+closes_last c owners o e once x same body h own = (
+  last_of_more c owners o ∙ ap (λ (b : Bool). cond b (Some o.session) (last_own c owners)) e ∙ ap (λ (n : ℕ). Some n) (sym same),
+  body,
+  subst (λ (os : List Owner). ClosesOwn c os h) (sym (after_close c (owners ++ o ∷ []) x body ∙ ap (λ (n : ℕ). without n (owners ++ o ∷ [])) same ∙ without_last owners o once)) own,
+)
 
-    by : (b : Bool) → (first_own c owners ≡ Some n → length (without n owners) < length owners) → cond b (Some o.session) (first_own c owners) ≡ Some n
-        → length (cond (not (o.session == n)) (o ∷ without n owners) (without n owners)) < length {A = Owner} (o ∷ owners)
-    by true f e = let same : o.session ≡ n = cc in own (o.session == n) (eq-eqb o.session n same)
-    by false f e = other (o.session == n) (f e)
+-- once a Close was answered for each of a connection's sessions, the owners of the others are left
+closed_others : (c : ℕ) (owners : List Owner) (h : List Exchange) → EachOnce owners → ClosesOwn c owners h → owners_by c owners h ≡ of_others c owners
+closed_others c owners [] once own = sym (others_all c owners own)
+closed_others c owners (x ∷ h) once own =
+    let after : owners_after c owners x ≡ without x.request.session owners = after_close c owners x own.1 in
+    let once_after : EachOnce (owners_after c owners x) = subst (λ (os : List Owner). EachOnce os) (sym after) (once_filter (λ (o : Owner). not (o.session == x.request.session)) owners once) in
+    closed_others c (owners_after c owners x) h once_after own.2 ∙ ap (of_others c) after ∙ others_without c x.request.session owners once own.0
+
+-- these sessions were closed, each the connection's last; those of the owners that are left are
+-- closed after them
+pub record ClosedSoFar (c : ℕ) (reading : Reading) (old now : ServiceState) (first rest : List Owner) : Type 0 where
+  pub closed : List Exchange
+  pub run : IsHistory reading old closed now
+  pub once : EachOnce rest
+  pub each : (more : List Exchange) → ClosesOwn c rest more → ClosesOwn c first (closed ++ more)
+
+-- no session was closed
+pub closed_at_first : (c : ℕ) (reading : Reading) (old : ServiceState) (owners : List Owner) → EachOnce owners → ClosedSoFar c reading old old owners owners
+closed_at_first c reading old owners once = record { closed = []; run = refl; once = once; each = λ more h. h }
+
+module _ (c : ℕ) (reading : Reading) (old now : ServiceState) (first rest before : List Owner) (o : Owner) (are : rest ≡ before ++ o ∷ []) (s : ClosedSoFar c reading old now first rest) where
+  once_rest : EachOnce (before ++ o ∷ [])
+  once_rest = subst (λ (os : List Owner). EachOnce os) are s.once
+
+  -- the last owner's session is closed
+  pub closed_more : (new : ServiceState) → o.connection ≡ c → (x : Exchange) → x.request.session ≡ o.session → x.request.body ≡ close → Step reading now x.request x.reply new
+      → ClosedSoFar c reading old new first before
+  closed_more new own x same body step = record {
+    closed = s.closed ++ x ∷ [];
+    run = history-both reading old now new s.closed (x ∷ []) s.run (new, step, refl);
+    once = (once_before before o once_rest).0;
+    each = λ more h.
+        subst (λ (g : List Exchange). ClosesOwn c first g) (sym (append_assoc s.closed (x ∷ []) more))
+        (s.each (x ∷ more) (subst (λ (os : List Owner). ClosesOwn c os (x ∷ more)) (sym are) (closes_last c before o (eq-eqb o.connection c own) once_rest x same body more h)));
+  }
+
+  -- the last owner is that of another connection
+  pub closed_same : (o.connection ≡ c → ⊥) → ClosedSoFar c reading old now first before
+  closed_same other = record {
+    closed = s.closed;
+    run = s.run;
+    once = (once_before before o once_rest).0;
+    each = λ more h. s.each more (subst (λ (os : List Owner). ClosesOwn c os more) (sym are) (closes_before c o (apart o.connection c other) before more h));
+  }
+
+-- no owner is left
+pub closed_all : (c : ℕ) (reading : Reading) (old now : ServiceState) (first rest : List Owner) → length rest ≡ 0 → ClosedSoFar c reading old now first rest
+    → (closed : List Exchange) × ClosesOwn c first closed × IsHistory reading old closed now
+closed_all c reading old now first [] none s = (s.closed, subst (λ (h : List Exchange). ClosesOwn c first h) (append-nil s.closed) (s.each [] refl), s.run)
+closed_all c reading old now first (o ∷ rest) none s = absurd (cc)
+
+-- a Close was answered for each of a connection's sessions, and the owners of the others are kept
+pub closes_as : (c : ℕ) (reading : Reading) (old new : ServiceState) (first owners owners' : List Owner) → EachOnce first → first ≡ owners → owners' ≡ of_others c first → (h : List Exchange) → ClosesOwn c first h
+    → IsHistory reading old h new → ClosesAs c owners owners' reading old new
+closes_as c reading old new first owners owners' once are rest h own run = (
+  h,
+  subst (λ (os : List Owner). ClosesOwn c os h) are own,
+  run,
+  rest ∙ sym (closed_others c first h once own) ∙ ap (λ (os : List Owner). owners_by c os h) are,
+)

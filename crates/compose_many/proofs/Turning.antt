@@ -19,7 +19,8 @@ use Rattle.compose_many.specs.declared.turn.Turn.{Turn}
 use Rattle.compose_many.specs.declared.turn.Turn.TheVariants.{GoesOn, Loaded as LoadedThen, Waits, NeedsRoom, Ends}
 use Rattle.compose_many.proofs.Happening.{behind_nothing, flat-both, flat-more, loads-both, run-both, happen-both}
 
--- the events of a turn, followed by those of a turn from the state that it leaves, are the events of one turn
+-- the events of a turn, followed by those of a turn from the state that it leaves, are the events
+-- of one turn
 pub turn_then : (limit : ℕ) (reading : Reading) (old mid new : ServiceState) (a b c : ConnectionState) (left left' left'' written written' written'' : Option (List ℕ)) (es fs : List Event)
     → IsTurn limit reading old mid a b left left' written written' es → IsTurn limit reading mid new b c left' left'' written' written'' fs
     → IsTurn limit reading old new a c left left'' written written'' (es ++ fs)
@@ -96,7 +97,8 @@ few_bytes most held piece (inr r) = r.1
 pub sent_holds_no_more : (most : ℕ) (before after : ConnectionState) (bytes : List ℕ) → Sends before bytes after → length before.held < most → length after.held < most
 sent_holds_no_more most before after bytes s h = let sent : length after.held ≡ length before.held = ap (λ (t : ConnectionState). length t.held) s.after in omega arith
 
--- if fewer bytes are held than the limit and one more piece, this stays so after a piece for which there was room
+-- if fewer bytes are held than the limit and one more piece, this stays so after a piece for which
+-- there was room
 pub read_holds_little : (most : ℕ) (held piece : List ℕ) → IsRoomFor most held piece → length held < most + max_piece → length (held ++ piece) < most + max_piece
 read_holds_little most held piece (inl e) h =
     let both : length (held ++ piece) ≡ length held + length piece = length-append held piece in
@@ -123,7 +125,8 @@ pub moves : (before mid after : ConnectionState) (bytes : List ℕ) (events : Li
 moves before mid after [] events s e n = inr (inr (λ same. n (same ∙ s.first ∙ e)))
 moves before mid after (b ∷ bytes) events s e n = inl (λ none. cc)
 
--- a turn that answered requests until this stop goes on, and its result shows whether a load was answered
+-- a turn that answered requests until this stop goes on, and its result shows whether a load was
+-- answered
 pub loads_behind : (stop : Stop) → loads_before stop ≡ loads_in (behind_answers stop)
 loads_behind Loaded = refl
 loads_behind NeedsBytes = refl
@@ -250,7 +253,8 @@ none_left (y ∷ xs) ys b t e x = let z : length (y ∷ xs) ≡ 0 = eqb-true (le
 pub some_left : (xs ys : List ℕ) (b : Bool) → b ≡ false → b ≡ (length xs == 0) → xs ≡ ys → ys ≢ []
 some_left xs ys b t e x n = let z : false ≡ true = sym t ∙ e ∙ eq-eqb (length xs) 0 (ap length (x ∙ n)) in cc
 
--- if nothing is unsent, the limit isn't reached, and the last step neither refused a faulty frame nor answered a load
+-- if nothing is unsent, the limit isn't reached, and the last step neither refused a faulty frame
+-- nor answered a load
 pub not_full : (limit : ℕ) (stop : Stop) (after now : ConnectionState) → 0 < limit → (stop ≡ Full) ⊎ ((stop ≡ Refused) ⊎ (stop ≡ Loaded)) → StopsAs limit stop after → KeptAs stop after now → now.unsent ≡ [] → ⊥
 not_full limit Full after now some is (inl s) k u =
     let none : length after.unsent ≡ 0 = ap (λ (t : ConnectionState). length t.unsent) (sym k) ∙ ap length u in

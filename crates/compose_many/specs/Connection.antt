@@ -6,8 +6,8 @@ use Rattle.compose_wire.specs.Frames.{frame, frames, reply_bytes, fault_at}
 use Rattle.compose_machine.specs.Laws.{Exchange, is_load}
 use Rattle.compose_serve.specs.Ends.{max_frames, replies_bytes, malformed_reply}
 
--- the bytes that came and are not answered, the bytes of replies that are not sent, the number of requests that were
--- answered, and whether a faulty frame was refused
+-- the bytes that came and are not answered, the bytes of replies that are not sent, the number of
+-- requests that were answered, and whether a faulty frame was refused
 pub record ConnectionState : Type 0 where
   pub held : List ℕ
   pub unsent : List ℕ
@@ -27,8 +27,8 @@ max_piece = 4096
 
 -- ---- events
 
--- a piece comes, a request is answered, a faulty frame is refused, or bytes are sent; or a Close that nobody sent is
--- answered and its reply dropped
+-- a piece comes, a request is answered, a faulty frame is refused, or bytes are sent; or a Close
+-- that nobody sent is answered and its reply dropped
 pub data Event : Type 0 where
   receives : List ℕ → Event
   answers : Exchange → Event
@@ -42,8 +42,8 @@ pub record Receives (s : ConnectionState) (piece : List ℕ) (s' : ConnectionSta
   pub all_sent : s.unsent ≡ []
   pub after : s' ≡ record s { held = s.held ++ piece }
 
--- the request whose frame is held first is answered, if fewer bytes than the limit are unsent; its reply follows what
--- is unsent
+-- the request whose frame is held first is answered, if fewer bytes than the limit are unsent; its
+-- reply follows what is unsent
 pub record Answers (limit : ℕ) (s : ConnectionState) (x : Exchange) (s' : ConnectionState) : Type 0 where
   pub goes_on : s.refused ≡ false
   pub below : length s.unsent < limit
@@ -53,7 +53,8 @@ pub record Answers (limit : ℕ) (s : ConnectionState) (x : Exchange) (s' : Conn
   pub first : s.held ≡ frame x.request ++ s'.held
   pub after : s' ≡ record s { held = s'.held; unsent = s.unsent ++ reply_bytes x.reply; answered = s.answered + 1 }
 
--- the faulty frame that is held first is refused; from then on nothing comes and nothing is answered
+-- the faulty frame that is held first is refused; from then on nothing comes and nothing is
+-- answered
 pub record Refuses (limit : ℕ) (s s' : ConnectionState) : Type 0 where
   pub goes_on : s.refused ≡ false
   pub below : length s.unsent < limit
@@ -105,8 +106,8 @@ abbrev pub sent_of : Event → List ℕ
 sent_of (sends bytes) = bytes
 sent_of _ = []
 
--- the bytes that came, all exchanges, the exchanges whose requests came, their requests and replies, the Closes that
--- nobody sent, and the bytes that were sent
+-- the bytes that came, all exchanges, the exchanges whose requests came, their requests and
+-- replies, the Closes that nobody sent, and the bytes that were sent
 abbrev pub received : List Event → List ℕ
 received events = flat_map piece_of events
 
@@ -137,9 +138,9 @@ abbrev pub refusal : Bool → List Reply
 refusal false = []
 refusal true = malformed_reply ∷ []
 
--- a connection that was new and on which these events happened: its requests are the first frames of what came, in
--- order; the sent and the unsent bytes together are the replies to exactly these requests, and to the faulty frame if
--- one was refused
+-- a connection that was new and on which these events happened: its requests are the first frames
+-- of what came, in order; the sent and the unsent bytes together are the replies to exactly these
+-- requests, and to the faulty frame if one was refused
 pub record HasItsOwn (limit : ℕ) (events : List Event) (now : ConnectionState) : Type 0 where
   pub fit : AllByRecursion Fits (requests events)
   pub counted : now.answered ≡ length (requests events)

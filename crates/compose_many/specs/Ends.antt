@@ -27,8 +27,8 @@ EndsAs (Err NoMemory) left' read_failed write_failed now = (now.held ≢ []) × 
 
 -- ---- as a stream ends
 
--- what was served on a connection: its requests and replies, the bytes after these requests, and the bytes that were
--- sent
+-- what was served on a connection: its requests and replies, the bytes after these requests, and
+-- the bytes that were sent
 abbrev pub served : List Event → ConnectionState → Served
 served events now = record { requests = requests events; replies = replies events; rest = now.held; written = sent events }
 
@@ -38,7 +38,8 @@ EndsAsStream =
     (limit : ℕ) (events : List Event) (now : ConnectionState) (end : Result StreamEnd ServeFault) (left' : Option (List ℕ)) (read_failed write_failed : Bool) → AllHappen limit new_connection events now
     → EndsAs end left' read_failed write_failed now → end ≢ Err Write → stream.EndsAs end left' read_failed write_failed (served events now)
 
--- if a write failed, the last bytes of the replies are missing: fewer than the limit plus the maximum length of a reply
+-- if a write failed, the last bytes of the replies are missing: fewer than the limit plus the
+-- maximum length of a reply
 pub record IsMissing (limit : ℕ) (events : List Event) (now : ConnectionState) (write_failed : Bool) : Type 0 where
   pub failed : write_failed ≡ true
   pub missing : List ℕ

@@ -1,5 +1,8 @@
--- The owners of the open sessions, and which sessions are closed when a connection ends (this project's profile).
+-- The owners of the open sessions, and which sessions are closed when a connection ends (this
+-- project's profile).
 use Rattle.std.specs.Prelude.{◌≡◌, ◌⊎◌, ℕ, ◌==◌, Bool, true, false, not, if◌then◌else◌, List, [], ◌∷◌, ◌++◌, map, filter, fold, Option, Some, None, IsSome}
+use Rattle.std.specs.Option.{option_or}
+use Rattle.std.specs.List.{IsDistinct}
 use Rattle.compose_wire.specs.Messages.{Body, open_session, close, ReplyBody, opened}
 use Rattle.compose_wire.specs.declared.request.Body.{Body as ProgramBody}
 use Rattle.compose_wire.specs.declared.request.Body.TheVariants.{Open, Close}
@@ -7,22 +10,37 @@ use Rattle.compose_wire.specs.declared.reply.ReplyBody.{ReplyBody as ProgramAnsw
 use Rattle.compose_wire.specs.declared.reply.ReplyBody.TheVariants.{Opened}
 use Rattle.compose_machine.specs.Machine.{ServiceState, Reading, session_of}
 use Rattle.compose_machine.specs.Laws.{Exchange, IsHistory}
-use Rattle.compose_many.specs.Connection.{Event, closes, exchange_of, exchanges, closings}
+use Rattle.compose_many.specs.Connection.{closes, exchange_of, exchanges, closings}
 use Rattle.compose_many.specs.Service.{NumberedEvent, events_of, numbered}
 use Rattle.compose_many.specs.declared.owners.Owner.{Owner}
 
 -- ---- owners
 
+-- the owners of the open sessions, in the order in which they were opened, and how many more there
+-- is room for without taking memory
+pub record OwnersState : Type 0 where
+  pub list : List Owner
+  pub room : ℕ
+
+-- no session has two owners
+abbrev pub EachOnce : List Owner → Type 0
+EachOnce owners = IsDistinct (λ (o p : Owner). o.session == p.session) owners
+
 -- the owners of all sessions but this one
 abbrev pub without : ℕ → List Owner → List Owner
 without n owners = filter (λ o. not (o.session == n)) owners
 
--- a session that is opened on the connection c is owned by c; the others stay in the order in which they were opened
+-- the owners of the sessions of all connections but this one
+abbrev pub of_others : ℕ → List Owner → List Owner
+of_others c owners = filter (λ o. not (o.connection == c)) owners
+
+-- a session that is opened on the connection c is owned by c; the others stay in the order in which
+-- they were opened
 abbrev pub with_owner : ℕ → ℕ → List Owner → List Owner
 with_owner n c owners = without n owners ++ record { session = n; connection = c } ∷ []
 
--- the owners after this answer to a request for the session n on the connection c: a session that was opened is owned
--- by c, and one for which a Close was answered has no owner, whoever opened it
+-- the owners after this answer to a request for the session n on the connection c: a session that
+-- was opened is owned by c, and one for which a Close was answered has no owner, whoever opened it
 abbrev pub owners_when : ℕ → ℕ → List Owner → Body → ReplyBody → List Owner
 owners_when c n owners open_session opened = with_owner n c owners
 owners_when c n owners close answer = without n owners
@@ -47,22 +65,22 @@ owners_noted c n owners _ _ = owners
 
 -- ---- what is closed when a connection ends
 
--- the session of this connection that was opened first
-abbrev pub first_own : ℕ → List Owner → Option ℕ
-first_own c [] = None
-first_own c (o ∷ owners) = if o.connection == c then Some o.session else first_own c owners
+-- the session of this connection that was opened last
+abbrev pub last_own : ℕ → List Owner → Option ℕ
+last_own c [] = None
+last_own c (o ∷ owners) = option_or (last_own c owners) (if o.connection == c then Some o.session else None)
 
--- a Close is answered for the first session of the connection c, and so on, until it has none
+-- a Close is answered for the last session of the connection c, and so on, until it has none
 abbrev pub ClosesOwn : ℕ → List Owner → List Exchange → Type 0
-ClosesOwn c owners [] = first_own c owners ≡ None
-ClosesOwn c owners (x ∷ h) = (first_own c owners ≡ Some x.request.session) × (x.request.body ≡ close) × ClosesOwn c (owners_after c owners x) h
+ClosesOwn c owners [] = last_own c owners ≡ None
+ClosesOwn c owners (x ∷ h) = (last_own c owners ≡ Some x.request.session) × (x.request.body ≡ close) × ClosesOwn c (owners_after c owners x) h
 
 -- a Close was answered for each session of the connection c, and nothing else happened
 abbrev pub ClosesAs : ℕ → List Owner → List Owner → Reading → ServiceState → ServiceState → Type 0
 ClosesAs c owners owners' reading old new = (h : List Exchange) × ClosesOwn c owners h × IsHistory reading old h new × (owners' ≡ owners_by c owners h)
 
--- the connection c ended, and then a Close was answered for each of its open sessions, in the order in which they were
--- opened; no session was closed for it before, and nothing happened on it later
+-- the connection c ended, and then a Close was answered for each of its open sessions, the one that
+-- was opened last first; no session was closed for it before, and nothing happened on it later
 pub record EndedWithItsSessions (c : ℕ) (all : List NumberedEvent) : Type 0 where
   pub before : List NumberedEvent
   pub closed : List Exchange
@@ -76,8 +94,8 @@ pub record EndedWithItsSessions (c : ℕ) (all : List NumberedEvent) : Type 0 wh
 abbrev pub ClosedNone : ℕ → List NumberedEvent → Type 0
 ClosedNone c all = closings (events_of c all) ≡ []
 
--- the sessions that were closed for a connection c that ended: with true, sessions end with their connection, and with
--- false, they do not
+-- the sessions that were closed for a connection c that ended: with true, sessions end with their
+-- connection, and with false, they do not
 abbrev pub ClosedAtEnd : Bool → ℕ → List NumberedEvent → Type 0
 ClosedAtEnd true c all = EndedWithItsSessions c all
 ClosedAtEnd false c all = ClosedNone c all
@@ -86,10 +104,10 @@ ClosedAtEnd false c all = ClosedNone c all
 
 -- a connection that ended with its sessions owns none, whatever happened on others since
 abbrev pub EndedOwnNone : Type 0
-EndedOwnNone = (c : ℕ) (all : List NumberedEvent) → EndedWithItsSessions c all → first_own c (owners_of all) ≡ None
+EndedOwnNone = (c : ℕ) (all : List NumberedEvent) → EndedWithItsSessions c all → last_own c (owners_of all) ≡ None
 
--- if each connection ended with its sessions, or nothing happened on it, no session is open but those that were open
--- before
+-- if each connection ended with its sessions, or nothing happened on it, no session is open but
+-- those that were open before
 abbrev pub NoSessionStays : Type 0
 NoSessionStays = (reading : Reading) (first now : ServiceState) (all : List NumberedEvent) → IsHistory reading first (exchanges (map (λ (e : NumberedEvent). e.event) all)) now
     → ((c : ℕ) → EndedWithItsSessions c all ⊎ (events_of c all ≡ [])) → (n : ℕ) → IsSome (session_of now.sessions n) → IsSome (session_of first.sessions n)

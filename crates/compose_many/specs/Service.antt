@@ -17,8 +17,8 @@ events_of c all = map (λ e. e.event) (filter (λ e. e.connection == c) all)
 abbrev pub numbered : ℕ → List Event → List NumberedEvent
 numbered c events = map (λ e. record { connection = c; event = e }) events
 
--- these events happen in this order: the service goes on by the exchanges of all connections, and each connection by
--- its own events
+-- these events happen in this order: the service goes on by the exchanges of all connections, and
+-- each connection by its own events
 pub record AllServed (limit : ℕ) (reading : Reading) (old new : ServiceState) (before after : ℕ → ConnectionState) (all : List NumberedEvent) : Type 0 where
   pub run : IsHistory reading old (exchanges (map (λ e. e.event) all)) new
   pub each : (c : ℕ) → AllHappen limit (before c) (events_of c all) (after c)
@@ -31,7 +31,8 @@ EachHasItsOwn =
     (limit : ℕ) (reading : Reading) (old new : ServiceState) (before after : ℕ → ConnectionState) (all : List NumberedEvent) (c : ℕ) → before c ≡ new_connection
     → AllServed limit reading old new before after all → HasItsOwn limit (events_of c all) (after c)
 
--- events of one connection, by which the service goes on while no other connection changes, are events of the service
+-- events of one connection, by which the service goes on while no other connection changes, are
+-- events of the service
 abbrev pub TurnsAreServed : Type 0
 TurnsAreServed =
     (limit : ℕ) (reading : Reading) (old new : ServiceState) (before after : ℕ → ConnectionState) (events : List Event) (c : ℕ) → AllHappen limit (before c) events (after c)

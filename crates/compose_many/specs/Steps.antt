@@ -37,10 +37,10 @@ HasRoom (Ok q) len capacity = len + max_reply ≤ capacity
 HasRoom (Err Refused) len capacity = len + max_reply ≤ capacity
 HasRoom (Err _) len capacity = ⊤
 
--- there is space for the owner of one more session, if a request is answered
-abbrev pub HasSpace : Result Request Stop → ℕ → ℕ → Type 0
-HasSpace (Ok q) len capacity = len < capacity
-HasSpace (Err _) len capacity = ⊤
+-- there is room for the owner of one more session, if a request is answered
+abbrev pub HasSpace : Result Request Stop → ℕ → Type 0
+HasSpace (Ok q) room = 1 ≤ room
+HasSpace (Err _) room = ⊤
 
 -- the state of a connection when no further request is answered, by the reason for that
 abbrev pub StopsAs : ℕ → Stop → ConnectionState → Type 0
@@ -66,13 +66,14 @@ abbrev pub after_reply : Bool → Result (Unit {0}) Stop
 after_reply true = Err Loaded
 after_reply false = Ok tt
 
--- one request was answered; whether it is a load is given, and its session may have another owner from then on
+-- one request was answered; whether it is a load is given, and its session may have another owner
+-- from then on
 abbrev pub OneAnswered : ℕ → ℕ → List Owner → List Owner → Reading → ServiceState → ServiceState → ConnectionState → ConnectionState → Bool → Type 0
 OneAnswered limit number owners owners' reading old new before now load =
     (x : Exchange) × Answers limit before x now × IsHistory reading old (x ∷ []) new × (is_load x.request.body ≡ load) × (owners' ≡ owners_after number owners x)
 
--- one request was answered, which is a load only if the result is Loaded; or none was, and a faulty frame may have been
--- refused
+-- one request was answered, which is a load only if the result is Loaded; or none was, and a faulty
+-- frame may have been refused
 abbrev pub NextAs : ℕ → ℕ → List Owner → List Owner → Reading → ServiceState → ServiceState → ConnectionState → ConnectionState → Result (Unit {0}) Stop → Type 0
 NextAs limit number owners owners' reading old new before now (Ok _) = OneAnswered limit number owners owners' reading old new before now false
 NextAs limit number owners owners' reading old new before now (Err Loaded) = OneAnswered limit number owners owners' reading old new before now true

@@ -15,8 +15,8 @@ use Rattle.compose_many.specs.declared.turn.TurnLimits.{TurnLimits}
 use Rattle.compose_many.specs.declared.turn.Turn.{Turn}
 use Rattle.compose_many.specs.declared.turn.Turn.TheVariants.{GoesOn, Loaded, Waits, NeedsRoom, Ends}
 
--- the bytes that a turn reads and writes are those that come and are sent in these events, and the service goes on by
--- their exchanges
+-- the bytes that a turn reads and writes are those that come and are sent in these events, and the
+-- service goes on by their exchanges
 pub record IsTurn (limit : ℕ) (reading : Reading) (old new : ServiceState) (before after : ConnectionState) (left left' written written' : Option (List ℕ)) (events : List Event) : Type 0 where
   pub happen : AllHappen limit before events after
   pub run : IsHistory reading old (exchanges events) new
@@ -31,9 +31,10 @@ Moves before events after = (sent events ≢ []) ⊎ ((received events ≢ []) �
 abbrev pub IsIdle : ConnectionState → Type 0
 IsIdle now = IsBegun now.held × IsQuiet now
 
--- what follows a turn: unless it ends, the connection is as the events leave it. If it goes on, there was something to
--- do. If it waits, the writer takes nothing for now, or the reader has no bytes and there is nothing else to do. If it
--- needs room, the limit of held bytes is reached and there is nothing else to do. Or it ends, in this way
+-- what follows a turn: unless it ends, the connection is as the events leave it. If it goes on,
+-- there was something to do. If it waits, the writer takes nothing for now, or the reader has no
+-- bytes and there is nothing else to do. If it needs room, the limit of held bytes is reached and
+-- there is nothing else to do. Or it ends, in this way
 abbrev pub FollowsAs : ℕ → Turn → ConnectionState → List Event → ConnectionState → ConnectionState → Option (List ℕ) → Option TryError → Option TryError → Type 0
 FollowsAs most GoesOn before events after now left' read_mark write_mark = (now ≡ after) × Moves before events after
 FollowsAs most Loaded before events after now left' read_mark write_mark = (now ≡ after) × Moves before events after
@@ -47,15 +48,16 @@ abbrev pub loads_in : Turn → ℕ
 loads_in Loaded = 1
 loads_in _ = 0
 
--- a turn is short: at most one piece comes; one load is answered if the result is Loaded, and none otherwise; and no
--- session is closed without a request
+-- a turn is short: at most one piece comes; one load is answered if the result is Loaded, and none
+-- otherwise; and no session is closed without a request
 pub record IsShort (turn : Turn) (events : List Event) : Type 0 where
   pub piece : length (received events) ≤ max_piece
   pub load : loads events ≡ loads_in turn
   pub none_closed : closings events ≡ []
 
--- a turn is a list of events of the connection with this number, where the limit 0 counts as 1. The number of held
--- bytes stays bounded if it was, and the sessions have the owners that follow from these events
+-- a turn is a list of events of the connection with this number, where the limit 0 counts as 1. The
+-- number of held bytes stays bounded if it was, and the sessions have the owners that follow from
+-- these events
 abbrev pub TurnAs : TurnLimits → Reading → Turn → ServiceState → ServiceState → ConnectionState → ConnectionState
     → Option (List ℕ) → Option (List ℕ) → Option (List ℕ) → Option (List ℕ) → Option TryError → Option TryError → ℕ → List Owner → List Owner → Type 0
 TurnAs limits reading turn old new before now left left' written written' read_mark write_mark number owners owners' =

@@ -6,7 +6,7 @@ ghost use Rattle.compose_machine.specs.Laws.{is_load};
 ghost use Rattle.compose_many.specs.Connection.{Sends, max_reply};
 ghost use Rattle.compose_many.specs.Steps.{IsNextRequest, HasRoom, HasSpace, NextAs, AnswersAs, after_reply};
 
-use crate::owners::{Owner, note};
+use crate::owners::Owners;
 use compose_serve::Responder;
 use compose_wire::{Body, Feeder, Reply, ReplyBody, Request, WireFault, put_reply};
 use std::alloc::Global;
@@ -124,14 +124,14 @@ impl Connection {
     fn answer_next<S: Responder>(
         &mut self,
         service: &mut S,
-        owners: &mut Vec<Owner>,
+        owners: &mut Owners,
         alloc: Global,
         limit: usize,
         number: u64,
         reply: &mut Reply,
     ) -> Result<(), Stop>
         requires { self.old.refused ≡ false }
-        ensures { NextAs limit number owners.old.items owners.new.items S.reading
+        ensures { NextAs limit number owners.old.list owners.new.list S.reading
             (S.state service.old) (S.state service.new) self.old self.new result }
     {
         if self.unsent.len() >= limit {
@@ -154,7 +154,7 @@ impl Connection {
             return Err(Stop::TooManyFrames);
         }
         service.answer_into(alloc, &request, reply);
-        note(owners, number, &request, reply);
+        owners.note(number, &request, reply);
         append(&mut self.unsent, put_reply(reply).as_slice());
         self.answered += 1;
         after_reply(&request)
@@ -165,13 +165,13 @@ impl Connection {
     pub(crate) fn answer_held<S: Responder>(
         &mut self,
         service: &mut S,
-        owners: &mut Vec<Owner>,
+        owners: &mut Owners,
         alloc: Global,
         limit: usize,
         number: u64,
     ) -> Stop
         requires { self.old.refused ≡ false }
-        ensures { AnswersAs limit number owners.old.items owners.new.items S.reading
+        ensures { AnswersAs limit number owners.old.list owners.new.list S.reading
             (S.state service.old) (S.state service.new) self.old self.new result }
     {
         // a reply is large: one is kept, and filled for each request
@@ -203,14 +203,14 @@ fn after_reply(request: &Request) -> Result<(), Stop>
 fn first_request(
     feeder: &mut Feeder,
     unsent: &mut Vec<u8>,
-    owners: &mut Vec<Owner>,
+    owners: &mut Owners,
     alloc: Global,
 ) -> Result<Request, Stop>
     ensures so { IsNextRequest result feeder.old feeder.new }
     ensures items { unsent.new.items ≡ unsent.old.items }
     ensures room { HasRoom result (vec_len unsent.new) (vec_capacity unsent.new) }
-    ensures owners { owners.new.items ≡ owners.old.items }
-    ensures space { HasSpace result (vec_len owners.new) (vec_capacity owners.new) }
+    ensures owners { owners.new.list ≡ owners.old.list }
+    ensures space { HasSpace result owners.new.room }
 {
     if feeder.held() == 0 {
         return Err(Stop::NeedsBytes);
@@ -218,7 +218,7 @@ fn first_request(
     let Ok(()) = unsent.reserve(MAX_REPLY) else {
         return Err(Stop::NoMemory);
     };
-    let Ok(()) = owners.reserve(1) else {
+    let Ok(()) = owners.reserve_one() else {
         return Err(Stop::NoMemory);
     };
     match feeder.next_request(alloc) {

@@ -33,7 +33,7 @@ pub use connection::Connection;
 pub use laws::{law_connections, law_ends, law_own_sessions};
 pub use nonblocking::Nonblocking;
 pub use numbered::{Streams, law_streams};
-pub use owners::{Owner, close_own};
+pub use owners::{Owner, Owners, close_own};
 pub use streams::{TryError, TryPull, TryPush};
 pub use table::StreamTable;
 pub use turn::{Turn, TurnLimits, turn_on};

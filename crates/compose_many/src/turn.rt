@@ -8,7 +8,7 @@ ghost use Rattle.compose_many.specs.Numbered.{OthersStay, ReaderStays, WriterSta
 
 use crate::connection::{Connection, Stop};
 use crate::numbered::Streams;
-use crate::owners::Owner;
+use crate::owners::Owners;
 use crate::streams::TryError;
 use compose_serve::{Responder, ServeFault, StreamEnd};
 use std::alloc::Global;
@@ -67,7 +67,7 @@ pub fn turn_on<M: Streams, A: Responder>(
     streams: &mut M,
     connection: &mut Connection,
     service: &mut A,
-    owners: &mut Vec<Owner>,
+    owners: &mut Owners,
     alloc: Global,
     limits: TurnLimits,
     number: u64,
@@ -76,7 +76,7 @@ pub fn turn_on<M: Streams, A: Responder>(
         (A.state service.new) connection.old connection.new (M.stream streams.old number).left
         (M.stream streams.new number).left (M.stream streams.old number).written
         (M.stream streams.new number).written (M.stream streams.new number).read_mark
-        (M.stream streams.new number).write_mark number owners.old.items owners.new.items }
+        (M.stream streams.new number).write_mark number owners.old.list owners.new.list }
     ensures read_mark { result ≢ Turn.Waits → result ≢ Turn.Ends (Err ServeFault.Read)
         → (M.stream streams.new number).read_mark ≡ (M.stream streams.old number).read_mark }
     ensures write_mark { result ≢ Turn.Waits → result ≢ Turn.Ends (Err ServeFault.Write)

@@ -1,5 +1,5 @@
--- The messages for the faults of files that are not sources (this project's profile), and the line that each fault is
--- in.
+-- The messages for the faults of files that are not sources (this project's profile), and the line
+-- that each fault is in.
 use Rattle.std.specs.Prelude.{ℕ, List, Option, Some, None, codes}
 use Rattle.keysym_core.specs.declared.fault.NameFault.{NameFault}
 use Rattle.keysym_core.specs.declared.fault.NameFault.TheVariants as names

@@ -80,8 +80,8 @@ include_hint path = if starts_with nat_eq path (codes "~/") then Some HomeFolder
 abbrev pub encoding_hint : List ℕ → Hint
 encoding_hint first = if starts_with nat_eq first (0xff ∷ 0xfe ∷ []) || starts_with nat_eq first (0xfe ∷ 0xff ∷ []) then Utf16 else Encoding
 
--- an entry of a manifest: a name, a tab (code 9) and a path; not a line of a Compose file, which has `<` (code 60) or
--- begins with `include`
+-- an entry of a manifest: a name, a tab (code 9) and a path; not a line of a Compose file, which
+-- has `<` (code 60) or begins with `include`
 abbrev pub is_entry : List ℕ → Bool
 is_entry line = list_any (λ b. b == 9) line && not (begins is_blank line || list_any (λ b. b == 60) line || starts_with nat_eq line (codes "include"))
 
@@ -92,7 +92,8 @@ file_hint line =
     if starts_with nat_eq line (codes "U+") || starts_with nat_eq line (codes "keys 0x") then Some Repertoire else
     if is_entry line then Some Manifest else None
 
--- a line that can't be read, a name that is unknown, a line that is not UTF-8, a file that is not listed, or an overlap
+-- a line that can't be read, a name that is unknown, a line that is not UTF-8, a file that is not
+-- listed, or an overlap
 abbrev pub table_hint : List Source → Bool → TableFault → Option Hint
 table_hint sources are_given (Read (UnknownKeysym source line index)) = Some (name_hint are_given (named (line_at sources source line) index))
 table_hint sources are_given (Read (Lex source line fault)) = file_hint (line_at sources source line)
@@ -133,7 +134,8 @@ abbrev pub repertoire_hint : List ℕ → RepertoireFault → Option Hint
 repertoire_hint bytes (repertoires.BadLine n) = if has_table_line bytes then Some NoRepertoire else None
 repertoire_hint bytes fault = None
 
--- the file is a Compose table: its faulty line is one of a table, it begins like a table, or its path ends in `Compose`
+-- the file is a Compose table: its faulty line is one of a table, it begins like a table, or its
+-- path ends in `Compose`
 abbrev pub manifest_hint : List ℕ → List ℕ → ManifestFault → Option Hint
 manifest_hint path bytes (BadLine n) = if ends_with nat_eq path (codes "Compose") || is_table_line (get_or (lines_of bytes) (n - 1) []) || begins_as_table bytes then Some Table else None
 manifest_hint path bytes fault = None

@@ -72,8 +72,9 @@ lex_message_text line TextTooLong = codes "the string has more than 255 bytes"
 lex_message_text line TextNotUtf8 = codes "the string is not UTF-8"
 lex_message_text line fault = codes "out of memory"
 
--- more than eight includes lead to the file of this name, and the last of them is in the file `own`, in a table with
--- this number of files: with at most nine files, one of the ten files on that way occurs twice
+-- more than eight includes lead to the file of this name, and the last of them is in the file
+-- `own`, in a table with this number of files: with at most nine files, one of the ten files on
+-- that way occurs twice
 abbrev pub depth_message_text : ℕ → List ℕ → List ℕ → List ℕ
 depth_message_text count own name =
     if bytes_eq own name then quoting (codes "the includes go in a circle: this file includes itself, as ") name else

@@ -15,7 +15,8 @@ use Rattle.compose_read.specs.declared.ReadFault.{ReadFault}
 use Rattle.compose_read.specs.declared.ReadFault.TheVariants.{NotUtf8, Lex, UnknownKeysym, IgnoredKeysym, MissingInclude, IncludeDepth, TooManyLines, TooManyDefinitions}
 use Rattle.compose_messages.specs.declared.position.Position.{Position}
 
--- the line with this number, counted from 1, of the source with this index; nothing if there is none
+-- the line with this number, counted from 1, of the source with this index; nothing if there is
+-- none
 abbrev pub line_at : List Source → ℕ → ℕ → List ℕ
 line_at sources source line = get_or (source_lines (get_or sources source (record { name = []; bytes = [] })).bytes) (line - 1) []
 
@@ -57,8 +58,8 @@ nth_of byte n (b ∷ line) = if b == byte && n == 0 then 0 else 1 + nth_of byte 
 abbrev pub first_of : ℕ → List ℕ → ℕ
 first_of byte line = nth_of byte 0 line
 
--- the offset of the end of the string, or of the colon (code 58) if there is no string; the raw text is between quotes
--- (code 34), the first of the line
+-- the offset of the end of the string, or of the colon (code 58) if there is no string; the raw
+-- text is between quotes (code 34), the first of the line
 abbrev pub text_end : List ℕ → Option (List ℕ) → ℕ
 text_end line None = 1 + first_of 58 line
 text_end line (Some raw) = 2 + length raw + first_of 34 line
@@ -67,7 +68,8 @@ text_end line (Some raw) = 2 + length raw + first_of 34 line
 abbrev pub result_offset : List ℕ → Option (List ℕ) → ℕ
 result_offset line raw = text_end line raw + prefix_len is_blank (drop (text_end line raw) line)
 
--- the offset of the event with this index, at its `<` (code 60); of the result keysym, if no event has this index
+-- the offset of the event with this index, at its `<` (code 60); of the result keysym, if no event
+-- has this index
 abbrev pub offset_in : List ℕ → ℕ → Result Reading LexFault → ℕ
 offset_in line index (Ok (production events raw name)) = if nat_lt index (length events) then nth_of 60 index line else result_offset line raw
 offset_in line index reading = 0

@@ -26,8 +26,8 @@ abbrev pub last_solid : Option ℕ → List ℕ → Option ℕ
 last_solid last [] = last
 last_solid last (b ∷ bytes) = last_solid (if is_blank b then last else Some b) bytes
 
--- after a name or the word `include`: if a colon (code 58) is before it, the name is that of a result; if a `<` (code
--- 60) is, that of an event
+-- after a name or the word `include`: if a colon (code 58) is before it, the name is that of a
+-- result; if a `<` (code 60) is, that of an event
 abbrev pub expected_after_name : List ℕ → List ℕ
 expected_after_name before =
     if list_any (λ b. b == 58) before then codes "the end of the line" else
@@ -40,7 +40,8 @@ begins_production before = starts_with nat_eq (drop (prefix_len is_blank before)
 abbrev pub expected_after_string : List ℕ → List ℕ
 expected_after_string before = if begins_production before then codes "the name of a keysym or the end of the line" else codes "the end of the line"
 
--- after the token that ends with this byte: `<`, `>`, `:`, a quote (codes 60, 62, 58 and 34), or a byte of a name
+-- after the token that ends with this byte: `<`, `>`, `:`, a quote (codes 60, 62, 58 and 34), or a
+-- byte of a name
 abbrev pub expected_after_token : List ℕ → Option ℕ → List ℕ
 expected_after_token before None = codes "\"<\" or the word include"
 expected_after_token before (Some b) =

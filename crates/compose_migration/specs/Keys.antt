@@ -1,4 +1,5 @@
--- Key names, each of which has to name a keysym (this project's format: docs/FORMATS.md, "Names of keysyms").
+-- Key names, each of which has to name a keysym (this project's format: docs/FORMATS.md, "Names of
+-- keysyms").
 use Rattle.std.specs.Prelude.{ℕ, List, map, position, Option, is_none, Result, Ok, Err}
 use Rattle.std.specs.Option.{option_map_or, option_to_list}
 use Rattle.std.specs.List.{flat_map}

@@ -39,7 +39,8 @@ pub record Parts : Type 0 where
   pub old : List Definition
   pub new : List Definition
 
--- the part that is refused, and why; of the key names, the index of the first one that has no keysym
+-- the part that is refused, and why; of the key names, the index of the first one that has no
+-- keysym
 pub data NoAnswer : Type 0 where
   no_names : NameFault → NoAnswer
   no_key : ℕ → NoAnswer

@@ -106,7 +106,8 @@ abbrev pub sequence_place : Markup → Option NewSequence → List ℕ
 sequence_place markup None = []
 sequence_place markup (Some s) = place_part markup s.path.now s.line
 
--- the places in both tables, that of the longer sequence, and that of the one that gives the text now
+-- the places in both tables, that of the longer sequence, and that of the one that gives the text
+-- now
 abbrev pub places_cell : Markup → DiffRow → List ℕ
 places_cell markup row = cell markup (entry_place markup row.old ++ (entry_place markup row.new ++ (sequence_place markup row.longer ++ sequence_place markup row.typing)))
 

@@ -26,7 +26,8 @@ common_start (key ∷ keys) (other ∷ others) = if bytes_eq key.now other.now t
 abbrev pub common_end : Keys → Keys → ℕ
 common_end keys others = common_start (reverse keys) (reverse others)
 
--- of the keys that follow those with which both begin, the number of keys before those with which both end
+-- of the keys that follow those with which both begin, the number of keys before those with which
+-- both end
 abbrev pub own_count : Keys → Keys → ℕ
 own_count rest others = length rest - common_end rest others
 

@@ -2,7 +2,7 @@
 ghost use Rattle.std.specs.Prelude.{◌≡◌, ◌++◌, OnOk, string_bytes};
 ghost use Rattle.compose_page.specs.Markup as words;
 
-use compose_diff::is_unsafe;
+use compose_shown::is_unsafe;
 use keysym_core::ShownChar;
 use std::alloc::AllocError;
 use std::fmt::Write;

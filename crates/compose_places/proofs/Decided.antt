@@ -106,7 +106,8 @@ module _ (names : KeysymNames) (sources : List Source) where
       by_many others false e h = by_found others (line_result names sources v >>= with_room v definitions) e h
 
   module _ (root : List ℕ) (table : List Definition) where
-    -- if the definitions are read without a fault, the lines of definitions give them, one each and in order
+    -- if the definitions are read without a fault, the lines of definitions give them, one each and
+    -- in order
     pub definition_lines_exact : definitions_of names sources root ≡ Ok table → map (line_result names sources) (definition_lines sources root) ≡ each table
     definition_lines_exact h = go (nat_lt (source_named sources root) (length sources)) h
       where

@@ -1,5 +1,5 @@
--- Elements that are sorted by their texts, and kept once for each text, have the texts of all in rising order, each
--- once.
+-- Elements that are sorted by their texts, and kept once for each text, have the texts of all in
+-- rising order, each once.
 use Rattle.std.proofs.Common.{◌≡◌, ℕ, List, [], ◌∷◌, Bool, true, false, map, refl, sym, ◌∙◌, nat_cmp, Less}
 use Rattle.std.specs.Prelude.{nat_eq}
 use Rattle.std.specs.List.{dedup, list_any, AllByRecursion}

@@ -1,5 +1,5 @@
--- Sequences in one array stay what they are when more keysyms are appended, and the appended keysyms are one more
--- sequence.
+-- Sequences in one array stay what they are when more keysyms are appended, and the appended
+-- keysyms are one more sequence.
 use Rattle.std.proofs.Common.{◌≡◌, ℕ, ◌+◌, ◌≤◌, List, [], ◌∷◌, ◌++◌, length, take, drop, refl, ◌∙◌, ap, ap₂, arith}
 use Rattle.std.proofs.Math.Seq.{drop-append_seam, take-length}
 use Rattle.std.proofs.lemmas.List.{map-append, length-append}

@@ -100,11 +100,13 @@ module _ (table definitions : List Definition) (i : ℕ) (sequence : List ℕ) (
   other_stays : (x : List ℕ) → same x sequence ≡ false → after x ≡ before x
   other_stays x h = last_after x ∙ ap (λ b. cond b (Some i) (before x)) h
 
-  -- a further definition whose sequence is none of the table's changes the last definition of no leaf
+  -- a further definition whose sequence is none of the table's changes the last definition of no
+  -- leaf
   pub no_leaf : is_sequence table sequence ≡ false → map after (leaves table) ≡ map before (leaves table)
   no_leaf h = nothing_changed before after sequence other_stays (leaves table) (leaf_means table sequence ∙ h)
 
-  -- a further definition whose sequence is one of the table's is then the last one of that leaf alone
+  -- a further definition whose sequence is one of the table's is then the last one of that leaf
+  -- alone
   pub one_leaf : is_sequence table sequence ≡ true → map after (leaves table) ≡ set (map before (leaves table)) (leaf_number table sequence) (Some i)
   one_leaf h =
       changed_at before after sequence other_stays (leaves table) (rising_sorted nat_list_cmp_total (map (λ (d : Definition). d.sequence) table)) (leaf_means table sequence ∙ h)

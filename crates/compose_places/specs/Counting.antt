@@ -1,5 +1,5 @@
--- The line that counts for a sequence: the last one that defines it (Compose(5): a later definition overrides an
--- earlier one).
+-- The line that counts for a sequence: the last one that defines it (Compose(5): a later definition
+-- overrides an earlier one).
 use Rattle.std.specs.Prelude.{◌≡◌, ℕ, nat_lt, nat_eq, codes, if◌then◌else◌, List, [], ◌∷◌, length, map, filter, take, Option, Some, None, unwrap_or, false, Bool}
 use Rattle.std.specs.List.{starts_with}
 use Rattle.std.specs.Option.{option_map, option_map_or, option_and_then, option_or}

@@ -1,4 +1,5 @@
--- Sequences that are prefixes of longer ones: libxkbcommon, libX11, GTK and IBus let the longer ones count.
+-- Sequences that are prefixes of longer ones: libxkbcommon, libX11, GTK and IBus let the longer
+-- ones count.
 use Rattle.std.specs.Prelude.{ℕ, List, length, filter, Result, Ok, Err}
 use Rattle.keysym_core.specs.Names.{KeysymNames}
 use Rattle.compose_model.specs.Table.{Definition, is_extended}

@@ -13,7 +13,8 @@ abbrev pub root_of : List Source → List ℕ
 root_of [] = []
 root_of (s ∷ sources) = s.name
 
--- each sequence has the line that counts for it, whose keys it is; and the sequences that are left out are counted
+-- each sequence has the line that counts for it, whose keys it is; and the sequences that are left
+-- out are counted
 pub record HasLines {T : Type 0} (view : T → List Definition) (names : KeysymNames) (sources : List Source) (placed : PlacedTable T) : Type 0 where
   pub lines : placed.lines.items ≡ map (counting_line names (read_lines sources (root_of sources))) (leaves (view placed.table))
   pub named : AreLines names (view placed.table) placed.lines.items

@@ -1,5 +1,5 @@
--- Sequences, stored one after another in one array, and the place of each one's keysyms. Definitions for private
--- functions.
+-- Sequences, stored one after another in one array, and the place of each one's keysyms.
+-- Definitions for private functions.
 use Rattle.std.specs.Prelude.{ℕ, ◌+◌, ◌≤◌, List, map, length, take, drop}
 use Rattle.std.specs.List.{All}
 use Rattle.compose_places.specs.declared.sequence_list.KeysymSpan.{KeysymSpan}

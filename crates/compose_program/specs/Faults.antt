@@ -16,8 +16,8 @@ use Rattle.compose_arguments.specs.declared.serve_arguments.Served.TheVariants.{
 use Rattle.compose_input.specs.declared.fault.Fault.{Fault}
 use Rattle.compose_report.specs.Outcomes.{IsFaultOutcome, IsFaultWorded}
 use Rattle.compose_report.specs.declared.outcome.Outcome.{Outcome}
-use Rattle.compose_program.specs.declared.faults.FaultForm.{FaultForm}
-use Rattle.compose_program.specs.declared.faults.FaultForm.TheVariants.{Line, Details, Words}
+use Rattle.compose_report.specs.declared.form.Form.{Form}
+use Rattle.compose_report.specs.declared.form.Form.TheVariants.{Line, Details, Words}
 
 -- ---- answers in JSON
 
@@ -49,7 +49,7 @@ are_files (Files pair) = true
 abbrev pub is_answer_on_files : Question → Bool
 is_answer_on_files (Keys table keys) = is_file table
 is_answer_on_files (Check tables fresh repertoire certificate) = are_files tables
-is_answer_on_files (Explain tables fresh all) = are_files tables
+is_answer_on_files (Explain old new fresh all) = is_file old
 is_answer_on_files (Make tables fresh all repertoire output) = are_files tables
 is_answer_on_files _ = true
 
@@ -68,13 +68,16 @@ is_of_files (Session arguments) = arguments.files
 
 -- ---- the form
 
--- details if the answer is in JSON, words if the command is given Compose files, and otherwise the
--- line, with the details if `verbose`
-abbrev pub fault_form : Bool → CommandRequest → FaultForm
-fault_form verbose request = if is_json request then Details else if is_of_files request then Words else if verbose then Details else Line
+-- words if Compose files are given, and otherwise the line, with the details if `verbose`
+abbrev pub refusal_form : Bool → Bool → Form
+refusal_form verbose are_files = if are_files then Words else if verbose then Details else Line
+
+-- details if the answer is in JSON
+abbrev pub fault_form : Bool → CommandRequest → Form
+fault_form verbose request = if is_json request then Details else refusal_form verbose (is_of_files request)
 
 -- the outcome of a run whose input can't be read or is refused, in this form
-abbrev pub IsFaultInForm : FaultForm → Fault → Outcome → Type 0
+abbrev pub IsFaultInForm : Form → Fault → Outcome → Type 0
 IsFaultInForm Line fault outcome = IsFaultOutcome false fault outcome
 IsFaultInForm Details fault outcome = IsFaultOutcome true fault outcome
 IsFaultInForm Words fault outcome = IsFaultWorded fault outcome

@@ -2,12 +2,13 @@
 ghost use Rattle.std.specs.Prelude.{◌≡◌, map, IfOk};
 ghost use Rattle.compose_program.specs.Runs.{IsRun};
 
-use crate::faults::{FaultForm, fault_in_form};
+use crate::faults::fault_in_form;
 use crate::questions::answer;
 use compose_arguments::Question;
 use compose_folder::{Folder, ReadOnce};
-use compose_report::Outcome;
-use compose_runs::{Environment, Options};
+use compose_given::Environment;
+use compose_report::{Form, Outcome};
+use compose_runs::Options;
 use compose_tree::BuildTable;
 use std::alloc::{AllocError, Global};
 
@@ -20,7 +21,7 @@ pub fn run_question<T: BuildTable, F: Folder>(
     files: &mut ReadOnce<F>,
     environment: &Environment,
     options: Options<'_>,
-    form: FaultForm,
+    form: Form,
     question: &Question<'_>,
 ) -> Result<Outcome, AllocError>
     ensures kept { files.new.holds ≡ files.old.holds }

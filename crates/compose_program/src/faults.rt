@@ -5,49 +5,41 @@ ghost use Rattle.compose_program.specs.Faults.{IsFaultInForm};
 
 use compose_arguments::{BothTables, CommandRequest, DiffForm, Question, Served, TypeTable};
 use compose_input::Fault;
-use compose_report::{Outcome, fault_outcome, fault_worded};
+use compose_report::{Form, Outcome, fault_outcome, fault_worded};
 use std::alloc::{AllocError, Global};
-
-/// The form in which a run prints why its input can't be read or is refused.
-#[derive(Clone, Copy, Debug, PartialEq, Eq, Drop)]
-pub enum FaultForm {
-    /// The line of the refusal.
-    Line,
-    /// This line, followed by the place of the fault and the reason.
-    Details,
-    /// For people: the place of the fault and the reason, and the line only if there is nothing
-    /// more.
-    Words,
-}
 
 /// Returns the form for this request: details if the answer is in JSON, words if the command is
 /// given Compose files, and otherwise the line, with the details if `verbose`. O(1).
-pub fn fault_form(verbose: bool, request: &CommandRequest<'_>) -> FaultForm
+pub fn fault_form(verbose: bool, request: &CommandRequest<'_>) -> Form
     ensures { result ≡ spec.fault_form verbose request.now }
 {
     if is_json(request) {
-        return FaultForm::Details;
+        return Form::Details;
     }
-    if is_of_files(request) {
-        return FaultForm::Words;
+    refusal_form(verbose, is_of_files(request))
+}
+
+/// Returns the form of a refusal: words if Compose files are given, and otherwise the line, with
+/// the details if `verbose`.
+pub(crate) fn refusal_form(verbose: bool, are_files: bool) -> Form
+    ensures { result ≡ spec.refusal_form verbose are_files }
+{
+    if are_files {
+        return Form::Words;
     }
-    if verbose {
-        FaultForm::Details
-    } else {
-        FaultForm::Line
-    }
+    if verbose { Form::Details } else { Form::Line }
 }
 
 /// Returns the outcome of a run whose input can't be read or is refused, in this form. O(bytes of a
 /// refused manifest).
 /// Errors: `AllocError` if memory runs out.
-pub fn fault_in_form(alloc: Global, form: FaultForm, fault: &Fault) -> Result<Outcome, AllocError>
+pub fn fault_in_form(alloc: Global, form: Form, fault: &Fault) -> Result<Outcome, AllocError>
     ensures { IfOk result (λ outcome. IsFaultInForm form fault.now outcome) }
 {
     match form {
-        FaultForm::Line => fault_outcome(alloc, false, fault),
-        FaultForm::Details => fault_outcome(alloc, true, fault),
-        FaultForm::Words => fault_worded(alloc, fault),
+        Form::Line => fault_outcome(alloc, false, fault),
+        Form::Details => fault_outcome(alloc, true, fault),
+        Form::Words => fault_worded(alloc, fault),
     }
 }
 
@@ -78,6 +70,8 @@ fn is_json_answer(question: &Question<'_>) -> bool
         Question::Keys { .. }
         | Question::Check { .. }
         | Question::Explain { .. }
+        | Question::ListAs(_)
+        | Question::Merge { .. }
         | Question::Make { .. }
         | Question::Manifest(_) => false,
     }
@@ -124,18 +118,20 @@ fn is_answer_on_files(question: &Question<'_>) -> bool
     match question {
         Question::Keys { table, .. } => is_file(table),
         Question::Check { tables, .. } => are_files(tables),
-        Question::Explain { tables, .. } => are_files(tables),
+        Question::Explain { old, .. } => is_file(old),
         Question::Make { tables, .. } => are_files(tables),
         Question::Diff { .. }
+        | Question::Merge { .. }
         | Question::How { .. }
         | Question::List(_)
+        | Question::ListAs(_)
         | Question::Lint(_)
         | Question::Manifest(_) => true,
     }
 }
 
 /// Returns whether a table is given as its Compose file.
-fn is_file(table: &TypeTable<'_>) -> bool
+pub(crate) fn is_file(table: &TypeTable<'_>) -> bool
     ensures { result ≡ spec.is_file table.now }
 {
     match table {

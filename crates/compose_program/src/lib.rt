@@ -16,4 +16,4 @@ mod faults;
 mod questions;
 
 pub use answering::run_question;
-pub use faults::{FaultForm, fault_form, fault_in_form};
+pub use faults::{fault_form, fault_in_form};

@@ -1,17 +1,21 @@
 //! The outcome of each command that reads files and answers.
 ghost use Rattle.std.specs.Prelude.{◌≡◌, map, IfOk, IfErr};
 ghost use Rattle.std.specs.Option.{option_map};
-ghost use Rattle.compose_program.specs.Questions.{Answers, Fails, AnswersType, FailsToType, AnswersCheck, FailsToCheck, AnswersExplain, FailsToExplain, AnswersMake, FailsToMake};
+ghost use Rattle.compose_program.specs.Questions.{Answers, Fails, AnswersType, FailsToType, AnswersCheck, FailsToCheck, AnswersExplain, FailsToExplain, IsAsked, AnswersMake, FailsToMake};
 ghost use Rattle.compose_runs.specs.Checking.{allowed_names};
 
+use crate::faults::{is_file, refusal_form};
 use compose_arguments::{BothTables, Question, TypeTable};
+use compose_explaining::{Explain, run_explain};
 use compose_folder::{Folder, ReadOnce};
+use compose_given::Environment;
 use compose_input::Fault;
+use compose_listed_as::run_list_as;
+use compose_merging::run_merge;
 use compose_report::Outcome;
 use compose_runs::{
-    CheckPaths, CheckTexts, Environment, MakeOptions, Options, run_check, run_check_files,
-    run_diff, run_explain, run_explain_files, run_how, run_lint, run_list, run_make,
-    run_make_files, run_manifest, run_type, run_type_file,
+    CheckPaths, CheckTexts, MakeOptions, Options, run_check, run_check_files, run_diff, run_how,
+    run_lint, run_list, run_make, run_make_files, run_manifest, run_type, run_type_file,
 };
 use compose_tree::BuildTable;
 use std::alloc::Global;
@@ -48,11 +52,20 @@ pub(crate) fn answer<T: BuildTable, F: Folder>(
             let allowed = fresh.as_deref();
             run_checking::<T, F>(alloc, files, environment, options, tables, texts, allowed)
         }
-        Question::Explain { tables, fresh, all } => {
-            run_explaining::<T, F>(alloc, files, environment, options, tables, fresh, *all)
+        Question::Explain {
+            old,
+            new,
+            fresh,
+            all,
+        } => {
+            let asked = asked_of(options, *old, *new, fresh, *all);
+            run_explain::<T, F>(alloc, files, environment, &asked)
         }
         Question::Diff { arguments, fresh } => {
             run_diff::<T, F>(alloc, files, environment, options.names, arguments, fresh)
+        }
+        Question::Merge { arguments, fresh } => {
+            run_merge::<T, F>(alloc, files, environment, options.names, arguments, fresh)
         }
         Question::How { arguments, texts } => {
             run_how::<T, F>(alloc, files, environment, options.names, arguments, texts)
@@ -60,6 +73,7 @@ pub(crate) fn answer<T: BuildTable, F: Folder>(
         Question::List(arguments) => {
             run_list::<T, F>(alloc, files, environment, options.names, arguments)
         }
+        Question::ListAs(arguments) => run_list_as(alloc, files, environment, arguments),
         Question::Lint(arguments) => {
             run_lint(alloc, files, environment, options.names, arguments)
         }
@@ -140,30 +154,27 @@ fn run_checking<T: BuildTable, F: Folder>(
     }
 }
 
-/// Returns the outcome of `explain` on manifests or Compose files.
-fn run_explaining<T: BuildTable, F: Folder>(
-    alloc: Global,
-    files: &mut ReadOnce<F>,
-    environment: &Environment,
-    options: Options<'_>,
-    tables: &BothTables<'_>,
-    fresh: &[&str],
+/// Returns what `explain` is asked: the answer of both tables, in whichever way they are named.
+fn asked_of<'a>(
+    options: Options<'a>,
+    old: TypeTable<'a>,
+    new: TypeTable<'a>,
+    fresh: &'a [&'a str],
     all: bool,
-) -> Result<Outcome, Fault>
-    ensures kept { files.new.holds ≡ files.old.holds }
-    ensures outcome { IfOk result
-        (λ outcome. AnswersExplain files.old.holds environment.now options.entry tables.now
-        (map (λ name. name.now) fresh.now) all outcome) }
-    ensures fault { IfErr result
-        (λ fault. FailsToExplain files.old.holds environment.now options.entry tables.now fault) }
+) -> Explain<'a>
+    ensures { IsAsked options.entry old.entry new.entry (map (λ name. name.now) fresh.now) all
+        result }
 {
-    match tables {
-        BothTables::Manifests(paths) => {
-            run_explain::<T, F>(alloc, files, options, paths, fresh, all)
-        }
-        BothTables::Files(pair) => {
-            run_explain_files::<T, F>(alloc, files, environment, options, pair, fresh, all)
-        }
+    let are_files = is_file(&old);
+    Explain {
+        names: options.names,
+        are_files,
+        old,
+        new,
+        fresh,
+        all,
+        verbose: options.verbose,
+        form: refusal_form(options.verbose, are_files),
     }
 }
 

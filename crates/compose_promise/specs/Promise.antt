@@ -1,5 +1,5 @@
--- The promise to people who type, as it is read aloud: on all keys that the old table does not cancel, the new table
--- agrees with it at every key.
+-- The promise to people who type, as it is read aloud: on all keys that the old table does not
+-- cancel, the new table agrees with it at every key.
 use Rattle.std.specs.Prelude.{ℕ, not, List, [], ◌∷◌, IsTrue}
 use Rattle.std.specs.List.{list_all}
 use Rattle.keysym_core.specs.Names.{KeysymNames}

@@ -1,4 +1,5 @@
--- A source that is included again, with at least as many levels left below it, has the same result again.
+-- A source that is included again, with at least as many levels left below it, has the same result
+-- again.
 use Rattle.std.proofs.Common.{◌≡◌, ◌≤◌, ◌+◌, ◌-◌, ℕ, zero, suc, List, [], ◌∷◌, ◌++◌, Bool, true, false, cond, not, ◌&&◌, length, refl, sym, ◌∙◌, ap, ap₂, subst, arith, length-append, nat_lt, get_or}
 use Rattle.std.specs.Prelude.{Option, Some, None, Result, Ok, Err, is_ok, flat_map}
 use Rattle.std.specs.Option.{option_map_or}
@@ -217,8 +218,8 @@ module _ (names : KeysymNames) (sources : List Source) where
   abbrev lines_in : ℕ → List (List ℕ)
   lines_in source = source_lines (get_or sources source (record { name = []; bytes = [] })).bytes
 
-  -- the lines visited from a source without a fault have none, and the same definitions, if more levels of includes are
-  -- left
+  -- the lines visited from a source without a fault have none, and the same definitions, if more
+  -- levels of includes are left
   pub source_again : (left other source : ℕ) → left ≤ other → other ≤ 8 → Again (visits_below sources left source) (visits_below sources other source)
   source_again zero other source l m =
       by_lines zero other source (lines_again source 8 (8 - other) (below sources zero) (below sources other) (λ number line. deepest_again other _ _ refl (omega arith) refl) 1 (lines_in source))

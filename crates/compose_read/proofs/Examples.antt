@@ -112,7 +112,8 @@ visited : map place (visits two_sources 0) ≡ (0, 1, 0) ∷ (0, 2, 0) ∷ (1, 1
 unfolding is_utf8 chars encode_utf8 events_at
 visited = refl
 
--- sources `i` to `9`, each of which includes the next one, and the last one empty: `left` of them include
+-- sources `i` to `9`, each of which includes the next one, and the last one empty: `left` of them
+-- include
 abbrev chain_from : ℕ → ℕ → List Source
 chain_from zero i = source (i ∷ []) [] ∷ []
 chain_from (suc left) i = source (i ∷ []) (includes ((1 + i) ∷ [])) ∷ chain_from left (1 + i)

@@ -9,7 +9,8 @@ module _ {X Y : Type 0} (f : X → Option Y) (found whole : List Y) (left : List
   nothing_left : filter_map f (take n left) ≡ [] → whole ≡ found
   nothing_left h = sym reported ∙ ap (λ ys. found ++ ys) h ∙ append-nil found
 
-  -- if no line that is left has a fault, the faults found are the first of all, provided that they are not too many
+  -- if no line that is left has a fault, the faults found are the first of all, provided that they
+  -- are not too many
   pub all_found : (most : ℕ) → length found ≤ most → filter_map f (take n left) ≡ [] → found ≡ take most whole
   all_found most few h = sym (ap (take most) (nothing_left h) ∙ take_all most found few)
 
@@ -25,7 +26,8 @@ module _ {X Y : Type 0} (f : X → Option Y) (found whole : List Y) (left : List
     pub nothing_more : None ≡ f v → found ++ filter_map f (take m others) ≡ whole
     nothing_more h = ap (λ o. found ++ cons_option o (filter_map f (take m others))) h ∙ opened
 
-    -- if the next line has a fault, which is put after those found, they and those of the other lines are still all
+    -- if the next line has a fault, which is put after those found, they and those of the other
+    -- lines are still all
     pub one_more : (y : Y) (after : List Y) → Some y ≡ f v → after ≡ found ++ y ∷ [] → after ++ filter_map f (take m others) ≡ whole
     one_more y after h pushed =
         ap (λ ys. ys ++ filter_map f (take m others)) pushed ∙ append_assoc found (y ∷ []) (filter_map f (take m others))

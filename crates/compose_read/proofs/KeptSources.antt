@@ -113,7 +113,8 @@ module _ (names : KeysymNames) (sources : List Source) where
     pub as_many : k.lines ≡ length now
     as_many = is.lines ∙ sym again.many
 
-    -- with the kept definitions put after the table, reading goes on as if the lines of the source were read again
+    -- with the kept definitions put after the table, reading goes on as if the lines of the source
+    -- were read again
     pub read_again : (after : DraftRows) (lines : ℕ) → lines ≡ p.lines + k.lines → p.lines + k.lines ≤ 1000000 → length p.draft.table + k.count ≤ 100000
         → after.table ≡ p.draft.table ++ take k.count (drop k.first p.draft.table)
         → (ws : List Visit) → reading_on names sources p (now ++ ws) ≡ reading_on names sources (read_so_far lines after) ws

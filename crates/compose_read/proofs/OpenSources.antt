@@ -83,7 +83,8 @@ module _ (sources : List Source) where
     pub other_line : included sources v.bytes ≡ None → old ≡ v ∷ taken
     other_line h = took ∙ ap (λ vs. vs ++ taken) (plain_line sources (8 - v.depth) v h)
 
-    -- at an include, what is to be visited is the line, all of the source that it opens, and then what was left before
+    -- at an include, what is to be visited is the line, all of the source that it opens, and then
+    -- what was left before
     pub include_line : (source : ℕ) (os after : List OpenSource) (o : OpenSource) → v.depth < 8 → included sources v.bytes ≡ Some source → taken ≡ left_from sources 0 os → length os ≡ v.depth + 1
         → after ≡ os ++ o ∷ []
         → ((depth : ℕ) → depth ≤ 8 → left_in sources depth o ≡ visits_below sources (8 - depth) source) → old ≡ v ∷ left_from sources 0 after

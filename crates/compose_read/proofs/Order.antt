@@ -1,4 +1,5 @@
--- Sequences in their order: a proper prefix comes before its extensions, and is a prefix of all that come between.
+-- Sequences in their order: a proper prefix comes before its extensions, and is a prefix of all
+-- that come between.
 use Rattle.std.proofs.Common.{◌≡◌, ℕ, List, [], ◌∷◌, Bool, true, false, cond, ◌&&◌, refl, sym, ◌∙◌, ap, inl, inr, Less, Equal, Greater, nat_cmp, nat_lt, eqb-true, arith}
 use Rattle.std.specs.Prelude.{◌==◌}
 use Rattle.std.specs.declared.cmp.Ordering.{Ordering}

@@ -1,4 +1,5 @@
--- Rows in flat arrays do not change when more keysyms and texts are appended, and what is appended is one more row.
+-- Rows in flat arrays do not change when more keysyms and texts are appended, and what is appended
+-- is one more row.
 use Rattle.std.proofs.Common.{◌≡◌, ℕ, suc, ◌+◌, ◌-◌, ◌≤◌, ◌<◌, List, [], ◌∷◌, ◌++◌, true, length, take, drop, get_or, nat_lt, All, refl, sym, ◌∙◌, ap, ap₂, subst, arith, inl, inr}
 use Rattle.std.specs.Prelude.{Result, Ok, Err, OnOk, IsTrue}
 use Rattle.std.specs.Str.{IsUtf8, IsCharBoundary}
@@ -93,8 +94,8 @@ module _ (keysyms texts : List ℕ) (first_keysym first_byte : ℕ) (l : first_k
 
 -- ---- definitions that are being read
 
--- the spans are those of complete definitions in place, and the offsets, at which one more is being read, come after
--- them
+-- the spans are those of complete definitions in place, and the offsets, at which one more is being
+-- read, come after them
 abbrev pub IsDrafted : List ℕ → List ℕ → List RowSpan → ℕ → ℕ → Type 0
 IsDrafted keysyms texts spans first_keysym first_byte =
     ArePlaced keysyms texts spans × (first_keysym ≤ length keysyms) × IsCharBoundary texts first_byte × IsTrue (is_table (rows_of keysyms texts spans)) × ComesAfter spans first_keysym first_byte
@@ -128,8 +129,8 @@ module _ (ks ts : List ℕ) (ps : List RowSpan) (fk fb : ℕ) (is : IsDrafted ks
     same_rows : rows_of (take fk ks) (take fb ts) ps ≡ rows_of ks ts ps
     same_rows = rows_before ks ts fk fb is.1 is.2.0 ps is.4.each
 
-    -- without the definition that is being read, the keysyms, texts and spans hold the complete ones, and nothing after
-    -- them
+    -- without the definition that is being read, the keysyms, texts and spans hold the complete
+    -- ones, and nothing after them
     pub begun : IsDrafted prefix text ps fk fb
     begun = subst (λ a. IsDrafted a text ps fk fb) (sym k) (subst (λ b. IsDrafted (take fk ks) b ps fk fb) (sym t) (
       prefix_placed,
@@ -154,7 +155,8 @@ module _ (ks ts : List ℕ) (ps : List RowSpan) (fk fb : ℕ) (is : IsDrafted ks
     pub with_keysyms : IsDrafted new ts ps fk fb
     with_keysyms = subst (λ ts. IsDrafted new ts ps fk fb) (append-nil ts) (subst (λ ks. IsDrafted ks (ts ++ []) ps fk fb) (sym e) (grown more [] IsUtf8-nil))
 
-    -- more keysyms come after those of the sequence that is being read, and the table does not change
+    -- more keysyms come after those of the sequence that is being read, and the table does not
+    -- change
     pub draft_keysyms : draft_rows new ts ps fk fb ≡ with_row (draft_rows ks ts ps fk fb) (record { sequence = drop fk ks ++ more; text = drop fb ts })
     draft_keysyms =
         (λ i. draft_rows (e i) (sym (append-nil ts) i) ps fk fb)
@@ -167,7 +169,8 @@ module _ (ks ts : List ℕ) (ps : List RowSpan) (fk fb : ℕ) (is : IsDrafted ks
     pub with_text : IsDrafted ks new ps fk fb
     with_text = subst (λ ks. IsDrafted ks new ps fk fb) (append-nil ks) (subst (λ ts. IsDrafted (ks ++ []) ts ps fk fb) (sym e) (grown [] text u))
 
-    -- more text comes after that of the definition that is being read, and the table does not change
+    -- more text comes after that of the definition that is being read, and the table does not
+    -- change
     pub draft_text : draft_rows ks new ps fk fb ≡ with_row (draft_rows ks ts ps fk fb) (record { sequence = drop fk ks; text = drop fb ts ++ text })
     draft_text =
         (λ i. draft_rows (sym (append-nil ks) i) (e i) ps fk fb)
@@ -247,7 +250,8 @@ module _ (ks ts : List ℕ) (ps : List RowSpan) (fk fb : ℕ) (is : IsDrafted ks
               (All-append (IsBefore fk fb) ps (take count (drop first ps)) all.each (All-take (IsBefore fk fb) count (drop first ps) (All-drop (IsBefore fk fb) first ps all.each)));
         }
 
-    -- spans that are repeated do not change the definition that is being read, if there is room for their rows
+    -- spans that are repeated do not change the definition that is being read, if there is room for
+    -- their rows
     pub repeated : IsDrafted ks ts qs fk fb
     repeated = (
       subst (ArePlaced ks ts) (sym e) (All-append (IsPlaced ks ts) ps (take count (drop first ps)) is.0 (All-take (IsPlaced ks ts) count (drop first ps) (All-drop (IsPlaced ks ts) first ps is.0))),
@@ -305,7 +309,8 @@ module _ (ks ts : List ℕ) (ps : List RowSpan) (fk fb : ℕ) (is : IsDrafted ks
           ),
     )
 
-    -- with its span after the others, the definition that was read is the last row, and a new one begins after it
+    -- with its span after the others, the definition that was read is the last row, and a new one
+    -- begins after it
     pub finished_with : (qs : List RowSpan) → qs ≡ ps ++ p ∷ [] → length (rows_of ks ts ps) < max_definitions → (fk fb : ℕ) → fk ≡ length ks → fb ≡ length ts → IsDrafted ks ts qs fk fb
     finished_with qs e room fk fb k b =
         subst (λ ps. IsDrafted ks ts ps fk fb) (sym e) (subst (λ n. IsDrafted ks ts (ps ++ p ∷ []) n fb) (sym k) (subst (IsDrafted ks ts (ps ++ p ∷ []) (length ks)) (sym b) (finished room)))

@@ -1,4 +1,5 @@
--- Tables with the same text for each sequence settle to the same rows, and a stable sort does not change these texts.
+-- Tables with the same text for each sequence settle to the same rows, and a stable sort does not
+-- change these texts.
 use Rattle.std.proofs.Common.{◌≡◌, ℕ, List, [], ◌∷◌, Bool, true, false, cond, not, ◌&&◌, filter, map, refl, sym, ◌∙◌, ap, ap₂, ◌⊎◌, inl, inr}
 use Rattle.std.specs.Prelude.{Option, Some, None, Ok, unwrap_or}
 use Rattle.std.specs.Option.{option_or}

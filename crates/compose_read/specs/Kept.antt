@@ -25,8 +25,8 @@ are_faultless names sources vs = list_all (λ v. is_ok (line_result names source
 
 -- ---- sources
 
--- what is kept of a source: neither its lines nor those below it had a fault; and the number of these lines, and the
--- position of their definitions in the table
+-- what is kept of a source: neither its lines nor those below it had a fault; and the number of
+-- these lines, and the position of their definitions in the table
 pub record IsKept (names : KeysymNames) (sources : List Source) (table : List Definition) (source : ℕ) (k : KeptSource) : Type 0 where
   pub faultless : IsTrue (are_faultless names sources (visits_below sources k.left source))
   pub lines : k.lines ≡ length (visits_below sources k.left source)

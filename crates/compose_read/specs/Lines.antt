@@ -1,4 +1,5 @@
--- Sources, and all the lines that are visited from one of them, with included lines after their include.
+-- Sources, and all the lines that are visited from one of them, with included lines after their
+-- include.
 use Rattle.std.specs.Prelude.{ℕ, ◌+◌, ◌-◌, nat_eq, nat_lt, zero, suc, if◌then◌else◌, List, [], ◌∷◌, length, drop, flat_map, Option, Some, None, Result, Ok, bytes_eq, get_or}
 use Rattle.std.specs.List.{position_or_len, starts_with}
 use Rattle.std.specs.Option.{option_map_or}
@@ -25,8 +26,8 @@ source_lines bytes = lines_of (without_mark bytes)
 
 -- ---- visits
 
--- a line as it is visited: the index of the source, the number of the line counted from 1, its bytes, and the number of
--- includes that lead to it
+-- a line as it is visited: the index of the source, the number of the line counted from 1, its
+-- bytes, and the number of includes that lead to it
 pub record Visit : Type 0 where
   pub source : ℕ
   pub line : ℕ
@@ -45,7 +46,8 @@ abbrev pub included_by : List Source → Result Reading LexFault → Option ℕ
 included_by sources (Ok (include name)) = if nat_lt (source_named sources name) (length sources) then Some (source_named sources name) else None
 included_by sources _ = None
 
--- the index of the source that a line includes, if the line has no fault, except perhaps that it is nested too deeply
+-- the index of the source that a line includes, if the line has no fault, except perhaps that it is
+-- nested too deeply
 abbrev pub included : List Source → List ℕ → Option ℕ
 included sources bytes = if is_utf8 bytes then included_by sources (reading_of bytes) else None
 
@@ -57,7 +59,8 @@ numbered source depth number (line ∷ lines) = record { source = source; line =
 abbrev pub own_lines : List Source → ℕ → ℕ → List Visit
 own_lines sources source depth = numbered source depth 1 (source_lines (get_or sources source (record { name = []; bytes = [] })).bytes)
 
--- each line, and after an include the lines visited from the included source, if `left` levels are left below this one
+-- each line, and after an include the lines visited from the included source, if `left` levels are
+-- left below this one
 abbrev pub visits_below : List Source → ℕ → ℕ → List Visit
 visits_below sources zero source = own_lines sources source max_depth
 visits_below sources (suc left) source =

@@ -11,8 +11,8 @@ abbrev pub prefix_of_next : Rule → Definition → Definition → Result Bool O
 prefix_of_next Refuse d e = Err (record { short = d.sequence; long = e.sequence })
 prefix_of_next Longest d e = Ok false
 
--- whether a row is kept before the next one: not if the next one has the same sequence or a longer one that begins with
--- it
+-- whether a row is kept before the next one: not if the next one has the same sequence or a longer
+-- one that begins with it
 abbrev pub stays_before : Rule → Definition → Definition → Result Bool Overlap
 stays_before rule d e = if same d.sequence e.sequence then Ok false else if is_proper_prefix d.sequence e.sequence then prefix_of_next rule d e else Ok true
 

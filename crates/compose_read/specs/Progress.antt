@@ -34,7 +34,8 @@ located_fault place fault = faults.Lex place.source place.line fault
 abbrev pub keysym_text : KeysymNames → Option ℕ → List ℕ
 keysym_text names keysym = option_map_or (text names) keysym []
 
--- what is found on a line is the result of the line: no definition, the definition d, or the source that it includes
+-- what is found on a line is the result of the line: no definition, the definition d, or the source
+-- that it includes
 abbrev pub IsFound : KeysymNames → List Source → Visit → Definition → Found → Type 0
 IsFound names sources v d found.Nothing = (line_result names sources v ≡ Ok None) × (included sources v.bytes ≡ None)
 IsFound names sources v d (found.Include source) = (line_result names sources v ≡ Ok None) × (included sources v.bytes ≡ Some source) × (v.depth < max_depth) × (source < length sources)

@@ -1,5 +1,5 @@
--- Rows in flat arrays: the keysyms of all rows one after another, their texts one after another, and the position of
--- those of each row. Definitions for private functions.
+-- Rows in flat arrays: the keysyms of all rows one after another, their texts one after another,
+-- and the position of those of each row. Definitions for private functions.
 use Rattle.std.specs.Prelude.{ℕ, ◌+◌, ◌*◌, ◌≤◌, List, [], map, length, take, drop}
 use Rattle.std.specs.List.{All}
 use Rattle.std.specs.Str.{IsCharBoundary}
@@ -38,8 +38,8 @@ pub record DraftRows : Type 0 where
 abbrev pub IsBefore : ℕ → ℕ → RowSpan → Type 0
 IsBefore first_keysym first_byte p = (p.first_keysym + p.keysym_count ≤ first_keysym) × (p.first_byte + p.byte_count ≤ first_byte)
 
--- these offsets come after the keysyms and the texts of the rows, of which there are not too many, and no further than
--- rows of the greatest length reach
+-- these offsets come after the keysyms and the texts of the rows, of which there are not too many,
+-- and no further than rows of the greatest length reach
 pub record ComesAfter (spans : List RowSpan) (first_keysym first_byte : ℕ) : Type 0 where
   pub few : length spans ≤ max_definitions
   pub keysyms : first_keysym ≤ 32 * length spans

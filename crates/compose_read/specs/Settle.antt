@@ -1,4 +1,5 @@
--- The settled sequences of a table: in rising order, each with its last definition, and none a prefix of another.
+-- The settled sequences of a table: in rising order, each with its last definition, and none a
+-- prefix of another.
 use Rattle.std.specs.Prelude.{ℕ, Bool, true, not, ◌&&◌, List, [], ◌∷◌, map, Option, Some, None, Result, Ok, Err, unwrap_or, IsTrue}
 use Rattle.std.specs.List.{find}
 use Rattle.compose_model.specs.Table.{Definition, is_proper_prefix, is_sequence, is_extended, text_at, longest, comes_before, is_table, is_prefix_free}
@@ -44,7 +45,8 @@ sequences_rise [] = true
 sequences_rise (d ∷ []) = true
 sequences_rise (d ∷ e ∷ table) = comes_before d.sequence e.sequence && sequences_rise (e ∷ table)
 
--- rows that a table can be built of: each is a definition, their sequences rise, and none is a prefix of another
+-- rows that a table can be built of: each is a definition, their sequences rise, and none is a
+-- prefix of another
 pub record IsSettled (table : List Definition) : Type 0 where
   pub definitions : IsTrue (is_table table)
   pub rise : IsTrue (sequences_rise table)
@@ -52,7 +54,8 @@ pub record IsSettled (table : List Definition) : Type 0 where
 
 -- ---- the properties of a reported overlap
 
--- two sequences of the table: the least one that is a prefix of another one, and the least one that it is a prefix of
+-- two sequences of the table: the least one that is a prefix of another one, and the least one that
+-- it is a prefix of
 pub record IsLeastOverlap (table : List Definition) (o : Overlap) : Type 0 where
   pub short : IsTrue (is_sequence table o.short)
   pub long : IsTrue (is_sequence table o.long)

@@ -16,7 +16,8 @@ sources_of files = map (λ f. record { name = string_bytes f.0; bytes = cow_slic
 abbrev pub max_sources : ℕ
 max_sources = 64
 
--- the reason why a source with this name cannot be added: the name is taken, else there are as many sources as possible
+-- the reason why a source with this name cannot be added: the name is taken, else there are as many
+-- sources as possible
 abbrev pub add_fault : List Source → List ℕ → Option SourceFault
 add_fault sources name =
     if nat_lt (source_named sources name) (length sources) then Some NameTaken else

@@ -7,18 +7,18 @@ use Rattle.compose_readers.specs.Definitions.{Definition}
 use Rattle.std.specs.Option.{option_map_or}
 use Rattle.compose_readers.specs.Files.{LineEnd, nothing, left_out, includes, LineRead, FileRead, is_empty, is_untold, untold, empties}
 use Rattle.compose_readers.specs.declared.cause.Cause.{Cause}
-use Rattle.compose_readers.specs.Walks.{Told, told_in, told_of, told_file, told_from, told_below, lines_at, index_of, entries_in, entries_behind}
+use Rattle.compose_readers.specs.Walks.{Told, told_in, told_of, told_file, told_from, told_below, lines_at, index_of, defines, parts_in, parts_behind}
 
 -- the definitions of a line, and what comes behind them
-pub told_both : (file line : ℕ) (r : LineRead) → told_in file line (map Some r.definitions) ++ told_in file line (entries_behind r.end) ≡ told_in file line (entries_in r)
-told_both file line r = sym (map-append (λ e. let t : Told = record { file = file; line = line; entry = e } in t) (map Some r.definitions) (entries_behind r.end))
+pub told_both : (file line : ℕ) (r : LineRead) → told_in file line (map defines r.definitions) ++ told_in file line (parts_behind r.end) ≡ told_in file line (parts_in r)
+told_both file line r = sym (map-append (λ part. let t : Told = record { file = file; line = line; what = part } in t) (map defines r.definitions) (parts_behind r.end))
 
 -- one line more of those that are left
 pub line_more : (inside : LineEnd → List Told) (file at : ℕ) (lines : List LineRead) (d : LineRead) (now pushed after whole : List Told) → at < length lines
-    → pushed ≡ now ++ told_in file (at + 1) (entries_in (get_or lines at d)) → after ≡ pushed ++ inside (get_or lines at d).end
+    → pushed ≡ now ++ told_in file (at + 1) (parts_in (get_or lines at d)) → after ≡ pushed ++ inside (get_or lines at d).end
     → now ++ told_of inside file (at + 1) (drop at lines) ≡ whole → after ++ told_of inside file (at + 1 + 1) (drop (at + 1) lines) ≡ whole
 line_more inside file at lines d now pushed after whole within p a so_far =
-    let r = get_or lines at d in let own = told_in file (at + 1) (entries_in r) in let rest = told_of inside file (at + 1 + 1) (drop (at + 1) lines) in
+    let r = get_or lines at d in let own = told_in file (at + 1) (parts_in r) in let rest = told_of inside file (at + 1 + 1) (drop (at + 1) lines) in
     ap (λ x. x ++ rest) (a ∙ ap (λ x. x ++ inside r.end) p)
     ∙ append_assoc (now ++ own) (inside r.end) rest ∙ append_assoc now own (inside r.end ++ rest)
     ∙ ap (λ ls. now ++ told_of inside file (at + 1) ls) (sym (drop_more lines at d within)) ∙ so_far

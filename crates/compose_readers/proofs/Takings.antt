@@ -1,4 +1,5 @@
--- Of the definitions that are taken none is of the same sequence as another one, or of one with which another's begins.
+-- Of the definitions that are taken none is of the same sequence as another one, or of one with
+-- which another's begins.
 use Rattle.std.proofs.Common.{◌≡◌, ◌∙◌, ℕ, zero, suc, ◌+◌, ◌<◌, ◌≤◌, List, [], ◌∷◌, Bool, true, false, cond, ◌&&◌, refl, sym, ap, arith}
 use Rattle.std.specs.Prelude.{Option, Some, None, unwrap_or, slice_get, nat_lt, bytes_eq, ◌==◌}
 use Rattle.std.specs.Option.{option_or}

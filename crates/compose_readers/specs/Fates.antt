@@ -1,5 +1,5 @@
--- What becomes of the definitions of a table (libxkbcommon, src/compose/parser.c). An entry is a definition that the table
--- takes, or nothing.
+-- What becomes of the definitions of a table (libxkbcommon, src/compose/parser.c). An entry is a
+-- definition that the table takes, or nothing.
 use Rattle.std.specs.Prelude.{ℕ, ◌+◌, Bool, false, ◌&&◌, nat_lt, if◌then◌else◌, bytes_eq, List, [], ◌∷◌, Option, Some, None, unwrap_or}
 use Rattle.std.specs.Option.{option_map_or, option_or}
 use Rattle.compose_model.specs.Table.{is_proper_prefix}
@@ -36,7 +36,8 @@ abbrev pub last_from : (Entry → Bool) → ℕ → List Entry → Option ℕ
 last_from is index [] = None
 last_from is index (e ∷ es) = option_or (last_from is (index + 1) es) (if is e then Some index else None)
 
--- of a sequence with which longer ones begin, the first longer one; else the last entry with a string, or the last one
+-- of a sequence with which longer ones begin, the first longer one; else the last entry with a
+-- string, or the last one
 abbrev pub counting : List Entry → List ℕ → Option ℕ
 counting es keys = option_or (first_from (extends keys) 0 es) (option_or (last_from (is_string_for keys) 0 es) (last_from (is_for keys) 0 es))
 

@@ -50,6 +50,7 @@ untold lines = map (λ r. is_untold r r.definitions) lines
 abbrev pub empties : List ℕ → List Bool
 empties bytes = map is_empty (lines_of bytes)
 
--- there is a record for each line, in order, and something is told of exactly those that aren't empty
+-- there is a record for each line, in order, and something is told of exactly those that aren't
+-- empty
 abbrev pub AreLinesOf : List LineRead → List ℕ → Type 0
 AreLinesOf lines bytes = untold lines ≡ empties bytes

@@ -10,3 +10,4 @@ pub mod Xkbcommon
 pub mod Refusals
 pub mod Stops
 pub mod Taken
+pub mod Words

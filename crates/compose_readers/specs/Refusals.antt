@@ -26,7 +26,8 @@ faults_at (includes path) = 0
 
 -- ---- files
 
--- of these lines of a file in which so many were faulty, of at most `most`; `inside` is that of a file that one of them includes
+-- of these lines of a file in which so many were faulty, of at most `most`; `inside` is that of a
+-- file that one of them includes
 abbrev pub refusal_of : ℕ → (LineEnd → Option Refusal) → ℕ → List LineRead → Option Refusal
 refusal_of most inside faults [] = None
 refusal_of most inside faults (r ∷ rs) =

@@ -1,35 +1,52 @@
--- What a reader comes upon from a root on: the lines of an included file stand where it is included.
+-- What a reader comes upon from a root on: the lines of an included file stand where it is
+-- included.
 use Rattle.std.specs.Prelude.{ℕ, zero, suc, ◌+◌, bytes_eq, List, [], ◌∷◌, ◌++◌, map, Option, Some, None, slice_get}
 use Rattle.std.specs.List.{position}
 use Rattle.std.specs.Option.{option_map_or, option_and_then}
+use Rattle.compose_readers.specs.Definitions.{Definition}
 use Rattle.compose_readers.specs.Fates.{Entry}
+use Rattle.compose_readers.specs.declared.cause.Cause.{Cause}
 use Rattle.compose_readers.specs.Files.{LineEnd, nothing, left_out, includes, LineRead, FileRead}
 
--- a definition, or something else, in a line of a file
+-- a definition, something that is left out, or an include of the file at a path
+pub data What : Type 0 where
+  defines : Definition → What
+  leaves_out : Cause → What
+  leads_to : List ℕ → What
+
+abbrev pub entry_of : What → Entry
+entry_of (defines d) = Some d
+entry_of (leaves_out cause) = None
+entry_of (leads_to path) = None
+
+-- what a line of a file has
 pub record Told : Type 0 where
   pub file : ℕ
   pub line : ℕ
-  pub entry : Entry
+  pub what : What
+
+abbrev pub entries_of : List Told → List Entry
+entries_of told = map (λ t. entry_of t.what) told
 
 -- ---- a line
 
-abbrev pub entries_behind : LineEnd → List Entry
-entries_behind nothing = []
-entries_behind (left_out cause) = None ∷ []
-entries_behind (includes path) = None ∷ []
+abbrev pub parts_behind : LineEnd → List What
+parts_behind nothing = []
+parts_behind (left_out cause) = leaves_out cause ∷ []
+parts_behind (includes path) = leads_to path ∷ []
 
-abbrev pub entries_in : LineRead → List Entry
-entries_in r = map Some r.definitions ++ entries_behind r.end
+abbrev pub parts_in : LineRead → List What
+parts_in r = map defines r.definitions ++ parts_behind r.end
 
-abbrev pub told_in : ℕ → ℕ → List Entry → List Told
-told_in file line es = map (λ e. record { file = file; line = line; entry = e }) es
+abbrev pub told_in : ℕ → ℕ → List What → List Told
+told_in file line parts = map (λ part. record { file = file; line = line; what = part }) parts
 
 -- ---- files
 
 -- what is told of these lines; `inside` is told of a file that one of them includes
 abbrev pub told_of : (LineEnd → List Told) → ℕ → ℕ → List LineRead → List Told
 told_of inside file line [] = []
-told_of inside file line (r ∷ rs) = told_in file line (entries_in r) ++ (inside r.end ++ told_of inside file (line + 1) rs)
+told_of inside file line (r ∷ rs) = told_in file line (parts_in r) ++ (inside r.end ++ told_of inside file (line + 1) rs)
 
 abbrev pub lines_at : List FileRead → ℕ → List LineRead
 lines_at files index = option_map_or (λ f. f.lines) (slice_get files index) []

@@ -1,4 +1,5 @@
--- A file as libxkbcommon opens it (src/compose/parser.c; since version 1.6 src/scanner-utils.h), and the size of its tables.
+-- A file as libxkbcommon opens it (src/compose/parser.c; since version 1.6 src/scanner-utils.h),
+-- and the size of its tables.
 use Rattle.std.specs.Prelude.{ℕ, Bool, true, not, nat_eq, ◌==◌, ◌&&◌, ◌||◌, nat_lt, if◌then◌else◌, List, [], ◌∷◌, drop, Option, Some, None}
 use Rattle.std.specs.List.{starts_with}
 use Rattle.compose_readers.specs.declared.walking.Refusal.{Refusal}
@@ -27,7 +28,8 @@ refusal_of version [] = Some Empty
 refusal_of V1_5 (b ∷ bytes) = None
 refusal_of V1_7 (b ∷ bytes) = if starts_with nat_eq (b ∷ bytes) mark || begins_text (b ∷ bytes) then None else Some Encoding
 
--- a table of 1.5 has at most 65,535 nodes, one of 1.7 two to the power of 23, each less one; the root is one of them
+-- a table of 1.5 has at most 65,535 nodes, one of 1.7 two to the power of 23, each less one; the
+-- root is one of them
 abbrev pub most_nodes : Version → ℕ
 most_nodes V1_5 = 65534
 most_nodes V1_7 = 8388607

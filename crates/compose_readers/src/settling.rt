@@ -6,6 +6,7 @@ ghost use Rattle.compose_model.specs.Table.{is_proper_prefix};
 ghost use Rattle.compose_readers.specs.Entries.{entries, entry_taken, nodes_after, with_nodes};
 ghost use Rattle.compose_readers.specs.Fates as words;
 ghost use Rattle.compose_readers.specs.Found.{IsCounting};
+ghost use Rattle.compose_readers.specs.Walks as walks;
 
 use crate::file::Definition;
 use crate::walking::{Told, What};
@@ -48,7 +49,7 @@ impl<'a> Model for Entry<'a> {
 impl<'a> Told<'a> {
     /// Returns the definition, or nothing if something else was told.
     fn entry(&self) -> Entry<'a>
-        ensures { result ≡ self.now.entry }
+        ensures { result ≡ walks.entry_of self.now.what }
     {
         let definition = match self.what {
             What::Defines(definition) => Some(definition),
@@ -112,7 +113,7 @@ fn entries_of<'a>(
     told: &[Told<'a>],
 ) -> Result<Vec<Entry<'a>>, AllocError>
     ensures { IfOk result
-        (λ found. found.items ≡ entries most_nodes (map (λ t. t.entry) told.now)) }
+        (λ found. found.items ≡ entries most_nodes (walks.entries_of told.now)) }
 {
     let mut nodes = IndexSet::new(alloc);
     let mut entries = Vec::new(alloc);
@@ -326,7 +327,7 @@ fn fates_of(alloc: Global, entries: &[Entry<'_>]) -> Result<Vec<Fate>, AllocErro
 pub fn fates(alloc: Global, most_nodes: usize, told: &[Told<'_>]) -> Result<Vec<Fate>, AllocError>
     ensures { IfOk result
         (λ found. found.items
-        ≡ words.fates (entries most_nodes (map (λ t. t.entry) told.now))) }
+        ≡ words.fates (entries most_nodes (walks.entries_of told.now))) }
 {
     let entries = entries_of(alloc, most_nodes, told)?;
     fates_of(alloc, &entries)

@@ -10,26 +10,37 @@ use crate::cause::Cause;
 use crate::file::{Definition, FileRead, LineEnd, LineRead};
 use std::alloc::{AllocError, Global};
 use std::marker::Model;
-use thiserror::Error;
 
 /// Why a reader refuses the whole table.
-#[derive(Clone, Copy, Debug, PartialEq, Eq, Drop, Error)]
+#[derive(Clone, Copy, Debug, PartialEq, Eq, Drop)]
 pub enum Refusal {
     /// A file that it can't read.
-    #[error("a file can't be read")]
     Unread,
     /// A file of 0 bytes.
-    #[error("a file is empty")]
     Empty,
     /// A file that doesn't begin as a text.
-    #[error("a file begins with a NUL, or with no ASCII character")]
     Encoding,
     /// Includes that lead too deep.
-    #[error("includes lead too deep")]
     Depth,
     /// A file with too many faulty lines.
-    #[error("a file has too many faulty lines")]
     Faults,
+}
+
+impl Refusal {
+    ghost use Rattle.compose_readers.specs.Words.{refusal_words};
+
+    /// Returns it in words. O(1).
+    pub fn words(self) -> &'static str
+        ensures { result.now ≡ refusal_words self }
+    {
+        match self {
+            Refusal::Unread => "a file can't be read",
+            Refusal::Empty => "a file is empty",
+            Refusal::Encoding => "a file begins with a NUL, or with no ASCII character",
+            Refusal::Depth => "includes lead too deep",
+            Refusal::Faults => "a file has too many faulty lines",
+        }
+    }
 }
 
 /// What a reader comes upon in a line.
@@ -56,11 +67,11 @@ pub struct Told<'a> {
 
 impl<'a> Model for Told<'a> {
     ghost use Rattle.compose_readers.specs.Walks as walks;
-    ghost use Rattle.compose_readers.specs.Seen.{entry_of};
+    ghost use Rattle.compose_readers.specs.Seen.{what_of};
 
     ghost Value = { walks.Told };
 
-    ghost view = { λ t. record { file = t.file; line = t.line; entry = entry_of t.what } };
+    ghost view = { λ t. record { file = t.file; line = t.line; what = what_of t.what } };
 }
 
 /// What bounds a walk: how deep includes may lead, and how many faulty lines a file may have.
@@ -110,7 +121,7 @@ fn push_definitions<'a>(
     definitions: &'a [Definition],
 ) -> Result<(), AllocError>
     ensures { OnOk result
-        (told.new.items ≡ told.old.items ++ walks.told_in file line (map Some definitions.now)) }
+        (told.new.items ≡ told.old.items ++ walks.told_in file line (map walks.defines definitions.now)) }
 {
     for definition in definitions {
         let what = What::Defines(definition);
@@ -128,7 +139,7 @@ fn push_end<'a>(
 ) -> Result<(), AllocError>
     ensures { OnOk result
         (told.new.items
-        ≡ told.old.items ++ walks.told_in file line (walks.entries_behind (end_of end.now))) }
+        ≡ told.old.items ++ walks.told_in file line (walks.parts_behind (end_of end.now))) }
 {
     let what = match end {
         LineEnd::Nothing => return Ok(()),
@@ -148,7 +159,7 @@ fn push_line<'a>(
 ) -> Result<(), AllocError>
     ensures { OnOk result
         (told.new.items
-        ≡ told.old.items ++ walks.told_in file line (walks.entries_in read.now)) }
+        ≡ told.old.items ++ walks.told_in file line (walks.parts_in read.now)) }
 {
     push_definitions(told, file, line, &read.definitions)?;
     push_end(told, file, line, &read.end)

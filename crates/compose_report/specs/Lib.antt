@@ -2,3 +2,4 @@ pub mod Ends
 pub mod Outcomes
 pub mod Exchange
 pub mod Arguments
+pub mod Told

@@ -1,4 +1,5 @@
--- The name of a result on a line that is a definition: it stands behind the first colon, after a string or without one.
+-- The name of a result on a line that is a definition: it stands behind the first colon, after a
+-- string or without one.
 use Rattle.std.proofs.Common.{◌≡◌, ◌<◌, ◌+◌, ◌∙◌, ℕ, suc, List, [], ◌∷◌, ◌++◌, length, drop, Bool, true, false, cond, refl, sym, ap, subst, arith}
 use Rattle.std.specs.Prelude.{◌==◌, Option, Some, None, Result, Ok, Err, flat_map, nat_lt, slice_get}
 use Rattle.std.specs.List.{list_all, All, prefix_len}

@@ -1,4 +1,5 @@
--- The line that counts for a sequence of a table that is read: a definition is written at its place.
+-- The line that counts for a sequence of a table that is read: a definition is written at its
+-- place.
 use Rattle.std.proofs.Common.{◌≡◌, ◌∙◌, ℕ, List, [], ◌∷◌, Bool, true, false, cond, ◌&&◌, map, take, length, nat_lt, refl, ap}
 use Rattle.std.specs.Prelude.{Option, Some, None, is_some, Result, Ok, Err, filter, option_map, slice_get}
 use Rattle.std.specs.Option.{option_or, option_map_or, option_and_then}

@@ -1,5 +1,5 @@
--- The result keysym of a sequence (Compose(5), "FILE DESCRIPTION": a line gives a string, the name of a keysym, or
--- both; xkb_compose_state_get_one_sym).
+-- The result keysym of a sequence (Compose(5), "FILE DESCRIPTION": a line gives a string, the name
+-- of a keysym, or both; xkb_compose_state_get_one_sym).
 use Rattle.std.specs.Prelude.{◌≡◌, ◌<◌, ℕ, if◌then◌else◌, List, [], ◌∷◌, length, map, get_or, Option, Some, None, unwrap_or, Result, Ok}
 use Rattle.std.specs.Option.{option_and_then}
 use Rattle.std.specs.Str.{is_utf8}
@@ -32,7 +32,8 @@ named_at names sources place = option_and_then (value names) (option_and_then re
 
 -- ---- the result keysym
 
--- the keysym that is named; if none is, the first keysym of the text's one character; otherwise 0 (XKB_KEY_NoSymbol)
+-- the keysym that is named; if none is, the first keysym of the text's one character; otherwise 0
+-- (XKB_KEY_NoSymbol)
 abbrev pub IsResult : KeysymNames → Option ℕ → List ℕ → ℕ → Type 0
 IsResult names (Some named) text k = k ≡ named
 IsResult names None text k = (first : Option ℕ) × IsKeyOfText names text first × (k ≡ unwrap_or first 0)
@@ -41,7 +42,8 @@ IsResult names None text k = (first : Option ℕ) × IsKeyOfText names text firs
 abbrev pub named_by : KeysymNames → List Source → Option WrittenLine → Option ℕ
 named_by names sources line = option_and_then (λ l. named_at names sources l.place) line
 
--- one for each of the table's first `count` leaves, in their order; these are the lines that count for the leaves
+-- one for each of the table's first `count` leaves, in their order; these are the lines that count
+-- for the leaves
 pub record AreFor (names : KeysymNames) (sources : List Source) (lines : List (Option WrittenLine)) (table : List Definition) (count : ℕ) (results : List ℕ) : Type 0 where
   pub as_many : length results ≡ count
   pub are : (i : ℕ) → i < length results → IsResult names (named_by names sources (get_or lines i None)) (unwrap_or (leaf_text table i) []) (get_or results i 0)

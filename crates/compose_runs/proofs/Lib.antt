@@ -1,11 +1,7 @@
-pub mod Failing
 pub mod Given
 pub mod LeftOut
 pub mod LeftOutOfAll
-pub mod Lent
 pub mod Missing
-pub mod Slashes
 pub mod SourceNames
-pub mod Variables
 pub mod WrittenKeys
 pub mod Zipped

@@ -8,7 +8,7 @@ use Rattle.compose_runs.specs.Files.{AreMigrationFiles, migration_given}
 use Rattle.compose_runs.specs.declared.checking.CheckFiles.{CheckFiles}
 use Rattle.compose_runs.specs.declared.checking.CheckPaths.{CheckPaths}
 use Rattle.compose_runs.specs.declared.checking.CheckTexts.{CheckTexts}
-use Rattle.compose_runs.specs.declared.environment.Environment.{Environment}
+use Rattle.compose_given.specs.declared.environment.Environment.{Environment}
 
 -- the input of the check, from these files
 abbrev pub check_given : CheckFiles → Input

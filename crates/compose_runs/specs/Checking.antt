@@ -16,7 +16,7 @@ use Rattle.compose_report.specs.declared.outcome.Outcome.{Outcome}
 use Rattle.compose_arguments.specs.declared.given_tables.FilePair.{FilePair}
 use Rattle.compose_runs.specs.CheckFiles.{AreCheckFiles, AreFoundCheckFiles, check_given}
 use Rattle.compose_runs.specs.Reports.{IsFilesReport}
-use Rattle.compose_runs.specs.declared.environment.Environment.{Environment}
+use Rattle.compose_given.specs.declared.environment.Environment.{Environment}
 use Rattle.compose_runs.specs.declared.checking.CheckFiles.{CheckFiles}
 use Rattle.compose_runs.specs.declared.checking.CheckPaths.{CheckPaths}
 use Rattle.compose_runs.specs.declared.checking.CheckTexts.{CheckTexts}

@@ -11,16 +11,12 @@ use Rattle.compose_input.specs.Names.{AreNames}
 use Rattle.compose_input.specs.Tables.{IsFoundOnSystem}
 use Rattle.compose_input.specs.declared.places.Places.{Places}
 use Rattle.compose_input.specs.declared.tables.TableFiles.{TableFiles}
-use Rattle.compose_runs.specs.Environment.{IsPlaced}
+use Rattle.compose_given.specs.Names.{names_or_builtin}
+use Rattle.compose_given.specs.Environment.{IsPlaced}
 use Rattle.compose_runs.specs.declared.differing.DiffFiles.{DiffFiles}
-use Rattle.compose_runs.specs.declared.environment.Environment.{Environment}
-use Rattle.compose_runs.specs.declared.environment.PlaceArguments.{PlaceArguments}
+use Rattle.compose_given.specs.declared.environment.Environment.{Environment}
+use Rattle.compose_given.specs.declared.environment.PlaceArguments.{PlaceArguments}
 use Rattle.compose_runs.specs.declared.files.MigrationFiles.{MigrationFiles}
-
--- the given names, or the built-in ones if none are given
-abbrev pub names_or_builtin : List (List ℕ) → List (List ℕ)
-names_or_builtin [] = codes "builtin" ∷ []
-names_or_builtin (name ∷ names) = name ∷ names
 
 abbrev pub rule_by : Bool → Rule
 rule_by true = Longest

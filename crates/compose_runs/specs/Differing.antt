@@ -25,8 +25,8 @@ use Rattle.compose_details.specs.Given.{IsGiven, parts_of}
 use Rattle.compose_details.specs.declared.given.Given.{Given}
 use Rattle.compose_report.specs.Outcomes.{IsNoted, IsOutcome, IsWorded, PrintsErrors, reported_text}
 use Rattle.compose_report.specs.declared.outcome.Outcome.{Outcome}
-use Rattle.compose_runs.specs.Environment.{wants_color}
-use Rattle.compose_runs.specs.Variables.{Decoded}
+use Rattle.compose_given.specs.Environment.{wants_color}
+use Rattle.compose_given.specs.Variables.{Decoded}
 use Rattle.compose_runs.specs.DiffFiles.{AreDiffFiles}
 use Rattle.compose_runs.specs.Files.{migration_given, notes_of}
 use Rattle.compose_runs.specs.Losing.{lost_notes}
@@ -34,7 +34,7 @@ use Rattle.compose_runs.specs.Skipping.{IsFollowed, IsKeptPair}
 use Rattle.compose_runs.specs.declared.differing.DiffFiles.{DiffFiles}
 use Rattle.compose_runs.specs.declared.files.MigrationFiles.{MigrationFiles}
 use Rattle.compose_runs.specs.declared.skipping.KeptPair.{KeptPair}
-use Rattle.compose_runs.specs.declared.environment.Environment.{Environment}
+use Rattle.compose_given.specs.declared.environment.Environment.{Environment}
 
 -- ---- the input
 

@@ -13,47 +13,36 @@ use Rattle.compose_arguments.specs.declared.manifest_arguments.ManifestArguments
 use Rattle.compose_arguments.specs.declared.table_arguments.TableArguments.{TableArguments}
 use Rattle.compose_arguments.specs.declared.update_arguments.UpdateArguments.{UpdateArguments}
 use Rattle.compose_input.specs.Faults.{FailNames, FailsListed, FailsFound}
-use Rattle.compose_input.specs.Names.{AreNames}
 use Rattle.compose_input.specs.Tables.{IsListed, IsFoundOnSystem}
 use Rattle.compose_input.specs.Texts.{IsRead}
 use Rattle.compose_input.specs.declared.fault.Fault.{Fault}
 use Rattle.compose_input.specs.declared.fault.Fault.TheVariants as faults
 use Rattle.compose_input.specs.declared.fault.Fault.TheVariants.{Word, NoMemory}
-use Rattle.compose_input.specs.declared.names.NameFiles.{NameFiles}
 use Rattle.compose_input.specs.declared.places.Places.{Places}
 use Rattle.compose_input.specs.declared.tables.TableFiles.{TableFiles}
-use Rattle.compose_runs.specs.DiffFiles.{AreFoundFiles, IsFoundTable, names_or_builtin, place_arguments}
+use Rattle.compose_given.specs.Faults.{FailsChosenTable, FailsPlaced, HasFile, HasNames, OrMemory}
+use Rattle.compose_runs.specs.DiffFiles.{AreFoundFiles, IsFoundTable, place_arguments}
+use Rattle.compose_given.specs.Names.{names_or_builtin}
 use Rattle.compose_runs.specs.Differing.{is_colored}
-use Rattle.compose_runs.specs.Environment.{IsPlaced, ReturnsColor, places_of}
+use Rattle.compose_given.specs.Environment.{IsPlaced, ReturnsColor, places_of}
 use Rattle.compose_runs.specs.Files.{AreMigrationFiles}
 use Rattle.compose_runs.specs.Linting.{AreReadTables, asked_files, lint_places}
 use Rattle.compose_runs.specs.Manifest as manifest
-use Rattle.compose_runs.specs.OneTable.{IsTableRead, table_places}
-use Rattle.compose_runs.specs.Own.{IsChosen, own_paths}
-use Rattle.compose_runs.specs.Updating.{builtin, update_places}
+use Rattle.compose_runs.specs.OneTable.{IsTableRead}
+use Rattle.compose_given.specs.Noted.{table_places}
+use Rattle.compose_runs.specs.Updating.{update_places}
 use Rattle.compose_runs.specs.declared.checking.CheckPaths.{CheckPaths}
 use Rattle.compose_runs.specs.declared.checking.CheckTexts.{CheckTexts}
-use Rattle.compose_runs.specs.declared.environment.Environment.{Environment}
-use Rattle.compose_runs.specs.declared.environment.PlaceArguments.{PlaceArguments}
+use Rattle.compose_given.specs.declared.environment.Environment.{Environment}
+use Rattle.compose_given.specs.declared.environment.PlaceArguments.{PlaceArguments}
 use Rattle.compose_runs.specs.declared.files.MigrationFiles.{MigrationFiles}
 use Rattle.compose_runs.specs.declared.linting.ReadTable.{ReadTable}
-use Rattle.compose_runs.specs.declared.one_table.ChosenFile.{ChosenFile}
 use Rattle.compose_runs.specs.declared.one_table.TableRead.{TableRead}
-
--- memory ran out, or the fault has this property
-abbrev pub OrMemory : (Fault → Type 0) → Fault → Type 0
-OrMemory Fails fault = (fault ≡ NoMemory) ⊎ Fails fault
 
 -- ---- parts that are read
 
-abbrev pub HasNames : Option (List Entry) → List (List ℕ) → Type 0
-HasNames folder names = (read : NameFiles) × AreNames folder names read
-
 abbrev pub HasListed : Option (List Entry) → List ℕ → Type 0
 HasListed folder path = (table : TableFiles) × IsListed folder path table
-
-abbrev pub HasFile : Option (List Entry) → List ℕ → Type 0
-HasFile folder path = (bytes : List ℕ) × IsHeld folder path (File bytes)
 
 abbrev pub HasMigration : Option (List Entry) → List (List ℕ) → List ℕ → List ℕ → Type 0
 HasMigration folder names old new = (files : MigrationFiles) × AreMigrationFiles folder names old new files
@@ -70,7 +59,7 @@ HasPair folder environment names pair = (files : MigrationFiles) × AreFoundFile
 abbrev pub FailsType : Option (List Entry) → List (List ℕ) → List ℕ → Fault → Type 0
 FailsType folder names path fault = OrMemory (λ f. FailNames folder names f ⊎ (HasNames folder names × FailsListed folder (codes "table") path f)) fault
 
--- for `explain`: the names, the old table, the new one
+-- for two manifests: the names, the old table, the new one
 abbrev pub FailsMigration : Option (List Entry) → List (List ℕ) → List ℕ → List ℕ → Fault → Type 0
 FailsMigration folder names old new fault =
     OrMemory (λ f. FailNames folder names f ⊎ (HasNames folder names × (FailsListed folder (codes "old") old f ⊎ (HasListed folder old × FailsListed folder (codes "new") new f)))) fault
@@ -127,23 +116,6 @@ FailsDiffRun folder environment names arguments fault = ReturnsColor (Err fault)
 
 -- ---- the commands on one Compose file
 
--- for the user's own file, a variable of the environment that is not UTF-8; a given file is not
--- refused here
-abbrev pub FailsChosen : Environment → Places → Option (List ℕ) → Fault → Type 0
-FailsChosen environment places (Some path) fault = fault ≡ NoMemory
-FailsChosen environment places None fault = OrMemory (λ f. (own_paths environment places ≡ Err tt) × (f ≡ Word)) fault
-
--- the choice of the file, and then the search for its files
-abbrev pub FailsChosenTable : Option (List Entry) → Environment → Places → Option (List ℕ) → Fault → Type 0
-FailsChosenTable folder environment places given fault =
-    FailsChosen environment places given fault ⊎ ((file : ChosenFile) × IsChosen folder environment places given file × FailsFound folder places (string_bytes file.path) fault)
-
--- a variable of the environment for places is not UTF-8; or all are UTF-8, and the fault is this
--- one
-abbrev pub FailsPlaced : Environment → PlaceArguments → (Places → Fault → Type 0) → Fault → Type 0
-FailsPlaced environment arguments Fails fault =
-    ((places_of environment ≡ Err tt) × (fault ≡ Word)) ⊎ ((places : Places) × IsPlaced environment arguments places × Fails places fault)
-
 -- for `list`: the environment, the names, the table
 abbrev pub FailsTableRead : Option (List Entry) → Environment → List (List ℕ) → TableArguments → Fault → Type 0
 FailsTableRead folder environment names arguments fault =
@@ -192,11 +164,11 @@ HasOption folder (Some path) = HasFile folder path
 
 -- for `update`: the environment, the names, the table, and the repertoire and the list of intended
 -- changes, if they are given
-abbrev pub FailsUpdateRead : Option (List Entry) → Environment → UpdateArguments → Fault → Type 0
-FailsUpdateRead folder environment arguments fault =
+abbrev pub FailsUpdateRead : Option (List Entry) → Environment → List (List ℕ) → UpdateArguments → Fault → Type 0
+FailsUpdateRead folder environment names arguments fault =
     OrMemory (FailsPlaced environment (update_places arguments)
-    (λ places f. FailNames folder builtin f
-    ⊎ (HasNames folder builtin
+    (λ places f. FailNames folder (names_or_builtin names) f
+    ⊎ (HasNames folder (names_or_builtin names)
     × (FailsFound folder places arguments.file.now f
     ⊎ (((table : TableFiles) × IsFoundOnSystem folder places arguments.file.now Longest table)
     × (FailsAccepted folder (option_copied arguments.repertoire) f

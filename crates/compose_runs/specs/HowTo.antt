@@ -18,7 +18,7 @@ use Rattle.compose_report.specs.declared.outcome.Outcome.{Outcome}
 use Rattle.compose_runs.specs.Listing.{form_of}
 use Rattle.compose_runs.specs.OneTable.{IsTableRead, IsTableOutcome}
 use Rattle.compose_runs.specs.Skipping.{IsFollowed, IsKeptRead}
-use Rattle.compose_runs.specs.declared.environment.Environment.{Environment}
+use Rattle.compose_given.specs.declared.environment.Environment.{Environment}
 use Rattle.compose_runs.specs.declared.one_table.TableRead.{TableRead}
 use Rattle.compose_runs.specs.declared.skipping.KeptRead.{KeptRead}
 

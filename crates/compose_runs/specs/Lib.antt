@@ -1,9 +1,5 @@
-pub mod Variables
-pub mod Environment
-pub mod Own
 pub mod Files
 pub mod Typing
-pub mod Explaining
 pub mod CheckFiles
 pub mod Checking
 pub mod Making
@@ -12,7 +8,6 @@ pub mod DiffFiles
 pub mod Differing
 pub mod Faults
 pub mod OneTable
-pub mod GivenTable
 pub mod Reports
 pub mod WrittenKeys
 pub mod Listing

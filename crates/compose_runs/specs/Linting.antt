@@ -26,13 +26,14 @@ use Rattle.compose_lint.specs.declared.asking.LintForm.TheVariants.{Lines, Json,
 use Rattle.compose_lint.specs.declared.reader.Readers.{Readers}
 use Rattle.compose_report.specs.Outcomes.{IsNoted, IsOutcome, IsWorded, PrintsErrors, reported_text}
 use Rattle.compose_report.specs.declared.outcome.Outcome.{Outcome}
-use Rattle.compose_runs.specs.DiffFiles.{IsAccepted, names_or_builtin}
-use Rattle.compose_runs.specs.Environment.{IsPlaced}
-use Rattle.compose_runs.specs.Own.{IsChosen}
+use Rattle.compose_runs.specs.DiffFiles.{IsAccepted}
+use Rattle.compose_given.specs.Names.{names_or_builtin}
+use Rattle.compose_given.specs.Environment.{IsPlaced}
+use Rattle.compose_given.specs.Own.{IsChosen}
 use Rattle.compose_runs.specs.Skipping.{IsFollowed}
 use Rattle.compose_skipped.specs.Reported.{report_text}
-use Rattle.compose_runs.specs.declared.environment.Environment.{Environment}
-use Rattle.compose_runs.specs.declared.environment.PlaceArguments.{PlaceArguments}
+use Rattle.compose_given.specs.declared.environment.Environment.{Environment}
+use Rattle.compose_given.specs.declared.environment.PlaceArguments.{PlaceArguments}
 use Rattle.compose_runs.specs.declared.linting.LintFiles.{LintFiles}
 use Rattle.compose_runs.specs.declared.linting.ReadTable.{ReadTable}
 

@@ -19,7 +19,7 @@ use Rattle.compose_report.specs.declared.outcome.Outcome.{Outcome}
 use Rattle.compose_runs.specs.DiffFiles.{AreFoundFiles}
 use Rattle.compose_runs.specs.Files.{AreMigrationFiles, migration_given}
 use Rattle.compose_runs.specs.Reports.{IsFilesReport}
-use Rattle.compose_runs.specs.declared.environment.Environment.{Environment}
+use Rattle.compose_given.specs.declared.environment.Environment.{Environment}
 use Rattle.compose_runs.specs.declared.files.MigrationFiles.{MigrationFiles}
 use Rattle.compose_runs.specs.declared.making.MakeOptions.{MakeOptions}
 use Rattle.compose_runs.specs.declared.options.Options.{Options}

@@ -10,11 +10,11 @@ use Rattle.compose_input.specs.declared.places.Places.{Places}
 use Rattle.compose_answer.specs.declared.answer.Ended.TheVariants.{Yes, Refused}
 use Rattle.compose_report.specs.Outcomes.{IsNoted, PrintsOutput, PrintsErrors}
 use Rattle.compose_report.specs.declared.outcome.Outcome.{Outcome}
-use Rattle.compose_runs.specs.Environment.{IsPlaced}
-use Rattle.compose_runs.specs.Own.{IsChosen}
-use Rattle.compose_runs.specs.declared.environment.Environment.{Environment}
-use Rattle.compose_runs.specs.declared.environment.PlaceArguments.{PlaceArguments}
-use Rattle.compose_runs.specs.declared.one_table.ChosenFile.{ChosenFile}
+use Rattle.compose_given.specs.Environment.{IsPlaced}
+use Rattle.compose_given.specs.Own.{IsChosen}
+use Rattle.compose_given.specs.declared.environment.Environment.{Environment}
+use Rattle.compose_given.specs.declared.environment.PlaceArguments.{PlaceArguments}
+use Rattle.compose_given.specs.declared.chosen.ChosenFile.{ChosenFile}
 
 -- the message that the sources can't be listed
 abbrev pub PrintsRefusal : Outcome → Type 0

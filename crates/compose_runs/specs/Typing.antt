@@ -22,7 +22,7 @@ use Rattle.compose_key_lists.specs.Lists.{refused_line}
 use Rattle.compose_runs.specs.OneTable.{IsTableRead, IsTableOutcome}
 use Rattle.compose_runs.specs.Skipping.{IsFollowed, IsKeptRead}
 use Rattle.compose_runs.specs.WrittenKeys.{AreWritten}
-use Rattle.compose_runs.specs.declared.environment.Environment.{Environment}
+use Rattle.compose_given.specs.declared.environment.Environment.{Environment}
 use Rattle.compose_runs.specs.declared.one_table.TableRead.{TableRead}
 use Rattle.compose_runs.specs.declared.options.Options.{Options}
 use Rattle.compose_runs.specs.declared.skipping.KeptRead.{KeptRead}

@@ -29,11 +29,12 @@ use Rattle.compose_update.specs.declared.deciding.Update.{Update}
 use Rattle.compose_update.specs.declared.deciding.Update.TheVariants as updates
 use Rattle.compose_update.specs.declared.deciding.UpdateFault.{UpdateFault}
 use Rattle.compose_update.specs.declared.deciding.UpdateFault.TheVariants.{Input, TooLarge}
+use Rattle.compose_given.specs.Names.{names_or_builtin}
 use Rattle.compose_runs.specs.Differing.{IsAcceptRefusal}
-use Rattle.compose_runs.specs.Environment.{IsPlaced}
+use Rattle.compose_given.specs.Environment.{IsPlaced}
 use Rattle.compose_runs.specs.Stored.{IsDamaged}
-use Rattle.compose_runs.specs.declared.environment.Environment.{Environment}
-use Rattle.compose_runs.specs.declared.environment.PlaceArguments.{PlaceArguments}
+use Rattle.compose_given.specs.declared.environment.Environment.{Environment}
+use Rattle.compose_given.specs.declared.environment.PlaceArguments.{PlaceArguments}
 use Rattle.compose_runs.specs.declared.updating.IntendedChanges.{IntendedChanges}
 use Rattle.compose_runs.specs.declared.updating.UpdateFiles.{UpdateFiles}
 use Rattle.compose_runs.specs.declared.updating.UpdateRun.{UpdateRun}
@@ -43,10 +44,6 @@ use Rattle.compose_runs.specs.declared.updating.UpdateRun.TheVariants.{Replaced,
 
 abbrev pub update_places : UpdateArguments → PlaceArguments
 update_places arguments = record { system = arguments.system; locale = arguments.locale; root = None }
-
--- the built-in names
-abbrev pub builtin : List (List ℕ)
-builtin = codes "builtin" ∷ []
 
 -- the bytes of the repertoire; none if no path is given
 abbrev pub IsRepertoire : Option (List Entry) → Option (List ℕ) → List ℕ → Type 0
@@ -59,12 +56,12 @@ IsIntendedList folder None None = Unit {0}
 IsIntendedList folder (Some path) (Some meant) = (string_bytes meant.path ≡ path) × IsHeld folder path (File meant.lines.items)
 IsIntendedList folder path meant = ⊥
 
--- the built-in names, the Compose file as it is on the system (the longest of its overlapping
--- sequences counts), the repertoire, and the list of intended changes
-pub record AreUpdateFiles (folder : Option (List Entry)) (environment : Environment) (arguments : UpdateArguments) (files : UpdateFiles) : Type 0 where
+-- the given names, or else the built-in ones, the Compose file as it is on the system (the longest
+-- of its overlapping sequences counts), the repertoire, and the list of intended changes
+pub record AreUpdateFiles (folder : Option (List Entry)) (environment : Environment) (names : List (List ℕ)) (arguments : UpdateArguments) (files : UpdateFiles) : Type 0 where
   pub places : Places
   pub are_places : IsPlaced environment (update_places arguments) places
-  pub are_names : AreNames folder builtin files.names
+  pub are_names : AreNames folder (names_or_builtin names) files.names
   pub is_new : IsFoundOnSystem folder places arguments.file.now Longest files.new
   pub is_repertoire : IsRepertoire folder (option_copied arguments.repertoire) files.repertoire.items
   pub is_meant : IsIntendedList folder (option_copied arguments.accept) files.meant

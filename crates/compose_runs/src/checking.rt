@@ -4,7 +4,6 @@ ghost use Rattle.compose_runs.specs.Faults.{FailsCheck, FailsCheckFiles};
 ghost use Rattle.compose_runs.specs.Checking.{IsCheckFilesOutcome, IsCheckFilesRun, IsCheckRun, IsCheckOutcome, AnswersCheck, allowed_names, given_parts};
 ghost use Rattle.compose_runs.specs.Reports.{IsReport};
 
-use crate::environment::Environment;
 use crate::files::MigrationFiles;
 use crate::one_table::wants_details;
 use crate::options::Options;
@@ -13,6 +12,7 @@ use compose_arguments::{FilePair, TablePaths};
 use compose_check::CheckInput;
 use compose_details::{Given, GivenTable};
 use compose_folder::{Folder, ReadOnce};
+use compose_given::Environment;
 use compose_input::{Fault, read_text};
 use compose_report::{Outcome, worded_outcome};
 use compose_tool::{check_allowed, check_migration};

@@ -1,20 +1,16 @@
 //! `diff`: what a new Compose file changes for those who type with the old one.
 ghost use Rattle.std.specs.Prelude.{◌≡◌, ◌++◌, ◌∷◌, [], map, IfOk, IfErr, option_copied, string_bytes, codes};
 ghost use Rattle.compose_diff_rows.specs.Answers.{AnswersDiff};
-ghost use Rattle.compose_input.specs.Faults.{FailNames};
-ghost use Rattle.compose_input.specs.Names.{AreNames};
 ghost use Rattle.compose_report.specs.Outcomes.{reported_text};
-ghost use Rattle.compose_runs.specs.DiffFiles.{IsAccepted, names_or_builtin};
+ghost use Rattle.compose_runs.specs.DiffFiles.{IsAccepted};
 ghost use Rattle.compose_runs.specs.Differing as words;
 ghost use Rattle.compose_runs.specs.Differing.{IsAcceptRefusal, IsDiffOutcome, IsDiffPrinted, IsDiffRun, IsFaultPrinted, IsKeptDiff, IsRefusalOutcome, ShowsAnswer, diff_asked};
-ghost use Rattle.compose_runs.specs.Environment.{ReturnsColor};
+ghost use Rattle.compose_given.specs.Environment.{ReturnsColor};
 ghost use Rattle.compose_runs.specs.Faults.{FailsAccepted, FailsDiff, FailsDiffRun};
 ghost use Rattle.compose_runs.specs.Files.{notes_of};
 
-use crate::environment::Environment;
 use crate::files::MigrationFiles;
 use crate::losing::lost_notes;
-use crate::one_table::joined;
 use crate::skipping::{KeptPair, followed};
 use compose_answer::{Answer, Ended, Refusal};
 use compose_arguments::{DiffArguments, DiffColor, DiffForm};
@@ -22,7 +18,8 @@ use compose_details::{Given, GivenTable};
 use compose_diff::{AcceptFault, colored_text};
 use compose_diff_rows::{DiffFault, DiffInput, Form, diff_migration};
 use compose_folder::{Folder, ReadOnce};
-use compose_input::{Fault, NameFiles, read_text};
+use compose_given::{Environment, joined};
+use compose_input::{Fault, read_text};
 use compose_messages::{FileMessage, Message, Position};
 use compose_page::Markup;
 use compose_report::{Outcome, outcome_with, reported_text, worded_refusal};
@@ -107,27 +104,6 @@ impl<'n> DiffFiles<'n> {
         let accepted = read_accepted(files, alloc, arguments.accept)?;
         Ok(DiffFiles { both, accepted })
     }
-}
-
-/// Reads the files of names, or takes the built-in names if none are given.
-pub(crate) fn read_names<'n, F: Folder>(
-    files: &mut ReadOnce<F>,
-    alloc: Global,
-    names: &[&'n str],
-) -> Result<NameFiles<'n>, Fault>
-    ensures kept { files.new.holds ≡ files.old.holds }
-    ensures read { IfOk result
-        (λ read. AreNames files.old.holds
-        (names_or_builtin (map (λ name. name.now) names.now)) read) }
-    ensures fault { IfErr result
-        (λ fault. FailNames files.old.holds
-        (names_or_builtin (map (λ name. name.now) names.now)) fault) }
-{
-    if names.is_empty() {
-        let builtin: &'n str = "builtin";
-        return NameFiles::read(files, alloc, &[builtin]);
-    }
-    NameFiles::read(files, alloc, names)
 }
 
 /// Reads the list of intended changes; an empty one if no path is given.

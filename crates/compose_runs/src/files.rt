@@ -4,11 +4,9 @@ ghost use Rattle.compose_migration.specs.Values.{given_of};
 ghost use Rattle.compose_runs.specs.DiffFiles.{IsFoundTable, place_arguments, rule_by};
 ghost use Rattle.compose_runs.specs.Faults.{FailsTable};
 
-use crate::differing::read_names;
-use crate::environment::{Environment, PlaceArguments};
-use crate::one_table::joined;
 use compose_arguments::{FilePair, TablePaths};
 use compose_folder::{Folder, ReadOnce};
+use compose_given::{Environment, PlaceArguments, joined, read_names};
 use compose_input::{Fault, NameFiles, TableFiles};
 use compose_migration::MigrationInput;
 use compose_model::Rule;

@@ -13,10 +13,7 @@
 
 mod checking;
 mod differing;
-mod environment;
-mod explaining;
 mod files;
-mod given_table;
 mod linting;
 mod looking_up;
 mod losing;
@@ -32,14 +29,11 @@ mod written_keys;
 
 pub use checking::{CheckPaths, CheckTexts, run_check, run_check_files};
 pub use differing::run_diff;
-pub use environment::{Environment, Variable};
-pub use explaining::{run_explain, run_explain_files};
-pub use given_table::{read_names_for, read_table};
 pub use linting::run_lint;
 pub use looking_up::{run_how, run_list};
 pub use making::{MakeOptions, run_make, run_make_files};
 pub use manifest::run_manifest;
-pub use one_table::{NotedTable, is_refused};
+pub use one_table::is_refused;
 pub use options::Options;
 pub use stored::read_stored;
 pub use typing::{run_type, run_type_file};

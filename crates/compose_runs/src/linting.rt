@@ -2,22 +2,21 @@
 ghost use Rattle.std.specs.Prelude.{◌≡◌, ◌||◌, ◌++◌, ◌∷◌, [], map, IfOk, IfErr, Some, option_copied, string_bytes, codes};
 ghost use Rattle.compose_lint.specs.Answers.{AnswersLint, asked, table_given};
 ghost use Rattle.compose_report.specs.Outcomes.{reported_text};
-ghost use Rattle.compose_runs.specs.DiffFiles.{IsAccepted};
-ghost use Rattle.compose_runs.specs.Environment.{ReturnsPlaces};
-ghost use Rattle.compose_runs.specs.Environment as spec;
-ghost use Rattle.compose_runs.specs.Faults.{FailsChosenTable, FailsLintRun, FailsTables, OrMemory};
+ghost use Rattle.compose_given.specs.Environment.{ReturnsPlaces};
+ghost use Rattle.compose_given.specs.Environment as spec;
+ghost use Rattle.compose_given.specs.Faults.{FailsChosenTable, OrMemory};
+ghost use Rattle.compose_runs.specs.Faults.{FailsLintRun, FailsTables};
 ghost use Rattle.compose_runs.specs.Linting as words;
 ghost use Rattle.compose_runs.specs.Linting.{AreReadTables, IsLintAcceptRefusal, IsLintOutcome, IsLintPrinted, IsLintRefusal, IsLintRun, IsReadTable, asked_files, lint_asked, lint_places};
 
-use crate::differing::{read_accepted, read_names};
-use crate::environment::{Environment, PlaceArguments};
-use crate::one_table::{ChosenFile, file_or_own};
+use crate::differing::read_accepted;
 use crate::skipping::followed;
 use compose_answer::{Answer, Ended, Refusal};
 use compose_arguments::LintArguments;
 use compose_details::Given;
 use compose_diff::AcceptFault;
 use compose_folder::{Folder, ReadOnce};
+use compose_given::{ChosenFile, Environment, PlaceArguments, file_or_own, read_names};
 use compose_input::{Fault, NameFiles, Places, TableFiles};
 use compose_lint::{LintFault, LintForm, LintInput, LintTable, Readers, lint_tables};
 use compose_messages::{FileMessage, Message, Position};

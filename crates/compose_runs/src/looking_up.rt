@@ -11,12 +11,12 @@ ghost use Rattle.compose_runs.specs.HowTo.{AnswersHow, HasErrors, IsGivenText, I
 ghost use Rattle.compose_runs.specs.Listing as words;
 ghost use Rattle.compose_runs.specs.Listing.{AnswersList, AnswersNext, AnswersSequences, IsListOutcome, IsListRun, list_parts};
 
-use crate::environment::Environment;
 use crate::one_table::TableRead;
 use crate::skipping::{KeptRead, followed};
 use compose_answer::{Answer, Refusal};
 use compose_arguments::{HowArguments, ListArguments, ListSort};
 use compose_folder::{Folder, ReadOnce};
+use compose_given::Environment;
 use compose_input::{Fault, read_text};
 use compose_listing::{
     HowWanted, ListForm, ListOrder, ListWanted, Ways, how_to_type, list_next, list_table,

@@ -5,7 +5,6 @@ ghost use Rattle.compose_runs.specs.Making.{IsMakeFilesOutcome, IsMakeFilesRun, 
 ghost use Rattle.compose_runs.specs.Files.{migration_given};
 ghost use Rattle.compose_runs.specs.Reports.{IsReport};
 
-use crate::environment::Environment;
 use crate::files::MigrationFiles;
 use crate::one_table::wants_details;
 use crate::options::Options;
@@ -13,6 +12,7 @@ use compose_answer::{Answer, Ended, Refusal};
 use compose_arguments::{FilePair, TablePaths};
 use compose_details::{Given, GivenTable};
 use compose_folder::{Folder, ReadOnce};
+use compose_given::Environment;
 use compose_input::{Fault, read_text};
 use compose_report::{Outcome, worded_outcome};
 use compose_tool::{make_all_migration, make_migration};

@@ -3,12 +3,11 @@ ghost use Rattle.std.specs.Prelude.{◌≡◌, IfOk, IfErr};
 ghost use Rattle.compose_runs.specs.Faults.{FailsManifestRun};
 ghost use Rattle.compose_runs.specs.Manifest.{IsManifestRun, IsManifestOutcome, IsWrittenManifest, PrintsRefusal};
 
-use crate::environment::{Environment, PlaceArguments};
-use crate::one_table::{file_or_own, joined};
 use compose_answer::Ended;
 use compose_arguments::ManifestArguments;
 use compose_find::FoundSource;
 use compose_folder::{Folder, ReadOnce};
+use compose_given::{Environment, PlaceArguments, file_or_own, joined};
 use compose_input::{Fault, Places, files_note, find_files};
 use compose_manifest::{WriteFault, manifest_text};
 use compose_report::Outcome;

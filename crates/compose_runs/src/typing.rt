@@ -3,7 +3,6 @@ ghost use Rattle.std.specs.Prelude.{◌≡◌, map, IfOk, IfErr, option_map, str
 ghost use Rattle.compose_runs.specs.Faults.{FailsLines, FailsText, FailsType, FailsTypeFile, IsEncodingFault};
 ghost use Rattle.compose_runs.specs.Typing.{AreGivenLines, IsKeptType, IsTypeFileOutcome, IsTypeFileRun, IsTypeLinesOutcome, IsTypeRun, IsTypeOutcome, IsTypedFile};
 
-use crate::environment::Environment;
 use crate::one_table::TableRead;
 use crate::options::Options;
 use crate::skipping::{KeptRead, followed};
@@ -11,6 +10,7 @@ use crate::written_keys::{borrowed, written_keys};
 use compose_arguments::TableArguments;
 use compose_details::{Given, GivenTable};
 use compose_folder::{Folder, ReadOnce};
+use compose_given::Environment;
 use compose_input::{Fault, NameFiles, TableFiles, read_text};
 use compose_key_lists::{key_lists, refused_line};
 use compose_report::{Outcome, outcome_of};

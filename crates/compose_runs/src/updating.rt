@@ -5,16 +5,16 @@ ghost use Rattle.compose_diff_rows.specs.Answers.{AnswersDiff};
 ghost use Rattle.compose_report.specs.Outcomes.{PrintsOutput};
 ghost use Rattle.compose_runs.specs.Faults.{FailsAccepted};
 ghost use Rattle.compose_runs.specs.Updating.{FailsStored, IsDecisionDone, IsIntendedList, IsIntendedRun, IsRefusedAs, IsRefusedOrListed, IsRefusedOrIntended, IsRepertoire, IsStoredIfIntended, IsUpdateDone, IsUpdateOf, IsUpdateRefusal, IsUpdateRun, intended_input, update_given};
-ghost use Rattle.compose_update.specs.Update.{Updates, given_update};
+ghost use Rattle.compose_update.specs.Update.{Updates};
 
 use crate::differing::accept_outcome;
-use crate::environment::{Environment, PlaceArguments};
 use crate::stored::read_stored;
 use compose_answer::{Answer, Ended, Refusal};
 use compose_arguments::UpdateArguments;
 use compose_details::{Given, GivenTable};
 use compose_diff_rows::{DiffFault, DiffInput, Form, diff_migration};
 use compose_folder::{Folder, ReadOnce};
+use compose_given::{Environment, PlaceArguments, read_names};
 use compose_input::{Fault, NameFiles, TableFiles, read_text};
 use compose_migration::{MigrationInput, TableInput};
 use compose_model::Rule;
@@ -24,11 +24,11 @@ use compose_tree::BuildTable;
 use compose_update::{Update, UpdateFault, UpdateInput, decide_update};
 use std::alloc::{AllocError, Global};
 
-/// The input of an update: the built-in names, the new table, and the repertoire.
+/// The input of an update: the names, the new table, and the repertoire.
 #[derive(Drop)]
-pub struct UpdateFiles {
-    /// The built-in names of keysyms.
-    pub names: NameFiles<'static>,
+pub struct UpdateFiles<'n> {
+    /// The names of keysyms: those that are given, or else the built-in ones.
+    pub names: NameFiles<'n>,
     /// The new table; the longest of overlapping sequences counts.
     pub new: TableFiles,
     /// The repertoire; an empty one if none is given.
@@ -66,33 +66,36 @@ pub enum UpdateRun {
     Refused(Outcome),
 }
 
-impl UpdateFiles {
+impl<'n> UpdateFiles<'n> {
     ghost use Rattle.compose_runs.specs.Faults.{FailsUpdateRead};
     ghost use Rattle.compose_runs.specs.Updating.{AreUpdateFiles};
 
-    /// Reads the Compose file as it is on the system, the repertoire, and the list of intended
-    /// changes, in this order. Takes the time of `find_files`.
+    /// Reads the files of names, the Compose file as it is on the system, the repertoire, and the
+    /// list of intended changes, in this order; the names are the built-in ones if none are given.
+    /// Takes the time of `find_files`.
     /// Errors: the fault of the first file, in this order, that can't be read or is refused; `Word`
     /// if a variable of the environment that is needed is not UTF-8; `NoMemory` if memory runs out.
     pub fn read<F: Folder>(
         alloc: Global,
         files: &mut ReadOnce<F>,
         environment: &Environment,
+        names: &[&'n str],
         arguments: &UpdateArguments<'_>,
-    ) -> Result<UpdateFiles, Fault>
+    ) -> Result<UpdateFiles<'n>, Fault>
         ensures kept { files.new.holds ≡ files.old.holds }
         ensures read { IfOk result
-            (λ read. AreUpdateFiles files.old.holds environment.now arguments.now read) }
+            (λ read. AreUpdateFiles files.old.holds environment.now
+            (map (λ name. name.now) names.now) arguments.now read) }
         ensures fault { IfErr result
-            (λ fault. FailsUpdateRead files.old.holds environment.now arguments.now fault) }
+            (λ fault. FailsUpdateRead files.old.holds environment.now
+            (map (λ name. name.now) names.now) arguments.now fault) }
     {
         let places = environment.places(PlaceArguments {
             system: arguments.system,
             locale: arguments.locale,
             root: None,
         })?;
-        let builtin: &'static str = "builtin";
-        let names = NameFiles::read(files, alloc, &[builtin])?;
+        let names = read_names(files, alloc, names)?;
         let new = TableFiles::found(files, alloc, places, arguments.file, Rule::Longest)?;
         let repertoire = read_repertoire(alloc, files, arguments.repertoire)?;
         let meant = read_intended(alloc, files, arguments.accept)?;

@@ -24,15 +24,16 @@ max_frames = 16777216
 abbrev pub malformed_reply : Reply
 malformed_reply = record { session = 0; answer = refused malformed }
 
--- the requests that were answered, their replies, the bytes that were read after these requests, and the bytes that
--- were written
+-- the requests that were answered, their replies, the bytes that were read after these requests,
+-- and the bytes that were written
 pub record Served : Type 0 where
   pub requests : List Request
   pub replies : List Reply
   pub rest : List ℕ
   pub written : List ℕ
 
--- the bytes read begin with the frames of the requests, and the state is the machine's state after these
+-- the bytes read begin with the frames of the requests, and the state is the machine's state after
+-- these
 pub record IsServed (reading : Reading) (old new : ServiceState) (left left' written written' : Option (List ℕ)) (s : Served) : Type 0 where
   pub fit : AllByRecursion Fits s.requests
   pub run : Run reading old s.requests s.replies new
@@ -69,7 +70,8 @@ pub record EndsRead (s : Served) (read_failed : Bool) : Type 0 where
   pub begun : IsBegun s.rest
   pub written : AllWritten s
 
--- a write failed: a part is missing of the last reply, which is to the last request or to a faulty frame after it
+-- a write failed: a part is missing of the last reply, which is to the last request or to a faulty
+-- frame after it
 pub record EndsWrite (s : Served) (write_failed : Bool) : Type 0 where
   pub failed : write_failed ≡ true
   pub before : List Reply

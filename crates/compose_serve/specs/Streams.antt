@@ -6,12 +6,13 @@ use Rattle.std.specs.Io.KnownBytes.{ReadConsumes, WriteAppends, Appends}
 abbrev pub max_piece : ℕ
 max_piece = 4096
 
--- a pull takes n bytes from the beginning and leaves the mark as it is, and returns none only at the end or if the
--- piece is empty; a failure sets the mark and takes none
+-- a pull takes n bytes from the beginning and leaves the mark as it is, and returns none only at
+-- the end or if the piece is empty; a failure sets the mark and takes none
 abbrev pub Pulls : {E : Type 0} → Option (List ℕ) → Option (List ℕ) → Bool → Bool → Result ℕ E → List ℕ → Type 0
 Pulls left left' failed failed' r piece = ReadConsumes left left' r piece × MatchResult r (λ n. (n ≤ length piece) × (failed' ≡ failed)) (λ _. failed' ≡ true)
 
--- a push of some bytes takes one or more of them and leaves the mark as it is; a failure sets the mark and takes none
+-- a push of some bytes takes one or more of them and leaves the mark as it is; a failure sets the
+-- mark and takes none
 abbrev pub Pushes : {E : Type 0} → Option (List ℕ) → Option (List ℕ) → Bool → Bool → Result ℕ E → List ℕ → Type 0
 Pushes written written' failed failed' r piece = WriteAppends written written' r piece × MatchResult r (λ n. (n ≤ length piece) × (0 < length piece → 0 < n) × (failed' ≡ failed)) (λ _. failed' ≡ true)
 

@@ -56,8 +56,8 @@ not_keysym k r none some = elim (cases_Bool (is_keysym k)) [
   | inr e ↦ e
 ]
 
--- if a reader returns each number up to the greatest keysym and none above it, then what it returns is that number, a
--- keysym
+-- if a reader returns each number up to the greatest keysym and none above it, then what it returns
+-- is that number, a keysym
 pub keysym_is : (k x : ℕ) (r : Option ℕ) → r ≡ Some x → (k ≤ 0x1fffffff → r ≡ Some k) → (0x1fffffff < k → r ≡ None) → (x ≡ k) × IsTrue (is_keysym k)
 keysym_is k x r is some none = elim (cases_Bool (is_keysym k)) [
   | inl e ↦ (let k_is : r ≡ Some k = some (leb-true k 0x1fffffff e) in cc, e)
@@ -77,18 +77,21 @@ module _ (old : ServiceState) (n : ℕ) where
   unfolding Answered
   open_taken number e h = (words.refused words.session_taken, (h, refl), e)
 
-  -- an Open of another session may be refused as full if the greatest number of sessions is open, and nothing changes
+  -- an Open of another session may be refused as full if the greatest number of sessions is open,
+  -- and nothing changes
   pub open_full : (number : ℕ) → number ≡ code words.full → IsNone (session_of old.sessions n) → max_sessions ≤ length old.sessions → Answered old n words.open_session (Refused number) old
   unfolding Answered
   open_full number e h l = (words.refused words.full, (h, l, refl), e)
 
-  -- an Open of a new session that would have room may be refused for being out of memory, and the sessions stay
+  -- an Open of a new session that would have room may be refused for being out of memory, and the
+  -- sessions stay
   pub open_no_memory : (number : ℕ) (rows : List Row) → number ≡ code words.no_memory → IsNone (session_of old.sessions n) → length old.sessions < max_sessions → rows ≡ old.sessions
       → Answered old n words.open_session (Refused number) (with_sessions old rows)
   unfolding Answered
   open_no_memory number rows e h l r = (words.refused words.no_memory, (h, l, ap (with_sessions old) r), e)
 
-  -- an Open of a new session that has room may be answered with opened, and the session comes last, at rest
+  -- an Open of a new session that has room may be answered with opened, and the session comes last,
+  -- at rest
   pub open_opened : (rows : List Row) → IsNone (session_of old.sessions n) → length old.sessions < max_sessions → rows ≡ old.sessions ++ record { number = n; session = rest } ∷ []
       → Answered old n words.open_session Opened (with_sessions old rows)
   unfolding Answered
@@ -103,13 +106,14 @@ module _ (old : ServiceState) (n : ℕ) where
     one_there : IsSome (session_of rows n) → IsSome (session_of (map (refed_row old.table n) old.sessions) n)
     one_there h = subst (λ (rs : List Row). IsSome (session_of rs n)) refed_rows h
 
-    -- a key for a session that is not there is refused for that, and the sessions stay as they are after refeeding
+    -- a key for a session that is not there is refused for that, and the sessions stay as they are
+    -- after refeeding
     pub key_no_session : (k number : ℕ) → number ≡ code words.no_session → IsNone (session_of rows n) → Answered old n (words.key k) (Refused number) (with_sessions old rows)
     unfolding Answered
     key_no_session k number e h = (words.refused words.no_session, (none_there h, ap (with_sessions old) refed_rows), e)
 
-    -- a key that is not a keysym is refused for that if its session exists, and the sessions stay as they are after
-    -- refeeding
+    -- a key that is not a keysym is refused for that if its session exists, and the sessions stay
+    -- as they are after refeeding
     pub key_bad : (k number : ℕ) → number ≡ code words.bad_keysym → IsSome (session_of rows n) → IsFalse (is_keysym k) → Answered old n (words.key k) (Refused number) (with_sessions old rows)
     unfolding Answered
     key_bad k number e h f = (words.refused words.bad_keysym, (one_there h, f, ap (with_sessions old) refed_rows), e)
@@ -133,7 +137,8 @@ module _ (old : ServiceState) (n : ℕ) where
           says,
         )
 
-    -- a reset of a session that is not there is refused for that, and the sessions stay as they are after refeeding
+    -- a reset of a session that is not there is refused for that, and the sessions stay as they are
+    -- after refeeding
     pub reset_no_session : (number : ℕ) (rows' : List Row) → number ≡ code words.no_session → IsNone (session_of rows n) → rows' ≡ rows
         → Answered old n words.reset (Refused number) (with_sessions old rows')
     unfolding Answered
@@ -144,7 +149,8 @@ module _ (old : ServiceState) (n : ℕ) where
     unfolding Answered
     reset_done rows' h r = (words.was_reset, (one_there h, ap (with_sessions old) (r ∙ ap (λ rs. with_session rs n rest) refed_rows)), tt)
 
-    -- a close of a session that is not there is refused for that, and the sessions stay as they are after refeeding
+    -- a close of a session that is not there is refused for that, and the sessions stay as they are
+    -- after refeeding
     pub close_no_session : (number : ℕ) (rows' : List Row) → number ≡ code words.no_session → IsNone (session_of rows n) → rows' ≡ rows
         → Answered old n words.close (Refused number) (with_sessions old rows')
     unfolding Answered
@@ -155,14 +161,14 @@ module _ (old : ServiceState) (n : ℕ) where
     unfolding Answered
     close_done rows' h r = (words.closed, (one_there h, ap (with_sessions old) (r ∙ ap (λ rs. without_session rs n) refed_rows)), tt)
 
-    -- a question about a session that is not there is refused for that, and the sessions stay as they are after
-    -- refeeding
+    -- a question about a session that is not there is refused for that, and the sessions stay as
+    -- they are after refeeding
     pub ask_no_session : (number : ℕ) → number ≡ code words.no_session → IsNone (session_of rows n) → Answered old n words.ask (Refused number) (with_sessions old rows)
     unfolding Answered
     ask_no_session number e h = (words.refused words.no_session, (none_there h, ap (with_sessions old) refed_rows), e)
 
-    -- a question about a session that is there may be answered with the status and the pending keysyms that it has
-    -- after refeeding
+    -- a question about a session that is there may be answered with the status and the pending
+    -- keysyms that it has after refeeding
     pub ask_reported : (answer : ReplyBody) (s : Session) → session_of rows n ≡ Some s → HasAnswerValue answer (words.state s.status s.pending) → Answered old n words.ask answer (with_sessions old rows)
     unfolding Answered
     ask_reported answer s h says = (words.state s.status s.pending, (subst (λ (rs : List Row). session_of rs n ≡ Some s) refed_rows h, ap (with_sessions old) refed_rows), says)
@@ -175,8 +181,8 @@ module _ (old : ServiceState) (n : ℕ) where
   key_nobody k number rows e none r =
       key_no_session rows (r ∙ sym (nobody_changed n (session_loaded old.table) old.sessions none)) k number e (ap (λ rs. is_some (session_of rs n)) r ∙ ap is_some none)
 
-  -- a key for a session that is stored is answered as the table answers it after refeeding the session, which is then
-  -- stored fed
+  -- a key for a session that is stored is answered as the table answers it after refeeding the
+  -- session, which is then stored fed
   pub key_refed : (k x : ℕ) (answer : ReplyBody) (rows : List Row) (s : Session) → (x ≡ k) × IsTrue (is_keysym k) → session_of old.sessions n ≡ Some s
       → rows ≡ with_session old.sessions n (session_fed old.table (session_loaded old.table s) x)
       → HasAnswerValue answer (words.fed (session_fed old.table (session_loaded old.table s) x).status (not (is_ignored x)) (step old.names old.table (session_loaded old.table s).pending x).text)
@@ -217,8 +223,8 @@ module _ (now : ServiceState) (rule : Rule) (bytes : List ℕ) {T : Type 0} (vie
   unfolding Answered ReadsLoad
   load_not_accepted n p number e h refuses = (words.refused words.verdict_no, (view p.0, p.1, h, refuses, refl), e)
 
-  -- a load that is read and accepted may be answered as loaded, with the count of loads, and its table is then the
-  -- current one
+  -- a load that is read and accepted may be answered as loaded, with the count of loads, and its
+  -- table is then the current one
   pub load_done : (n : ℕ) (p : T × Certificate) (answer : ReplyBody) (new : ServiceState) → ReadsLoad now rule bytes view (Ok p) → is_prefix_free (view p.0) ≡ true → Accepts now (view p.0) p.1
       → new ≡ swapped now (view p.0) p.1.fresh → HasAnswerValue answer (words.loaded (one_more now.loads)) → Answered now n (words.load rule bytes) answer new
   unfolding Answered ReadsLoad
@@ -285,7 +291,8 @@ raised now rule bytes view (Err e) why is h = subst (λ (y : RefusalCode). Reads
 -- ---- any request
 
 module _ (old : ServiceState) (n : ℕ) (body : Body) (answer : ReplyBody) (new : ServiceState) where
-  -- each answer of the service is one that the late service may return, under the number of the same session
+  -- each answer of the service is one that the late service may return, under the number of the
+  -- same session
   pub answered_stored : Answered old n body answer new
       → (expected : words.ReplyBody) × LateAnswers reading old n body expected new × HasReplyValue (record { session = n; answer = answer }) (record { session = n; answer = expected })
   unfolding Answered

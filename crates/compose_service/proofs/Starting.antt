@@ -56,7 +56,8 @@ module _ (names : KeysymNames) (repertoire : Repertoire) where
       go (table_faults.Build build_faults.TooManyNodes) h = fails (table_faults.Build build_faults.TooManyNodes) expected certificate h
       go (table_faults.Build build_faults.NoMemory) h = absurd h
 
-  -- if the certificate is not valid for the table that is read, no service starts, for the same fault
+  -- if the certificate is not valid for the table that is read, no service starts, for the same
+  -- fault
   pub not_begun : (result : Result ServiceState StartFault) (fault : StartFault) (expected : Result (List Definition) NoTable) (spelt : Result Certificate CertFault) (table : List Definition)
       → expected ≡ Ok table → IsErrAnd result (λ e. e ≡ fault) → StartReturns names repertoire (Err fault) (started names repertoire (Ok table) spelt)
       → StartReturns names repertoire result (started names repertoire expected spelt)
@@ -69,10 +70,12 @@ module _ (names : KeysymNames) (repertoire : Repertoire) where
     read : started names repertoire (Ok table) spelt ≡ begun_by (fault_of names table table repertoire certificate) table certificate
     read = ap (started names repertoire (Ok table)) c
 
-    -- if the verdict on its own certificate is yes, the service starts with this table and certificate
+    -- if the verdict on its own certificate is yes, the service starts with this table and
+    -- certificate
     pub begins : Yes ≡ verdict_of (fault_of names table table repertoire certificate) → started names repertoire (Ok table) spelt ≡ Ok (record { table = table; certificate = certificate })
     begins e = read ∙ ap (λ o. begun_by o table certificate) (verdict_yes (fault_of names table table repertoire certificate) e)
 
-    -- if the verdict on its own certificate is no, the service does not start, for the checker's fault
+    -- if the verdict on its own certificate is no, the service does not start, for the checker's
+    -- fault
     pub begins_not : (f : CheckFault) → No f ≡ verdict_of (fault_of names table table repertoire certificate) → started names repertoire (Ok table) spelt ≡ Err (not_valid f)
     begins_not f e = read ∙ ap (λ o. begun_by o table certificate) (verdict_no (fault_of names table table repertoire certificate) f e)

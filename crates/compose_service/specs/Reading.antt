@@ -1,5 +1,5 @@
--- What a load is read as: its bundle (the one of `IsBundle`: see `law_one_bundle`), the table of its sources, and its
--- certificate.
+-- What a load is read as: its bundle (the one of `IsBundle`: see `law_one_bundle`), the table of
+-- its sources, and its certificate.
 use Rattle.std.specs.Prelude.{ℕ, List, Option, Some, None, Result, Ok, Err}
 use Rattle.keysym_core.specs.Names.{KeysymNames}
 use Rattle.compose_model.specs.Table.{Definition}

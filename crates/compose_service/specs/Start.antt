@@ -1,4 +1,5 @@
--- How a service starts: its table is read, then its certificate, and the table is checked against itself.
+-- How a service starts: its table is read, then its certificate, and the table is checked against
+-- itself.
 use Rattle.std.specs.Prelude.{◌≡◌, List, [], Option, Some, None, Result, Ok, Err}
 use Rattle.keysym_core.specs.Names.{KeysymNames}
 use Rattle.compose_model.specs.Table.{Definition}
@@ -51,7 +52,8 @@ abbrev pub IsCertificateFault : CertFault → Result Begun NoStart → Type 0
 IsCertificateFault cert_faults.NoMemory expected = ⊥
 IsCertificateFault fault expected = expected ≡ Err (without_certificate fault)
 
--- the given service without sessions, whose table waits and types as its certificate states, or the first fault
+-- the given service without sessions, whose table waits and types as its certificate states, or the
+-- first fault
 abbrev pub StartReturns : KeysymNames → Repertoire → Result ServiceState StartFault → Result Begun NoStart → Type 0
 StartReturns names repertoire (Ok service) expected =
     (b : Begun) × (expected ≡ Ok b) × (service ≡ at_start b.table names repertoire) × Waits b.table b.certificate.bound × TypesAll names b.table repertoire b.certificate.typings
@@ -60,7 +62,8 @@ StartReturns names repertoire (Err (start_faults.Certificate fault)) expected = 
 StartReturns names repertoire (Err (start_faults.No fault)) expected = expected ≡ Err (not_valid fault)
 StartReturns names repertoire (Err start_faults.NoMemory) expected = Unit {0}
 
--- the given certificate is valid for this table against itself, which waits and types as it states; or the first fault
+-- the given certificate is valid for this table against itself, which waits and types as it states;
+-- or the first fault
 abbrev pub BeginsBy : {A : Type 0} → KeysymNames → Repertoire → List Definition → Result A StartFault → Result Certificate CertFault → Type 0
 BeginsBy names repertoire table (Ok begun) expected =
     (c : Certificate) × (started names repertoire (Ok table) expected ≡ Ok (record { table = table; certificate = c })) × Waits table c.bound × TypesAll names table repertoire c.typings

@@ -5,7 +5,6 @@ use Rattle.std.specs.List.{list_all}
 use Rattle.keysym_core.specs.Core.{core_names}
 use Rattle.keysym_core.specs.Header.{names_of}
 use Rattle.compose_folder.specs.Content.{Entry, File, IsHeld}
-use Rattle.compose_model.specs.declared.Rule.{Rule}
 use Rattle.compose_bundle.specs.Bundle.{Bundle, BundleFits, bundle_bytes}
 use Rattle.compose_bundle.specs.Written.{max_payload}
 use Rattle.compose_migration.specs.Migration.{NamedParts, named}
@@ -31,11 +30,12 @@ use Rattle.compose_input.specs.declared.tables.TableFiles.{TableFiles}
 use Rattle.compose_report.specs.Exchange.{IsExchangeOutcome}
 use Rattle.compose_report.specs.Outcomes.{IsNoted, IsWorded}
 use Rattle.compose_report.specs.declared.outcome.Outcome.{Outcome}
-use Rattle.compose_runs.specs.Faults.{OrMemory}
-use Rattle.compose_runs.specs.GivenTable.{FailsGivenTable, HasGivenTable, IsGivenTable, names_for}
+use Rattle.compose_given.specs.Faults.{OrMemory}
+use Rattle.compose_given.specs.GivenTable.{FailsGivenTable, HasGivenTable, IsGivenTable}
+use Rattle.compose_given.specs.Names.{names_for}
 use Rattle.compose_runs.specs.WrittenKeys.{AreKeyNames}
-use Rattle.compose_runs.specs.declared.environment.Environment.{Environment}
-use Rattle.compose_runs.specs.declared.one_table.NotedTable.{NotedTable}
+use Rattle.compose_given.specs.declared.environment.Environment.{Environment}
+use Rattle.compose_given.specs.declared.chosen.NotedTable.{NotedTable}
 use Rattle.compose_service_runs.specs.Turns.{Turn, goes_through, then_turns, turns_of}
 use Rattle.compose_service_runs.specs.declared.client.ClientRequests.{ClientRequests}
 use Rattle.compose_runs.specs.declared.options.Options.{Options}
@@ -145,8 +145,8 @@ pub record IsExchange (sent : ClientRequests) (before after : Option (List Turn)
 
 -- ---- why an exchange stops
 
--- these replies answered the first requests, and none of them is a refusal; for the next request the other side gives
--- this fault
+-- these replies answered the first requests, and none of them is a refusal; for the next request
+-- the other side gives this fault
 pub record StopsAt {P : Type 0} (turns : P → Option (List Turn)) (gives : P → Request → Fault → Type 0) (requests : List Request) (before : P) (fault : Fault) : Type 0 where
   pub peer : P
   pub replies : List Reply

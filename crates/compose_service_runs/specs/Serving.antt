@@ -19,9 +19,10 @@ use Rattle.compose_serving.specs.Begin.{BeginReturns, start_over}
 use Rattle.compose_serving.specs.Fresh.{Allows}
 use Rattle.compose_serving.specs.declared.start.BeginFault.{BeginFault}
 use Rattle.compose_serving.specs.declared.start.BeginFault.TheVariants.{Invalid, Refused}
-use Rattle.compose_runs.specs.GivenTable.{IsGivenTable, names_for}
+use Rattle.compose_given.specs.GivenTable.{IsGivenTable}
+use Rattle.compose_given.specs.Names.{names_for}
 use Rattle.compose_runs.specs.OneTable.{is_refused}
-use Rattle.compose_runs.specs.declared.environment.Environment.{Environment}
+use Rattle.compose_given.specs.declared.environment.Environment.{Environment}
 use Rattle.compose_runs.specs.declared.options.Options.{Options}
 use Rattle.compose_service_runs.specs.declared.serving.NotedFiles.{NotedFiles}
 use Rattle.compose_service_runs.specs.declared.serving.ServiceFiles.{ServiceFiles}

@@ -6,9 +6,10 @@ use Rattle.compose_arguments.specs.declared.serve_arguments.ServedFiles.{ServedF
 use Rattle.compose_input.specs.Faults.{FailNames}
 use Rattle.compose_input.specs.Texts.{IsRead}
 use Rattle.compose_input.specs.declared.fault.Fault.{Fault}
-use Rattle.compose_runs.specs.Faults.{OrMemory, HasFile, HasNames}
-use Rattle.compose_runs.specs.GivenTable.{FailsGivenTable, HasGivenTable, names_for}
-use Rattle.compose_runs.specs.declared.environment.Environment.{Environment}
+use Rattle.compose_given.specs.Faults.{OrMemory, HasFile, HasNames}
+use Rattle.compose_given.specs.GivenTable.{FailsGivenTable, HasGivenTable}
+use Rattle.compose_given.specs.Names.{names_for}
+use Rattle.compose_given.specs.declared.environment.Environment.{Environment}
 use Rattle.compose_service_runs.specs.Serving.{is_file}
 
 -- in the order of reading: the names, the table, the repertoire, the certificate

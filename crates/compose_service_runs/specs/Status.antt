@@ -12,11 +12,23 @@ use Rattle.compose_service_runs.specs.declared.status.ServiceState.{ServiceState
 use Rattle.compose_service_runs.specs.declared.status.ServiceState.TheVariants as services
 use Rattle.compose_service_runs.specs.declared.status.Status.{Status}
 
-abbrev pub table_lines : Option StoredSummary → List ℕ
-table_lines None = codes "in use: none\n"
-table_lines (Some s) =
+-- the names in use: those that are built in, or this number of names of files
+abbrev pub names_line : Option ℕ → List ℕ
+names_line None = codes "names: built in\n"
+names_line (Some count) = codes "names: " ++ decimal count ++ codes ", of files\n"
+
+abbrev pub stored_lines : Option StoredSummary → List ℕ
+stored_lines None = codes "in use: none\n"
+stored_lines (Some s) =
     codes "in use: " ++ shown_text (string_bytes s.origin) ++ codes "\nstored: " ++ string_bytes s.stored ++ codes "\nsequences: " ++ decimal s.sequences ++ codes "\nfiles: "
     ++ decimal s.files ++ 10 ∷ []
+
+abbrev pub stored_names : Option StoredSummary → List ℕ
+stored_names None = []
+stored_names (Some s) = names_line s.names
+
+abbrev pub table_lines : Option StoredSummary → List ℕ
+table_lines in_use = stored_lines in_use ++ stored_names in_use
 
 abbrev pub words_of : Bool → List ℕ
 words_of is_gone = if is_gone then codes "gone since: " else codes "changed since: "

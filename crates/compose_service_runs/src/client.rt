@@ -13,12 +13,11 @@ use compose_arguments::{LoadArguments, SessionArguments};
 use compose_bundle::BundleFault;
 use compose_details::Given;
 use compose_folder::{Folder, ReadOnce};
+use compose_given::{Environment, NotedTable, read_names_for, read_table};
 use compose_input::{Fault, NameFiles, TableFiles, read_text};
 use compose_migration::Named;
 use compose_report::{Outcome, exchange_outcome, worded_outcome};
-use compose_runs::{
-    Environment, NotedTable, Options, borrowed, key_names, read_names_for, read_table,
-};
+use compose_runs::{Options, borrowed, key_names};
 use compose_session::{AskedSession, load_request, report_replies, session_requests};
 use compose_tree::BuildTable;
 use compose_wire::{Reply, ReplyBody, Request};

@@ -21,5 +21,6 @@ pub use peer::Peer;
 pub use serving::start_service;
 pub use status::{Change, ServiceState, Status, StoredSummary, status_outcome};
 pub use taking::{
-    HandOver, Handed, TableFolder, Taking, Wanted, decide_taking, take_alone, take_running,
+    HandOver, Handed, TableFolder, Taking, Wanted, decide_taking, kept_names, take_alone,
+    take_running,
 };

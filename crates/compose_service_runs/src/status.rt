@@ -20,6 +20,8 @@ pub struct StoredSummary {
     pub sequences: u32,
     /// The number of its files.
     pub files: usize,
+    /// The number of names in the files of names; `None` if the names are the built-in ones.
+    pub names: Option<u32>,
 }
 
 /// A file of the table in use that is not as it was when the table was stored.
@@ -80,6 +82,15 @@ fn push_table(text: &mut String, in_use: &Option<StoredSummary>) -> Result<(), A
     ensures { OnOk result
         (string_bytes text.new ≡ string_bytes text.old ++ spec.table_lines in_use.now) }
 {
+    push_stored(text, in_use)?;
+    push_stored_names(text, in_use)
+}
+
+/// Appends the lines for the table in use, but for its names.
+fn push_stored(text: &mut String, in_use: &Option<StoredSummary>) -> Result<(), AllocError>
+    ensures { OnOk result
+        (string_bytes text.new ≡ string_bytes text.old ++ spec.stored_lines in_use.now) }
+{
     let Some(stored) = in_use else {
         return text.push_str("in use: none\n");
     };
@@ -88,12 +99,35 @@ fn push_table(text: &mut String, in_use: &Option<StoredSummary>) -> Result<(), A
         stored,
         sequences,
         files,
+        names: _,
     } = stored;
     let origin = Shown(origin);
     write!(
         text,
         "in use: {origin}\nstored: {stored}\nsequences: {sequences}\nfiles: {files}\n"
     )
+}
+
+/// Appends the line for the names of the table in use, if one is.
+fn push_stored_names(text: &mut String, in_use: &Option<StoredSummary>) -> Result<(), AllocError>
+    ensures { OnOk result
+        (string_bytes text.new ≡ string_bytes text.old ++ spec.stored_names in_use.now) }
+{
+    match in_use {
+        Some(stored) => push_names(text, stored.names),
+        None => Ok(()),
+    }
+}
+
+/// Adds the line about the names.
+fn push_names(text: &mut String, names: Option<u32>) -> Result<(), AllocError>
+    ensures { OnOk result
+        (string_bytes text.new ≡ string_bytes text.old ++ spec.names_line names) }
+{
+    match names {
+        Some(count) => write!(text, "names: {count}, of files\n"),
+        None => text.push_str("names: built in\n"),
+    }
 }
 
 /// Adds a line for each file that has changed.

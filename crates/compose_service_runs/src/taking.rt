@@ -1,26 +1,30 @@
 //! `update`: what becomes of a table that is to be taken into use. While no service runs it is
 //! stored; a running service, which alone writes the table in use, loads it, or it is handed over to
 //! the service.
-ghost use Rattle.std.specs.Prelude.{◌≡◌, Bool, List, [], ℕ, Option, Some, None, Err, OnOk, OnErr, IfOk, IfErr, IsTrue, map, option_map, string_bytes};
+ghost use Rattle.std.specs.Prelude.{◌≡◌, ◌||◌, ◌&&◌, not, Bool, List, [], ℕ, Option, Some, None, Err, OnOk, OnErr, IfOk, IfErr, IsTrue, map, option_map, string_bytes};
+ghost use Rattle.std.specs.Str.{bytes_eq};
 ghost use Rattle.compose_answer.specs.declared.answer.Ended.TheVariants.{Refused};
 ghost use Rattle.compose_bundle.specs.Bundle.{Bundle, IsBundle};
 ghost use Rattle.compose_table_file.specs.TableFile.{TableFile, FileHas};
 ghost use Rattle.compose_table_file.specs.Reading.{table_of};
 ghost use Rattle.compose_report.specs.Outcomes.{PrintsErrors};
 ghost use Rattle.compose_service_runs.specs.Taking as words;
-ghost use Rattle.compose_service_runs.specs.Taking.{Becomes, Decides, DecidesTaking, IsFile, IsHandedOver, IsLoad, IsLoaded, Needs, OnOkOk, PrintsNoted, Stores, TakesHere, TakesRunning, more};
+ghost use Rattle.compose_model.specs.Step.{is_empty};
+ghost use Rattle.compose_service_runs.specs.Taking.{Asked, Becomes, Decides, DecidesBeside, DecidesTaking, IsFile, IsHandedOver, IsLoad, IsLoaded, IsRefusedTable, IsUnreadable, NeedsNames, NeedsRepertoire, OnOkOk, PrintsNoted, Stores, TakesHere, TakesRunning, asked_by, more};
 
 use crate::client::{ClientRequests, load_requests, run_exchange};
 use crate::peer::Peer;
+use builtin_names::builtin_names;
 use compose_answer::Ended;
 use compose_bundle::{read_bundle, write_bundle};
-use compose_input::Fault;
+use compose_input::{Fault, Header, NameFiles, line_count};
 use compose_model::Rule;
 use compose_read::Sources;
 use compose_report::Outcome;
 use compose_runs::{UpdateFiles, UpdateRun, run_update};
-use compose_table_file::{StoredFault, StoredTable, read_table, write_table};
-use compose_tree::BuildTable;
+use compose_table_file::{StoredFault, StoredTable, TableParts, read_table, write_table};
+use compose_tree::{BuildTable, TableFault, read_first_table};
+use keysym_core::{Keysym, Names};
 use std::alloc::{AllocError, Global};
 use std::io::ErrorKind;
 
@@ -34,6 +38,10 @@ const TAKEN: &str =
 /// What is printed if the running service has not taken a table in time.
 const WAITING: &str =
     "composecheck: the running service has not taken the table yet: it does so at its next connection\n";
+
+/// What is printed if the table in use can't be read by the names that are given.
+const UNREAD: &str =
+    "composecheck: the table in use can't be read by the names that are given: give those that it was read by too\n";
 
 /// What becomes of a new table.
 #[derive(Drop)]
@@ -50,7 +58,7 @@ pub enum Taking {
         load: Option<ClientRequests>,
     },
     /// It is meant: typing changes as the owner listed it or with the fresh keys that the owner
-    /// named, or people need other characters than before.
+    /// named, people need other characters than before, or other names are in use.
     Meant {
         /// The bytes of its file.
         file: Vec<u8>,
@@ -62,6 +70,8 @@ pub enum Taking {
 pub struct Wanted<'a> {
     /// The key names of the fresh keysyms: new sequences may start with these.
     pub fresh: &'a [&'a str],
+    /// Whether names were given; otherwise they are those of the table in use.
+    pub has_names: bool,
     /// Whether the repertoire was given; otherwise people need what they needed before.
     pub has_repertoire: bool,
 }
@@ -102,9 +112,11 @@ pub trait HandOver {
 
 /// Returns what becomes of the table of these files, if these are the bytes of the file of the table
 /// in use, which is `None` if no table is. A table that can't be read is never taken for none. Of the
-/// files only the repertoire changes, to what people need. Takes the time of `run_update`.
+/// files only the names and the repertoire change: to those of the table in use, if none were given.
+/// Both tables are read by these names. Takes the time of `run_update`.
 /// Errors: why the table in use can't be read; a refusal of `state` if the bytes are no such file, or
-/// if the new file would be too large; `NoMemory` if memory runs out.
+/// if the new file would be too large; a refusal of `load` if the new table is too large for one;
+/// `NoMemory` if memory runs out.
 pub fn decide_taking<T: BuildTable>(
     alloc: Global,
     files: &mut UpdateFiles,
@@ -112,7 +124,7 @@ pub fn decide_taking<T: BuildTable>(
     stored: Result<Option<Vec<u8>>, Fault>,
 ) -> Result<Taking, Fault>
     ensures taking { IfOk result
-        (λ taking. DecidesTaking wanted.entry.has_repertoire
+        (λ taking. DecidesTaking (asked_by wanted.entry files.old)
         (map (λ name. name.now) wanted.entry.fresh.now) stored files.old files.exit.now taking) }
     ensures unread { IfErr stored (λ fault. result ≡ Err fault) }
 {
@@ -133,12 +145,11 @@ fn decide_first<T: BuildTable>(
     wanted: Wanted<'_>,
 ) -> Result<Taking, Fault>
     ensures { IfOk result
-        (λ taking. Becomes wanted.entry.has_repertoire
-        (map (λ name. name.now) wanted.entry.fresh.now) files.now.repertoire.items None files.now
-        taking) }
+        (λ taking. Becomes (asked_by wanted.entry files.now)
+        (map (λ name. name.now) wanted.entry.fresh.now) None files.now taking) }
 {
     let run = run_update::<T>(alloc, files, wanted.fresh, None)?;
-    taking_of(alloc, files, false, run)
+    taking_of(alloc, files, &[], false, run)
 }
 
 /// Returns what becomes of the table of these files, if this one is in use.
@@ -148,54 +159,56 @@ fn decide_beside<T: BuildTable>(
     wanted: Wanted<'_>,
     current: StoredTable<'_>,
 ) -> Result<Taking, Fault>
-    ensures needs { Needs
-        (words.needed wanted.entry.has_repertoire files.old.repertoire.items
-        (Some (table_of current.entry))) files.old files.exit.now }
-    ensures becomes { IfOk result
-        (λ taking. Becomes wanted.entry.has_repertoire
-        (map (λ name. name.now) wanted.entry.fresh.now) files.old.repertoire.items
-        (Some (table_of current.entry)) files.exit.now taking) }
+    ensures { IfOk result
+        (λ taking. DecidesBeside (asked_by wanted.entry files.old)
+        (map (λ name. name.now) wanted.entry.fresh.now) (table_of current.entry) files.old
+        files.exit.now taking) }
 {
-    let is_other = needs_other(wanted.has_repertoire, files, &current.repertoire);
+    let is_other = is_other(wanted, files, &current);
     let StoredTable {
         rule: _,
         repertoire,
+        names,
+        fresh,
         payload,
     } = current;
+    need_names(alloc, files, wanted.has_names, names)?;
     need(files, wanted.has_repertoire, repertoire);
-    decide_needed::<T>(alloc, files, wanted, is_other, payload)
+    decide_needed::<T>(alloc, files, wanted, is_other, &fresh, payload)
 }
 
-/// Returns what becomes of the table of these files, which have what people need, if the table with
-/// this payload is in use.
+/// Returns what becomes of the table of these files, which have the names and what people need, if
+/// the table with this payload is in use, whose loads may list these keysyms as fresh.
 fn decide_needed<T: BuildTable>(
     alloc: Global,
     files: &UpdateFiles,
     wanted: Wanted<'_>,
     is_other: bool,
+    fresh: &[Keysym],
     payload: &[u8],
 ) -> Result<Taking, Fault>
-    ensures { (given : List ℕ) (current : TableFile) → current.payload ≡ payload.now
-        → is_other ≡ words.needs_other wanted.entry.has_repertoire given (Some current)
+    ensures { (a : Asked) (current : TableFile) → current.payload ≡ payload.now
+        → current.fresh ≡ fresh.now → is_other ≡ words.is_other a (Some current)
         → IfOk result
-        (λ taking. Becomes wanted.entry.has_repertoire
-        (map (λ name. name.now) wanted.entry.fresh.now) given (Some current) files.now taking) }
+        (λ taking. Becomes a (map (λ name. name.now) wanted.entry.fresh.now) (Some current)
+        files.now taking) }
 {
     if !is_other && is_same(alloc, &files.new.sources, payload) {
         return Ok(Taking::Same);
     }
+    if is_other && is_unreadable::<T>(alloc, &files.names.lines, payload) {
+        return Ok(Taking::Refused(unread_outcome(alloc)?));
+    }
     let is_meant = is_meant(is_other, wanted.fresh);
     let run = run_update::<T>(alloc, files, wanted.fresh, Some(payload))?;
-    taking_of(alloc, files, is_meant, run)
+    taking_of(alloc, files, fresh, is_meant, run)
 }
 
 /// Returns whether a change is meant although the table follows the one in use: it names fresh keys,
-/// or people need another repertoire.
+/// or the names or the repertoire are others.
 fn is_meant(is_other: bool, fresh: &[&str]) -> bool
-    ensures { (has_repertoire : Bool) (given : List ℕ) (current : TableFile)
-        → is_other ≡ words.needs_other has_repertoire given (Some current)
-        → result
-        ≡ words.is_meant has_repertoire (map (λ name. name.now) fresh.now) given (Some current) }
+    ensures { (a : Asked) (current : TableFile) → is_other ≡ words.is_other a (Some current)
+        → result ≡ words.is_meant a (map (λ name. name.now) fresh.now) (Some current) }
 {
     if fresh.is_empty() {
         return is_other;
@@ -203,20 +216,73 @@ fn is_meant(is_other: bool, fresh: &[&str]) -> bool
     true
 }
 
-/// Returns whether another repertoire than that of the table in use was given.
-fn needs_other(has_repertoire: bool, files: &UpdateFiles, repertoire: &[u8]) -> bool
-    ensures { (current : TableFile) → current.repertoire ≡ repertoire.now
-        → result
-        ≡ words.needs_other has_repertoire files.now.repertoire.items (Some current) }
+/// Returns whether other names or another repertoire than those of the table in use were given.
+fn is_other(wanted: Wanted<'_>, files: &UpdateFiles, current: &StoredTable<'_>) -> bool
+    ensures { result
+        ≡ words.is_other (asked_by wanted.entry files.now) (Some (table_of current.now)) }
 {
-    has_repertoire && files.repertoire.as_slice() != repertoire
+    needs_other(
+        wanted.has_repertoire,
+        &files.repertoire,
+        &current.repertoire,
+    ) || needs_other(
+        wanted.has_names,
+        kept_names(&files.names.lines),
+        &current.names,
+    )
+}
+
+/// Returns whether these bytes were given, and are others than those that are kept.
+fn needs_other(is_given: bool, given: &[u8], kept: &[u8]) -> bool
+    ensures { result ≡ (is_given && not (bytes_eq given.now kept.now)) }
+{
+    is_given && given != kept
+}
+
+/// Returns the lines of names as the file of a table keeps them: none if they are those of the
+/// built-in names. O(bytes).
+pub fn kept_names(lines: &[u8]) -> &[u8]
+    ensures { result.now ≡ words.kept_names lines.now }
+{
+    if lines == builtin_names().as_bytes() {
+        return &[];
+    }
+    lines
+}
+
+/// Gives the files the names of the table in use, unless others were given or they are the built-in
+/// ones.
+fn need_names(
+    alloc: Global,
+    files: &mut UpdateFiles,
+    has_names: bool,
+    names: Vec<u8>,
+) -> Result<(), AllocError>
+    ensures { OnOk result (NeedsNames (has_names || is_empty names.items) names.items files.old
+        files.exit.now) }
+{
+    if has_names || names.is_empty() {
+        return Ok(());
+    }
+    files.names = names_in_use(alloc, names)?;
+    Ok(())
+}
+
+/// Returns the names with these lines, which the table in use keeps.
+fn names_in_use<'n>(alloc: Global, lines: Vec<u8>) -> Result<NameFiles<'n>, AllocError>
+    ensures { IfOk result (λ names. names.lines.items ≡ lines.items) }
+{
+    let mut files = Vec::new(alloc);
+    files.push(Header {
+        path: "names in use",
+        lines: line_count(&lines),
+    })?;
+    Ok(NameFiles { lines, files })
 }
 
 /// Gives the files the repertoire of the table in use, unless another one was given.
 fn need(files: &mut UpdateFiles, has_repertoire: bool, repertoire: Vec<u8>)
-    ensures { (current : TableFile) → current.repertoire ≡ repertoire.items
-        → Needs (words.needed has_repertoire files.old.repertoire.items (Some current)) files.old
-        files.exit.now }
+    ensures { NeedsRepertoire has_repertoire repertoire.items files.old files.exit.now }
 {
     if !has_repertoire {
         files.repertoire = repertoire;
@@ -230,7 +296,7 @@ fn stored_table(alloc: Global, stored: &[u8]) -> Result<StoredTable<'_>, Fault>
     match read_table(alloc, stored) {
         Ok(table) => Ok(table),
         Err(StoredFault::NoMemory) => Err(Fault::NoMemory),
-        Err(_) => Err(Fault::refused("state", String::from_str(alloc, "1 Form"))),
+        Err(fault) => Err(Fault::refused("state", format!(in alloc; "{fault}"))),
     }
 }
 
@@ -251,26 +317,64 @@ fn is_same(alloc: Global, new: &Sources, payload: &[u8]) -> bool
     }
 }
 
-/// Returns what becomes of the table of these files by this decision.
+/// Returns whether the table with this payload can't be read by the names with these lines. Lines
+/// that are no names, and memory that runs out, are left to those who read them next.
+fn is_unreadable<T: BuildTable>(alloc: Global, lines: &[u8], payload: &[u8]) -> bool
+    ensures { IsTrue result → IsUnreadable lines.now payload.now }
+{
+    let Ok(names) = Names::read(alloc, lines) else {
+        return false;
+    };
+    let Ok(bundle) = read_bundle(alloc, payload) else {
+        return false;
+    };
+    is_refused::<T>(alloc, &names, &bundle.sources)
+}
+
+/// Returns whether the table of these sources is refused. If memory runs out, it is taken for one
+/// that isn't.
+fn is_refused<T: BuildTable>(alloc: Global, names: &Names, sources: &Sources) -> bool
+    ensures { IsTrue result → IsRefusedTable names.now sources.now }
+{
+    match read_first_table::<T>(alloc, names, sources, Rule::Longest) {
+        Ok(_) => false,
+        Err(TableFault::NoMemory) => false,
+        Err(TableFault::Read(_)) => true,
+        Err(TableFault::Settle(_)) => true,
+        Err(TableFault::Build(_)) => true,
+    }
+}
+
+/// Returns what is printed if the table in use can't be read by the names that were given.
+fn unread_outcome(alloc: Global) -> Result<Outcome, AllocError>
+    ensures { IfOk result (λ outcome. PrintsErrors words.unread Refused outcome) }
+{
+    let line = String::from_str(alloc, UNREAD)?;
+    Ok(Outcome::of_errors(alloc, line, Ended::Refused))
+}
+
+/// Returns what becomes of the table of these files by this decision; its loads may list these
+/// keysyms as fresh.
 fn taking_of(
     alloc: Global,
     files: &UpdateFiles,
+    fresh: &[Keysym],
     is_meant: bool,
     run: UpdateRun,
 ) -> Result<Taking, Fault>
-    ensures { IfOk result (λ taking. Decides is_meant (λ r. r ≡ run) files.now taking) }
+    ensures { IfOk result (λ taking. Decides is_meant fresh.now (λ r. r ≡ run) files.now taking) }
 {
     match run {
         UpdateRun::Refused(outcome) => Ok(Taking::Refused(outcome)),
         UpdateRun::Meant { stored } => {
-            let file = file_of(alloc, files, &stored)?;
+            let file = file_of(alloc, files, fresh, &stored)?;
             Ok(Taking::Meant { file })
         }
         UpdateRun::Replaced {
             stored,
             certificate,
         } => {
-            let file = file_of(alloc, files, &stored)?;
+            let file = file_of(alloc, files, fresh, &stored)?;
             if is_meant {
                 return Ok(Taking::Meant { file });
             }
@@ -299,11 +403,24 @@ fn load_of(
     }
 }
 
-/// Returns the file of the table with this payload.
-fn file_of(alloc: Global, files: &UpdateFiles, payload: &[u8]) -> Result<Vec<u8>, Fault>
-    ensures { IfOk result (λ file. IsFile files.now.repertoire.items payload.now file.items) }
+/// Returns the file of the table of these files with this payload; its loads may list these keysyms
+/// as fresh.
+fn file_of(
+    alloc: Global,
+    files: &UpdateFiles,
+    fresh: &[Keysym],
+    payload: &[u8],
+) -> Result<Vec<u8>, Fault>
+    ensures { IfOk result (λ file. IsFile files.now fresh.now payload.now file.items) }
 {
-    match write_table(alloc, Rule::Longest, &files.repertoire, payload) {
+    let parts = TableParts {
+        rule: Rule::Longest,
+        repertoire: &files.repertoire,
+        names: kept_names(&files.names.lines),
+        fresh,
+        payload,
+    };
+    match write_table(alloc, &parts) {
         Ok(file) => Ok(file),
         Err(StoredFault::NoMemory) => Err(Fault::NoMemory),
         Err(fault) => Err(Fault::refused("state", format!(in alloc; "{fault}"))),

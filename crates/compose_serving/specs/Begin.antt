@@ -1,5 +1,5 @@
--- How a service begins from the bytes of its files: the first part that is refused decides, in the order names,
--- repertoire, table, certificate.
+-- How a service begins from the bytes of its files: the first part that is refused decides, in the
+-- order names, repertoire, table, certificate.
 use Rattle.std.specs.Prelude.{◌≡◌, ℕ, List, Result, Ok, Err}
 use Rattle.keysym_core.specs.Names.{KeysymNames}
 use Rattle.keysym_core.specs.Header.{names_of}
@@ -49,8 +49,8 @@ IsRefused header bytes start (refusals.Certificate fault) = StartIs header bytes
 IsRefused header bytes start refusals.NoMemory = Unit {0}
 IsRefused header bytes start _ = ⊥
 
--- the service that starts; or that its certificate is not valid, with the first condition that it does not meet; or the
--- first part that is refused
+-- the service that starts; or that its certificate is not valid, with the first condition that it
+-- does not meet; or the first part that is refused
 abbrev pub BeginReturns : List ℕ → List ℕ → Start → Result ServiceState BeginFault → Type 0
 BeginReturns header bytes start (Ok service) =
     (names : KeysymNames) × (repertoire : Repertoire) × AreRead header bytes names repertoire × StartReturns names repertoire (Ok service) (start names repertoire)

@@ -29,7 +29,7 @@ unprinted_line unprinted = codes "ends not printed: " ++ (digits 10 false unprin
 abbrev pub unprinted_text : ℕ → List ℕ
 unprinted_text unprinted = if unprinted == 0 then [] else unprinted_line unprinted
 
--- 0 after an end that is printed, since the number of unprinted ends is printed before it; otherwise one more, up to 64
--- bits
+-- 0 after an end that is printed, since the number of unprinted ends is printed before it;
+-- otherwise one more, up to 64 bits
 abbrev pub unprinted_after : ℕ → Bool → ℕ
 unprinted_after unprinted is_printed = if is_printed then 0 else min (unprinted + 1) (2 ^ 64 - 1)

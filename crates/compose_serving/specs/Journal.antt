@@ -1,4 +1,5 @@
--- The lines about the table in use of a service that keeps it (this project's format: docs/FORMATS.md).
+-- The lines about the table in use of a service that keeps it (this project's format:
+-- docs/FORMATS.md).
 use Rattle.std.specs.Prelude.{ℕ, List, [], ◌∷◌, ◌++◌, codes}
 use Rattle.std.specs.Fmt.{decimal}
 use Rattle.compose_shown.specs.Shown.{shown_text}

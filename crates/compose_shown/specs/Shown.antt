@@ -5,9 +5,22 @@ use Rattle.std.specs.Str.{chars}
 use Rattle.std.specs.Char.{encode_utf8}
 use Rattle.compose_text.specs.Numbers.{is_between}
 
--- a control character, or a character that changes the direction of writing
+-- a control character (Unicode's general category Cc)
+abbrev pub is_control : ℕ → Bool
+is_control c = is_between 0 0x1f c || is_between 0x7f 0x9f c
+
+-- a character that changes the direction of writing (Unicode's property Bidi_Control)
+abbrev pub turns_direction : ℕ → Bool
+turns_direction c = is_between 0x61c 0x61c c || is_between 0x200e 0x200f c || is_between 0x202a 0x202e c || is_between 0x2066 0x2069 c
+
+-- a character that no terminal shows: a space without width, an operator without a sign, a byte
+-- order mark
+abbrev pub is_invisible : ℕ → Bool
+is_invisible c = is_between 0x200b 0x200b c || is_between 0x2060 0x2064 c || is_between 0xfeff 0xfeff c
+
+-- a character that a reader can't see, or that changes how others are shown
 abbrev pub is_unsafe : ℕ → Bool
-is_unsafe c = is_between 0 0x1f c || is_between 0x7f 0x9f c || is_between 0x202a 0x202e c || is_between 0x2066 0x2069 c
+is_unsafe c = is_control c || turns_direction c || is_invisible c
 
 -- such a character by its number, any other as it is
 abbrev pub shown_character : ℕ → List ℕ

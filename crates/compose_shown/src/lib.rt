@@ -7,4 +7,4 @@
 
 mod shown;
 
-pub use shown::{Shown, ShownLines};
+pub use shown::{Shown, ShownLines, is_unsafe};

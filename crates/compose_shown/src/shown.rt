@@ -6,9 +6,10 @@ ghost use Rattle.compose_shown.specs.Shown.{shown_character, shown_in_lines, sho
 
 use std::fmt;
 
-/// A text, printed so that it cannot control a terminal. A control character (U+0000 to U+001F,
-/// U+007F to U+009F) or a character that changes the direction of writing (U+202A to U+202E, U+2066
-/// to U+2069) is printed as an escape such as `\u{202e}`, any other as it is.
+/// A text, printed so that it cannot control a terminal, and that nothing in it is unseen. A control
+/// character (U+0000 to U+001F, U+007F to U+009F), a character that changes the direction of writing
+/// (U+061C, U+200E, U+200F, U+202A to U+202E, U+2066 to U+2069) or one that no terminal shows
+/// (U+200B, U+2060 to U+2064, U+FEFF) is printed as an escape such as `\u{202e}`, any other as it is.
 #[derive(Clone, Copy, Debug)]
 pub struct Shown<'a>(pub &'a str);
 
@@ -88,9 +89,31 @@ impl fmt::Display for ShownCharacter {
     }
 }
 
-/// Returns whether a terminal may interpret the character as a command.
-fn is_unsafe(number: u32) -> bool
+/// Returns whether the character with this number is a control character, changes the direction of
+/// writing, or is shown by no terminal. O(1).
+pub fn is_unsafe(number: u32) -> bool
     ensures { result ≡ words.is_unsafe number }
 {
-    matches!(number, 0..=0x1f | 0x7f..=0x9f | 0x202a..=0x202e | 0x2066..=0x2069)
+    is_control(number) || turns_direction(number) || is_invisible(number)
+}
+
+/// Returns whether it is a control character.
+fn is_control(number: u32) -> bool
+    ensures { result ≡ words.is_control number }
+{
+    matches!(number, 0..=0x1f | 0x7f..=0x9f)
+}
+
+/// Returns whether it changes the direction of writing.
+fn turns_direction(number: u32) -> bool
+    ensures { result ≡ words.turns_direction number }
+{
+    matches!(number, 0x61c | 0x200e..=0x200f | 0x202a..=0x202e | 0x2066..=0x2069)
+}
+
+/// Returns whether no terminal shows it.
+fn is_invisible(number: u32) -> bool
+    ensures { result ≡ words.is_invisible number }
+{
+    matches!(number, 0x200b | 0x2060..=0x2064 | 0xfeff)
 }

@@ -1,4 +1,5 @@
--- The names in a written line: each is a name, in UTF-8 and without a newline, and the keys are read as their sequence.
+-- The names in a written line: each is a name, in UTF-8 and without a newline, and the keys are
+-- read as their sequence.
 use Rattle.std.proofs.Common.{◌≡◌, ℕ, zero, suc, ◌+◌, ◌-◌, ◌^◌, ◌≤◌, ◌<◌, List, [], ◌∷◌, ◌++◌, Bool, true, false, not, ◌&&◌, cond, length, map, drop, replicate, refl, ◌∙◌, ap, arith, nat_lt, nat_le, nat_eq}
 use Rattle.std.specs.Prelude.{◌==◌, Option, Some, None, is_some, unwrap_or, Result, Ok, codes}
 use Rattle.std.specs.List.{list_all, starts_with}

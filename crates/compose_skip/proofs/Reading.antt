@@ -1,4 +1,5 @@
--- Sources whose faulty lines are rewritten or left empty are read like the original ones, except for these lines.
+-- Sources whose faulty lines are rewritten or left empty are read like the original ones, except
+-- for these lines.
 use Rattle.std.proofs.Common.{◌≡◌, ◌<◌, ◌+◌, ◌-◌, ℕ, zero, suc, Bool, true, false, not, List, [], ◌∷◌, ◌++◌, length, map, flat_map, get_or, cond, refl, sym, ◌∙◌, ap, ap₂, arith, nat_lt, ltb-true}
 use Rattle.std.specs.Prelude.{Option, Some, None, unwrap_or, Result, Ok, Err, bytes_eq}
 use Rattle.std.specs.List.{cons_option, filter_map}
@@ -146,7 +147,8 @@ module _ (names : KeysymNames) (sources others : List Source) (are : AreOthers n
   by_rewritten v (Some written) e =
       (is_rewritten names v.bytes written e).result others (record { source = v.source; line = v.line; bytes = written; depth = v.depth }) refl
 
-  -- a line without a fault has the same result as before, and another one what libxkbcommon reads in it
+  -- a line without a fault has the same result as before, and another one what libxkbcommon reads
+  -- in it
   pub kept_result : (v : Visit) → line_result names others (kept_visit names v) ≡ other_result names sources v
   kept_result v = go (own_fault names v)
     where

@@ -1,4 +1,5 @@
--- The line that is written for one that only libxkbcommon reads is a line with the definition that libxkbcommon reads.
+-- The line that is written for one that only libxkbcommon reads is a line with the definition that
+-- libxkbcommon reads.
 use Rattle.std.proofs.Common.{◌≡◌, ℕ, ◌≤◌, ◌<◌, List, [], ◌∷◌, ◌++◌, Bool, true, false, not, ◌&&◌, ◌||◌, cond, length, map, refl, sym, ◌∙◌, ap, subst, arith, append_assoc, append-nil, nat_lt, nat_le, lt-ltb, le-leb, ◌≢◌}
 use Rattle.std.specs.Prelude.{◌==◌, Option, Some, None, is_some, unwrap_or, Result, Ok, Err, codes, flat_map, encode_utf8}
 use Rattle.std.specs.List.{list_all, list_any}
@@ -33,7 +34,8 @@ use Rattle.compose_skip.proofs.Named.{all_strict, keys_in_line, keys_known, keys
 
 -- ---- the result
 
--- the result that is written is one token, and these are its string and its name, which give this text
+-- the result that is written is one token, and these are its string and its name, which give this
+-- text
 record IsWritten (names : KeysymNames) (token given : List ℕ) : Type 0 where
   raw : Option (List ℕ)
   name : Option (List ℕ)

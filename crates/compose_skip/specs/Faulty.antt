@@ -1,5 +1,5 @@
--- Faulty lines, and sources as libxkbcommon reads them: it reads many of the lines that have a fault here, and skips the
--- others.
+-- Faulty lines, and sources as libxkbcommon reads them: it reads many of the lines that have a
+-- fault here, and skips the others.
 use Rattle.std.specs.Prelude.{◌≡◌, ◌+◌, ℕ, if◌then◌else◌, List, [], ◌∷◌, ◌++◌, map, Option, Some, None, is_some, unwrap_or}
 use Rattle.std.specs.List.{filter_map}
 use Rattle.keysym_core.specs.Names.{KeysymNames}
@@ -21,7 +21,8 @@ own fault = fault
 abbrev pub own_fault : KeysymNames → Visit → Option ReadFault
 own_fault names v = own (fault_of names [] v)
 
--- the bytes of the line if it has no fault; else those of the same definition as libxkbcommon reads in it, or none
+-- the bytes of the line if it has no fault; else those of the same definition as libxkbcommon reads
+-- in it, or none
 abbrev pub line_without : KeysymNames → List ℕ → Option ReadFault → List ℕ
 line_without names bytes None = bytes
 line_without names bytes (Some fault) = unwrap_or (rewritten names bytes) []

@@ -1,5 +1,5 @@
--- What libxkbcommon reads in a line by itself, and the same as a line of this program's grammar (libxkbcommon 1.7,
--- src/compose/parser.c and src/keysym.c).
+-- What libxkbcommon reads in a line by itself, and the same as a line of this program's grammar
+-- (libxkbcommon 1.7, src/compose/parser.c and src/keysym.c).
 use Rattle.std.specs.Prelude.{ℕ, Bool, true, false, not, ◌||◌, ◌&&◌, ◌==◌, nat_eq, nat_lt, if◌then◌else◌, List, [], ◌∷◌, ◌++◌, length, drop, map, flat_map, Option, Some, None, is_some, unwrap_or, codes}
 use Rattle.std.specs.Fmt.{digits}
 use Rattle.std.specs.List.{list_all, starts_with}

@@ -74,7 +74,8 @@ module _ (table : List Definition) (s : Session) (k : ℕ) (accepted : is_ignore
       go true = refl
       go false = refl
 
-  -- the answer to a key that leads nowhere: at rest the key's own text, and else a cancel without a text
+  -- the answer to a key that leads nowhere: at rest the key's own text, and else a cancel without a
+  -- text
   pub answered_apart : (names : KeysymNames) (answer : Fed) → answer.accepted ≡ true → answer.status ≡ (session_apart s).status
       → text_bytes answer.text ≡ (if is_empty s.pending then text names k else []) → ComesFrom (if is_empty s.pending then passes else cancels) answer.text → IsFed names table s k answer
   answered_apart names answer e f g from =
@@ -94,7 +95,8 @@ module _ (table : List Definition) (s : Session) (k : ℕ) (accepted : is_ignore
       same_text true = refl
       same_text false = refl
 
--- two sessions with the same pending keysyms, and a key that is not ignored: its effect sets the status, whatever it was
+-- two sessions with the same pending keysyms, and a key that is not ignored: its effect sets the
+-- status, whatever it was
 module _ (table : List Definition) (s other : Session) (k : ℕ) (accepted : is_ignored k ≡ false) (same : s.pending ≡ other.pending) where
   status_set : (b : Bool) (t : Option Target) → status_by (effect_at b t) s.status ≡ status_by (effect_at b t) other.status
   status_set b (Some (Node n)) = refl

@@ -73,7 +73,8 @@ extended_short table p sound h =
 pub to_node : (table : List Definition) (p : List ℕ) (k : ℕ) (n : NodeId) → target_of table p k ≡ Some (Node n) → ToNode table p k n
 to_node table p k n e = subst (Leads table p k) e (leads table p k)
 
--- a key whose target is a leaf completes the sequence of that leaf, and the leaf's text is the sequence's
+-- a key whose target is a leaf completes the sequence of that leaf, and the leaf's text is the
+-- sequence's
 pub to_leaf : (table : List Definition) (p : List ℕ) (k : ℕ) (l : LeafId) → target_of table p k ≡ Some (Leaf l) → ToLeaf table p k l
 to_leaf table p k l e = subst (Leads table p k) e (leads table p k)
 

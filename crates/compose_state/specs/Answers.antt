@@ -1,4 +1,5 @@
--- The answer of a state to a key (xkb_compose_state_feed, xkb_compose_state_get_status, xkb_compose_state_get_utf8).
+-- The answer of a state to a key (xkb_compose_state_feed, xkb_compose_state_get_status,
+-- xkb_compose_state_get_utf8).
 use Rattle.std.specs.Prelude.{◌≡◌, ◌≢◌, ℕ, not, List, [], ◌∷◌, ◌++◌, if◌then◌else◌, codes, unwrap_or}
 use Rattle.keysym_core.specs.Keysym.{is_ignored}
 use Rattle.keysym_core.specs.Names.{KeysymNames}
@@ -12,13 +13,15 @@ use Rattle.compose_state.specs.declared.fed.FedText.{FedText}
 use Rattle.compose_state.specs.declared.fed.FedText.TheVariants.{Empty, Char, Slice}
 use Rattle.compose_state.specs.Texts.{text_bytes}
 
--- the origin of the text: the table if a sequence completes, the key itself if it passes; else there is no text
+-- the origin of the text: the table if a sequence completes, the key itself if it passes; else
+-- there is no text
 abbrev pub ComesFrom : Effect → FedText → Type 0
 ComesFrom x (Slice text) = x ≡ completes
 ComesFrom x (Char character) = x ≡ passes
 ComesFrom x Empty = x ≢ completes
 
--- the answer to the keysym k: whether it was accepted, the status after it, and the text that it commits
+-- the answer to the keysym k: whether it was accepted, the status after it, and the text that it
+-- commits
 pub record IsFed (names : KeysymNames) (table : List Definition) (before : Session) (k : ℕ) (answer : Fed) : Type 0 where
   pub accepted : answer.accepted ≡ not (is_ignored k)
   pub status : answer.status ≡ (fed table before k).status
@@ -33,8 +36,8 @@ sequence_text completes table u k = unwrap_or (text_at table (u ++ k ∷ [])) []
 sequence_text passes table u k = []
 sequence_text cancels table u k = []
 
--- the answer to the keysym k without keysym names (xkb_compose_state_get_utf8): as IsFed, but a key that passes has no
--- text
+-- the answer to the keysym k without keysym names (xkb_compose_state_get_utf8): as IsFed, but a key
+-- that passes has no text
 pub record IsFedAlone (table : List Definition) (before : Session) (k : ℕ) (answer : Fed) : Type 0 where
   pub accepted : answer.accepted ≡ not (is_ignored k)
   pub status : answer.status ≡ (fed table before k).status

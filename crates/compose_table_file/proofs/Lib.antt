@@ -1,1 +1,3 @@
+pub mod Keysyms
 pub mod Kept
+pub mod Named

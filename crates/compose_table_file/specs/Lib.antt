@@ -1,2 +1,4 @@
 pub mod TableFile
 pub mod Reading
+pub mod Fresh
+pub mod Origin

@@ -1,4 +1,5 @@
--- Sixteen bytes at a time: from the mask of those that are not of a class to the number of leading bytes of the class.
+-- Sixteen bytes at a time: from the mask of those that are not of a class to the number of leading
+-- bytes of the class.
 use Rattle.std.proofs.Common.{◌≡◌, ℕ, ◌+◌, ◌*◌, ◌<◌, ◌≤◌, ◌^◌, ◌%◌, Bool, true, false, not, cond, List, [], ◌∷◌, ◌++◌, map, length, drop, replicate, refl, sym, ap, ap₂, ◌∙◌, arith, w8, Fits}
 use Rattle.std.specs.List.{prefix_len}
 use Rattle.std.proofs.lemmas.Bool.{agree_below, agree_below_at}

@@ -1,4 +1,5 @@
--- Steps in order: each goes on with the result of the step before it, and the first fault ends them.
+-- Steps in order: each goes on with the result of the step before it, and the first fault ends
+-- them.
 use Rattle.std.specs.Prelude.{Result, Ok, Err}
 
 infixl 10 ◌>>=◌

@@ -57,7 +57,8 @@ module _ (given : GivenMigration) where
   make_refused bytes refusal h = step_refused refusal (migration_of given) (λ move. needs_of move bytes) h
 
   module _ (move : Parts) (move_read : IsRead (migration_of given) move) where
-    -- for `explain`: once the migration is read, the parts depend on it and on its fresh keysyms in rising order
+    -- for `explain`: once the migration is read, the parts depend on it and on its fresh keysyms in
+    -- rising order
     pub explain_read : (fresh : List ℕ) → fresh ≡ rising nat_cmp move.keys → explain_parts given ≡ explainable move fresh
     explain_read fresh is = ap (λ r. r >>= with_fresh) (is_read (migration_of given) move move_read) ∙ ap (explainable move) (sym is)
 
@@ -73,8 +74,8 @@ module _ (move : Parts) (bytes : List ℕ) where
   pub repertoire_refused : (refusal : Refusal) → IsRefused refusal (or_because no_repertoire (repertoire_of bytes)) → IsRefused refusal (needs_of move bytes)
   repertoire_refused refusal h = step_refused refusal (or_because no_repertoire (repertoire_of bytes)) with_repertoire h
 
-  -- for `make` on these tables: once the repertoire is read, the parts depend on it and on the fresh keysyms in rising
-  -- order
+  -- for `make` on these tables: once the repertoire is read, the parts depend on it and on the
+  -- fresh keysyms in rising order
   pub needs_read : (r : Repertoire) → IsRead (or_because no_repertoire (repertoire_of bytes)) r → (fresh : List ℕ) → fresh ≡ rising nat_cmp move.keys
       → needs_of move bytes ≡ makeable move r fresh
   needs_read r r_read fresh is = ap (λ x. x >>= with_repertoire) (is_read (or_because no_repertoire (repertoire_of bytes)) r r_read) ∙ ap (makeable move r) (sym is)

@@ -71,7 +71,8 @@ IsChecked p (FreshNotAllowed keysym) = ⊥
 abbrev pub first_not_among : List ℕ → List ℕ → Option ℕ
 first_not_among allowed keysyms = find (λ k. not (has_key allowed k)) keysyms
 
--- the verdict; and if it is yes, the first fresh keysym of the certificate that is not allowed, if there is one
+-- the verdict; and if it is yes, the first fresh keysym of the certificate that is not allowed, if
+-- there is one
 abbrev pub IsCheckedFor : checks.Parts → Answer → Type 0
 IsCheckedFor p (FreshNotAllowed keysym) = (verdict_on p ≡ verdicts.Yes) × (first_not_among p.keys p.certificate.fresh ≡ Some keysym)
 IsCheckedFor p (Yes text) = IsChecked p (Yes text) × (first_not_among p.keys p.certificate.fresh ≡ None)
@@ -79,7 +80,8 @@ IsCheckedFor p answer = IsChecked p answer
 
 -- ---- explain
 
--- the new table does not follow, and the bytes are the four lines of the least of the shortest counterexamples
+-- the new table does not follow, and the bytes are the four lines of the least of the shortest
+-- counterexamples
 pub record ReportsLeast (names : KeysymNames) (fresh : List ℕ) (old new : List Definition) (bytes : List ℕ) : Type 0 where
   pub differs : model.Follows names fresh old new → ⊥
   pub evidence : Evidence
@@ -121,15 +123,16 @@ pub record SpellsMade (needs : Needs) (bytes : List ℕ) : Type 0 where
   pub made : IsMadeFor needs.move.names needs.fresh needs.move.old needs.move.new needs.repertoire certificate
   pub spells : Spells bytes certificate
 
--- the new table follows, this character is the least one that no list of keys types, and the bytes name it
+-- the new table follows, this character is the least one that no list of keys types, and the bytes
+-- name it
 pub record ReportsUnreachable (needs : Needs) (bytes : List ℕ) : Type 0 where
   pub follows : model.Follows needs.move.names needs.fresh needs.move.old needs.move.new
   pub character : ℕ
   pub unreachable : IsUnreachable needs.move.names needs.move.new needs.repertoire character
   pub is : bytes ≡ one_line (codes "unreachable U+" ++ at_least_four (digits 16 true character))
 
--- a certificate's text; or the least counterexample's, if the new table does not follow; or the first character that
--- has no typing
+-- a certificate's text; or the least counterexample's, if the new table does not follow; or the
+-- first character that has no typing
 abbrev pub IsMadeText : Needs → Answer → Type 0
 IsMadeText needs (Yes text) = SpellsMade needs (string_bytes text)
 IsMadeText needs (No text) = ReportsLeast needs.move.names needs.fresh needs.move.old needs.move.new (string_bytes text) ⊎ ReportsUnreachable needs (string_bytes text)
@@ -165,7 +168,8 @@ untypable_count old new =
 abbrev pub untypable_lines : List ℕ → List ℕ → List ℕ
 untypable_lines old new = each_untypable old new ++ untypable_count old new
 
--- the bytes list each character that the new table can't type, and mark those that the old table can't type either
+-- the bytes list each character that the new table can't type, and mark those that the old table
+-- can't type either
 pub record IsUntypableText (move : Parts) (repertoire : certificates.Repertoire) (bytes : List ℕ) : Type 0 where
   pub old : List ℕ
   pub are_old : AreUntypable move.names move.old repertoire old
@@ -173,15 +177,16 @@ pub record IsUntypableText (move : Parts) (repertoire : certificates.Repertoire)
   pub are_new : AreUntypable move.names move.new repertoire new
   pub is : bytes ≡ untypable_lines old new
 
--- the new table follows, no list of keys types some character, and the bytes list all such characters
+-- the new table follows, no list of keys types some character, and the bytes list all such
+-- characters
 pub record ReportsUntypable (needs : Needs) (bytes : List ℕ) : Type 0 where
   pub follows : model.Follows needs.move.names needs.fresh needs.move.old needs.move.new
   pub least : ℕ
   pub unreachable : IsUnreachable needs.move.names needs.move.new needs.repertoire least
   pub reports : IsUntypableText needs.move needs.repertoire bytes
 
--- a certificate's text; or the least counterexample's, if the new table does not follow; or all characters that have no
--- typing
+-- a certificate's text; or the least counterexample's, if the new table does not follow; or all
+-- characters that have no typing
 abbrev pub IsAllMadeText : Needs → Answer → Type 0
 IsAllMadeText needs (Yes text) = SpellsMade needs (string_bytes text)
 IsAllMadeText needs (No text) = ReportsLeast needs.move.names needs.fresh needs.move.old needs.move.new (string_bytes text) ⊎ ReportsUntypable needs (string_bytes text)

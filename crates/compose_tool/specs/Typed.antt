@@ -1,5 +1,5 @@
--- The lines printed for typed keys: at each key the word for what happened, and the text that was committed (this
--- project's profile).
+-- The lines printed for typed keys: at each key the word for what happened, and the text that was
+-- committed (this project's profile).
 use Rattle.std.specs.Prelude.{ℕ, List, [], ◌∷◌, ◌++◌, drop, flat_map, take, codes}
 use Rattle.keysym_core.specs.Names.{KeysymNames}
 use Rattle.compose_model.specs.Table.{Definition}

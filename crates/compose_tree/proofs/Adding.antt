@@ -53,8 +53,8 @@ way_length : (f : List ℕ → ℕ) (p : List ℕ) (k : ℕ) → length (map f (
 way_length f [] k = refl
 way_length f (j ∷ p) k = ap (λ xs. suc (length xs)) (map_of_map f (λ q. j ∷ q) (proper_prefixes (p ++ k ∷ []))) ∙ ap suc (way_length (λ q. f (j ∷ q)) p k)
 
--- what a sequence adds to the rows before it and to the path, along which its first c keysyms lead; i is the number of
--- its leaf
+-- what a sequence adds to the rows before it and to the path, along which its first c keysyms lead;
+-- i is the number of its leaf
 pub record Adds (rows : List NodeRow) (path s : List ℕ) (i c : ℕ) (longer : List Definition) : Type 0 where
   pub within : c < length s
   pub way : c < length path
@@ -181,7 +181,8 @@ module _ (rows : List NodeRow) (path s : List ℕ) (i c : ℕ) (longer : List De
   edge_put_count : (rows' : List NodeRow) (edge : Edge) → rows' ≡ with_edge rows (get_or path c 0) edge → length rows' ≡ length rows
   edge_put_count rows' edge e = ap length e ∙ length-set rows (get_or path c 0) (record { depth = (row_at rows (get_or path c 0)).depth; edges = (row_at rows (get_or path c 0)).edges ++ edge ∷ [] })
 
-  -- with its edge added to the parent and its new nodes opened, the rows are those of the longer table
+  -- with its edge added to the parent and its new nodes opened, the rows are those of the longer
+  -- table
   pub rows_after : (key node m : ℕ) (target : Target) (rows' later : List NodeRow) → key ≡ get_or s c key → node ≡ get_or path c node → m ≡ length rows → target ≡ next_target m i (drop (c + 1) s)
       → rows' ≡ with_edge rows node (record { keysym = key; target = target })
       → later ≡ rows' ++ new_rows (length rows') i (c + 1) (drop (c + 1) s) → later ≡ rows_of longer

@@ -231,7 +231,8 @@ text_few_at table i t s within e =
     let few = text_few (get_or table i d) (definition_at table i d s.definitions within) in
     let n = ap length (text_read table i t d within e) in omega arith
 
--- the text at the index of a leaf, in a settled table, is that of the leaf, and has at most 255 bytes
+-- the text at the index of a leaf, in a settled table, is that of the leaf, and has at most 255
+-- bytes
 pub text_is : (table : List Definition) (i : ℕ) (t : List ℕ) → IsSettled table → i < length (leaves table) → option_map (λ (e : Definition). e.text) (slice_get table i) ≡ Some t
     → (leaf_text table i ≡ Some t) × (length t ≤ 255)
 text_is table i t s h e =

@@ -1,4 +1,5 @@
--- What one more sequence adds to the nodes, leaves and edges of a table whose sequences all come before it.
+-- What one more sequence adds to the nodes, leaves and edges of a table whose sequences all come
+-- before it.
 use Rattle.std.proofs.Common.{◌≡◌, ℕ, ◌+◌, List, [], ◌∷◌, ◌++◌, Bool, true, false, cond, not, ◌&&◌, ◌||◌, ◌⊎◌, length, map, refl, sym, ◌∙◌, ap, arith, inl, inr, eqb-true, eq-eqb, Less, nat_cmp, one-add, append_assoc, add-zero}
 use Rattle.std.specs.Prelude.{◌==◌}
 use Rattle.std.specs.List.{list_any, flat_map, position_or_len, AllByRecursion}
@@ -24,8 +25,8 @@ use Rattle.compose_tree.specs.declared.table.Target.TheVariants.{Node, Leaf}
 use Rattle.compose_tree.specs.Targets.{leaf_number}
 use Rattle.compose_tree.specs.Rows.{where_to, next_target}
 
--- the definition d continues with these keysyms after p and k; every sequence of the table comes before p and k, and
--- each proper prefix of these is a node
+-- the definition d continues with these keysyms after p and k; every sequence of the table comes
+-- before p and k, and each proper prefix of these is a node
 pub record IsNext (table : List Definition) (d : Definition) (p : List ℕ) (k : ℕ) (rest : List ℕ) : Type 0 where
   pub sequence : d.sequence ≡ (p ++ k ∷ []) ++ rest
   pub below : (t : List ℕ) → is_sequence table t ≡ true → Before t (p ++ k ∷ [])
@@ -34,7 +35,8 @@ pub record IsNext (table : List Definition) (d : Definition) (p : List ℕ) (k :
 
 -- ---- the tests of the longer table
 
--- with one more definition, a list is extended if it was before, or if it is a proper prefix of the new sequence
+-- with one more definition, a list is extended if it was before, or if it is a proper prefix of the
+-- new sequence
 pub extended_more : (table : List Definition) (d : Definition) (x : List ℕ) → is_extended (table ++ d ∷ []) x ≡ is_extended table x || is_proper_prefix x d.sequence
 extended_more table d x =
     list_any-append (λ (e : Definition). is_proper_prefix x e.sequence) table (d ∷ []) ∙ ap (λ b. is_extended table x || b) (or_false (is_proper_prefix x d.sequence))
@@ -243,7 +245,8 @@ module _ (table : List Definition) (d : Definition) (p : List ℕ) (k : ℕ) (re
     | inr e ↦ n.below (p ++ j ∷ []) e
   ])
 
-  -- a list that continues a node of the table along the new sequence is there already, or is p and k
+  -- a list that continues a node of the table along the new sequence is there already, or is p and
+  -- k
   edge_along : (x : List ℕ) (j : ℕ) → is_node table x ≡ true → begins (x ++ j ∷ []) d.sequence ≡ true → has_edge table x j || (same x p && j == k) ≡ true
   edge_along x j h e =
       let q = p ++ k ∷ [] in

@@ -91,7 +91,8 @@ prefixes_are [] (k ∷ s) = refl
 prefixes_are (j ∷ p) (k ∷ s) =
     list_any-map (same (j ∷ p)) (λ q. k ∷ q) (proper_prefixes s) ∙ list_any-and (j == k) (same p) (proper_prefixes s) ∙ ap (λ b. j == k && b) (prefixes_are p s)
 
--- a prefix of two lists put together is a prefix of the first, or is the first with a prefix of the second
+-- a prefix of two lists put together is a prefix of the first, or is the first with a prefix of the
+-- second
 pub prefix_of_joined : (x q rest : List ℕ) → is_proper_prefix x (q ++ rest) ≡ is_proper_prefix x q || list_any (λ y. same x (q ++ y)) (proper_prefixes rest)
 prefix_of_joined x [] rest = sym (prefixes_are x rest)
 prefix_of_joined [] (k ∷ q) rest = refl
@@ -143,8 +144,8 @@ begins_at [] j k (i ∷ r) = go (j == k)
     go false = refl
 begins_at (i ∷ u) j k r = rw (eq-eqb i i refl) (begins_at u j k r)
 
--- if x followed by a keysym is a list that continues p and k, and x comes before p and k, then x is p and the keysym is
--- k
+-- if x followed by a keysym is a list that continues p and k, and x comes before p and k, then x is
+-- p and the keysym is k
 pub last_is : (x : List ℕ) (j : ℕ) (p : List ℕ) (k : ℕ) (y : List ℕ) → x ++ j ∷ [] ≡ (p ++ k ∷ []) ++ y → Before x (p ++ k ∷ []) → (same x p && j == k) ≡ true
 last_is [] j [] k y e h = let is : j ≡ k = cc in eq-eqb j k is
 last_is [] j (a ∷ []) k y e h = cc

@@ -15,15 +15,16 @@ use Rattle.compose_tree.proofs.PackedLookups.{packed_count}
 abbrev pub blank : PackedEdge
 blank = record { keysym = 0; target = 0 }
 
--- the edges of all nodes of these depths, from node i on: for each node its edges that were put, and a blank for each
--- one that is left
+-- the edges of all nodes of these depths, from node i on: for each node its edges that were put,
+-- and a blank for each one that is left
 abbrev pub laid_edges : ℕ → List ℕ → List NodeEdge → List NodeEdge → List PackedEdge
 laid_edges i [] put left = []
 laid_edges i (d ∷ depths) put left = (map packed_edge (edges_at i put) ++ map (λ e. blank) (edges_at i left)) ++ laid_edges (1 + i) depths put left
 
 -- ---- one more edge is put
 
--- the edge e is put, at index q from the first one, which is after the edges of node k that were put
+-- the edge e is put, at index q from the first one, which is after the edges of node k that were
+-- put
 pub record Puts (offset i k : ℕ) (depths : List ℕ) (put : List NodeEdge) (e : NodeEdge) (left : List NodeEdge) : Type 0 where
   pub q : ℕ
   pub next : (d : PackedNode) → (get_or (packed_nodes offset (gathered_rows i depths (put ++ e ∷ left))) k d).first + length (edges_at e.node put) ≡ offset + q

@@ -1,5 +1,5 @@
--- The target of a key determines the step there: the crates above know a table by its targets, and the model by its
--- effects.
+-- The target of a key determines the step there: the crates above know a table by its targets, and
+-- the model by its effects.
 use Rattle.std.proofs.Common.{◌≡◌, ℕ, ◌<◌, List, [], ◌∷◌, ◌++◌, Bool, true, false, cond, ◌||◌, length, map, refl, sym, ◌∙◌, ap, Option, Some, None, nat_cmp}
 use Rattle.std.specs.List.{list_any}
 use Rattle.std.specs.Cmp.Lexicographic.{slice_cmp}
@@ -94,7 +94,8 @@ effect_at nothing_pending (Some (Node n)) = extends
 effect_at nothing_pending (Some (Leaf l)) = completes
 effect_at nothing_pending None = cond nothing_pending passes cancels
 
--- the effect of a key that isn't ignored depends only on its target and on whether anything is pending
+-- the effect of a key that isn't ignored depends only on its target and on whether anything is
+-- pending
 pub effect_by_target : (table : List Definition) (p : List ℕ) (k : ℕ) → is_ignored k ≡ false → effect table p k ≡ effect_at (is_empty p) (target_of table p k)
 effect_by_target table p k fed = go (target_of table p k) (leads table p k)
   where

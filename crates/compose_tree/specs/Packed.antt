@@ -1,5 +1,5 @@
--- The packed form of a table: flat arrays of nodes, edges and texts, and their meaning. Definitions for the contracts
--- of private functions.
+-- The packed form of a table: flat arrays of nodes, edges and texts, and their meaning. Definitions
+-- for the contracts of private functions.
 use Rattle.std.specs.Prelude.{◌≡◌, ◌≤◌, IsTrue, ℕ, zero, suc, ◌+◌, ◌-◌, ◌*◌, ◌/◌, ◌%◌, ◌==◌, List, [], ◌∷◌, map, length, take, drop, ◌++◌, flat_map, filter, replicate, nat_lt, bytes_eq, if◌then◌else◌}
 use Rattle.std.specs.Borrow.{Bor}
 use Rattle.std.specs.List.{list_all, AllByRecursion}
@@ -27,7 +27,8 @@ packed_target (Leaf l) = l.0 * 2 + 1
 abbrev pub packed_edge : Edge → PackedEdge
 packed_edge e = record { keysym = e.keysym; target = packed_target e.target }
 
--- for each node its depth and the offset of its first edge, from this offset on, and after them the end of the edges
+-- for each node its depth and the offset of its first edge, from this offset on, and after them the
+-- end of the edges
 abbrev pub packed_nodes : ℕ → List NodeRow → List PackedNode
 packed_nodes offset [] = record { depth = 0; first = offset } ∷ []
 packed_nodes offset (row ∷ rows) = record { depth = row.depth; first = offset } ∷ packed_nodes (offset + length row.edges) rows
@@ -36,8 +37,8 @@ packed_nodes offset (row ∷ rows) = record { depth = row.depth; first = offset 
 abbrev pub packed_edges : List NodeRow → List PackedEdge
 packed_edges rows = flat_map (λ row. map packed_edge row.edges) rows
 
--- what a text has among the long ones: nothing if it has at most three bytes, else its bytes, and a zero behind them if
--- their number is odd
+-- what a text has among the long ones: nothing if it has at most three bytes, else its bytes, and a
+-- zero behind them if their number is odd
 abbrev pub long_text : List ℕ → List ℕ
 long_text [] = []
 long_text (a ∷ []) = []
@@ -45,8 +46,8 @@ long_text (a ∷ b ∷ []) = []
 long_text (a ∷ b ∷ c ∷ []) = []
 long_text (a ∷ b ∷ c ∷ d ∷ more) = (a ∷ b ∷ c ∷ d ∷ more) ++ replicate (length more % 2) 0
 
--- the entry of a text, if the long ones before it take this number of bytes: its bytes, zeros up to three, and its
--- length; or half of that number in three bytes, the lowest first, and its length
+-- the entry of a text, if the long ones before it take this number of bytes: its bytes, zeros up to
+-- three, and its length; or half of that number in three bytes, the lowest first, and its length
 abbrev pub text_entry : ℕ → List ℕ → List ℕ
 text_entry before [] = 0 ∷ 0 ∷ 0 ∷ 0 ∷ []
 text_entry before (a ∷ []) = a ∷ 0 ∷ 0 ∷ 1 ∷ []
@@ -60,7 +61,8 @@ pub record HasLongText (before : ℕ) (text long : List ℕ) : Type 0 where
   pub fits : 4 ≤ length text → before + length text ≤ length long
   pub there : 4 ≤ length text → take (length text) (drop before long) ≡ text
 
--- the entries of these texts, one after another, and each of more than three bytes stands among the long ones
+-- the entries of these texts, one after another, and each of more than three bytes stands among the
+-- long ones
 abbrev pub AreEntries : List ℕ → List (List ℕ) → List ℕ → Type 0
 AreEntries entries [] long = entries ≡ []
 AreEntries entries (text ∷ texts) long = (before : ℕ) × (more : List ℕ) × (entries ≡ text_entry before text ++ more) × HasLongText before text long × AreEntries more texts long
@@ -121,8 +123,8 @@ unpacked nodes edges entries long = with_texts (spelled (unpacked_rows nodes edg
 
 -- ---- the properties of a packed table
 
--- the arrays are those of this table: its rows, one list of edges after another, an entry for each text, and the long
--- texts, each kept once
+-- the arrays are those of this table: its rows, one list of edges after another, an entry for each
+-- text, and the long texts, each kept once
 pub record IsPacked (nodes : List PackedNode) (edges : List PackedEdge) (entries long : List ℕ) (table : List Definition) : Type 0 where
   pub settled : IsSettled table
   pub nodes_are : nodes ≡ packed_nodes 0 (rows_of table)

@@ -1,5 +1,5 @@
--- The rows of a table: for each node its depth, and its edges in order with their targets. Definitions for the
--- contracts of private functions.
+-- The rows of a table: for each node its depth, and its edges in order with their targets.
+-- Definitions for the contracts of private functions.
 use Rattle.std.specs.Prelude.{ℕ, ◌+◌, ◌<◌, ◌==◌, nat_eq, List, [], ◌∷◌, ◌++◌, map, length, get_or, slice_set, if◌then◌else◌}
 use Rattle.std.specs.List.{All, filter}
 use Rattle.compose_model.specs.Table.{Definition}
@@ -94,7 +94,8 @@ last_sequence [] = []
 last_sequence (d ∷ []) = d.sequence
 last_sequence (d ∷ e ∷ table) = last_sequence (e ∷ table)
 
--- the numbers of the nodes on the path to it, from the root on; the root alone if there is no sequence
+-- the numbers of the nodes on the path to it, from the root on; the root alone if there is no
+-- sequence
 abbrev pub path_of : List Definition → List ℕ
 path_of [] = 0 ∷ []
 path_of (d ∷ table) = map (number_of (d ∷ table)) (proper_prefixes (last_sequence (d ∷ table)))

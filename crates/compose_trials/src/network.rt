@@ -1,62 +1,72 @@
 //! A network in memory: sockets that delay, split and cut at any byte, and fail to accept, as a
 //! seed determines.
-ghost use Rattle.std.specs.Prelude.{◌≡◌, None};
-ghost use Rattle.compose_hub.specs.Sockets.{KeepsBytes};
-ghost use Rattle.compose_trials.specs.Network.{stream_at};
+ghost use Rattle.std.specs.Prelude.{◌≤◌, length, IfOk, None};
 
 use crate::chance::Chance;
-use compose_hub::{AcceptedStream, Ready, Sockets};
-use compose_many::{Streams, TryError};
-use indexmap::IndexMap;
-use std::alloc::Global;
+use compose_hub::{Interest, Readiness, Ready, SocketCalls};
+use std::cell::RefCell;
 use std::io;
 use std::io::{ErrorKind, Read, Write};
 use std::time::Duration;
 
 pub mod client;
-pub mod marks;
 pub mod schedule;
 
 use client::TestClient;
-use marks::Marks;
 
-/// The clients, and the random numbers that determine what happens to their streams. Reads and
-/// writes go to the chosen client.
+/// The clients, and the random numbers that determine what happens to their streams.
 #[derive(Drop)]
-pub struct Clients {
+struct Clients {
     clients: Vec<TestClient>,
     chance: Chance,
-    chosen: usize,
     /// The number of clients that have connected.
     connected: usize,
+    /// The number of clients that were accepted.
+    accepted: usize,
     /// The most time that passes at once, in milliseconds.
     longest: usize,
 }
 
 impl Clients {
-    /// Returns the client with this number, counted from 1.
-    fn at(&mut self, number: u64) -> Option<&mut TestClient> {
-        let index = (number as usize).checked_sub(1)?;
-        self.clients.get_mut(index)
-    }
-
-    /// Accepts the next client as the connection with this number, under this key, or not, at
-    /// random.
-    fn accept(&mut self, number: u64, key: usize) -> AcceptedStream {
+    /// Accepts the next client, or not, at random. Returns its index.
+    fn accept_next(&mut self) -> io::Result<usize> {
         match self.chance.below(16) {
-            0 => return AcceptedStream::GivenUp,
-            1 => return AcceptedStream::Fails,
+            0 => return Err(io::Error::from(ErrorKind::ConnectionAborted)),
+            1 => return Err(io::Error::from(ErrorKind::OutOfMemory)),
             _ => {}
         }
-        if number as usize > self.connected {
-            return AcceptedStream::NoneWaits;
+        let index = self.accepted;
+        if index >= self.connected {
+            return Err(io::Error::from(ErrorKind::WouldBlock));
         }
-        match self.at(number) {
-            Some(client) => {
-                client.key = Some(key);
-                AcceptedStream::Connection
-            }
-            None => AcceptedStream::NoneWaits,
+        self.accepted = index.saturating_add(1);
+        Ok(index)
+    }
+
+    /// Has the client with this index reported by this key, or by none.
+    fn set_key(&mut self, index: usize, key: Option<usize>) {
+        if let Some(client) = self.clients.get_mut(index) {
+            client.key = key;
+        }
+    }
+
+    /// Reads from the client with this index.
+    fn read_from(&mut self, index: usize, buf: &mut [u8]) -> io::Result<usize>
+        ensures { IfOk result (λ n. n ≤ length buf.new) }
+    {
+        match self.clients.get_mut(index) {
+            Some(client) => client.read(&mut self.chance, buf),
+            None => Err(io::Error::from(ErrorKind::ConnectionReset)),
+        }
+    }
+
+    /// Writes to the client with this index.
+    fn write_to(&mut self, index: usize, buf: &[u8]) -> io::Result<usize>
+        ensures { IfOk result (λ n. n ≤ length buf.now) }
+    {
+        match self.clients.get_mut(index) {
+            Some(client) => client.write(&mut self.chance, buf),
+            None => Err(io::Error::from(ErrorKind::BrokenPipe)),
         }
     }
 
@@ -100,20 +110,106 @@ impl Clients {
     }
 }
 
-impl Read for Clients {
-    fn read(&mut self, buf: &mut [u8]) -> io::Result<usize> {
-        match self.clients.get_mut(self.chosen) {
-            Some(client) => client.read(&mut self.chance, buf),
-            None => Err(io::Error::from(ErrorKind::ConnectionReset)),
+/// A network of clients. Its listener, its streams and what is ready of them share the clients.
+#[derive(Drop)]
+pub struct Network {
+    clients: RefCell<Clients>,
+}
+
+impl Network {
+    /// Makes a network of these clients, with these random numbers, in which at most this number of
+    /// milliseconds pass at once.
+    pub fn new(clients: Vec<TestClient>, chance: Chance, longest: usize) -> Network {
+        Network {
+            clients: RefCell::new(Clients {
+                clients,
+                chance,
+                connected: 0,
+                accepted: 0,
+                longest,
+            }),
+        }
+    }
+
+    /// Returns the clients, in the order in which they were accepted.
+    pub fn into_clients(self) -> Vec<TestClient> {
+        self.clients.into_inner().clients
+    }
+}
+
+/// Returns the error of a network whose clients are in use, which none is beside a call.
+fn in_use() -> io::Error {
+    io::Error::from(ErrorKind::ResourceBusy)
+}
+
+/// The listener of a network.
+#[derive(Drop)]
+pub struct NetworkListener<'n> {
+    pub network: &'n Network,
+}
+
+impl<'n> SocketCalls for NetworkListener<'n> {
+    type Stream = NetworkStream<'n>;
+
+    ghost calls = { λ l. None };
+
+    fn accept_next(&mut self) -> io::Result<NetworkStream<'n>> {
+        let network = self.network;
+        match network.clients.try_borrow_mut() {
+            Ok(mut clients) => {
+                let index = clients.accept_next()?;
+                Ok(NetworkStream { network, index })
+            }
+            Err(_) => Err(in_use()),
+        }
+    }
+
+    fn watch(
+        &mut self,
+        stream: &mut NetworkStream<'n>,
+        key: usize,
+        _interest: Interest,
+    ) -> io::Result<()> {
+        match self.network.clients.try_borrow_mut() {
+            Ok(mut clients) => {
+                clients.set_key(stream.index, Some(key));
+                Ok(())
+            }
+            Err(_) => Err(in_use()),
         }
     }
 }
 
-impl Write for Clients {
+/// The stream of the client with this index.
+pub struct NetworkStream<'n> {
+    network: &'n Network,
+    index: usize,
+}
+
+impl Drop for NetworkStream<'_> {
+    /// The client is not reported from now on.
+    fn drop(self) {
+        let Self { network, index } = self;
+        if let Ok(mut clients) = network.clients.try_borrow_mut() {
+            clients.set_key(index, None);
+        }
+    }
+}
+
+impl Read for NetworkStream<'_> {
+    fn read(&mut self, buf: &mut [u8]) -> io::Result<usize> {
+        match self.network.clients.try_borrow_mut() {
+            Ok(mut clients) => clients.read_from(self.index, buf),
+            Err(_) => Err(in_use()),
+        }
+    }
+}
+
+impl Write for NetworkStream<'_> {
     fn write(&mut self, buf: &[u8]) -> io::Result<usize> {
-        match self.clients.get_mut(self.chosen) {
-            Some(client) => client.write(&mut self.chance, buf),
-            None => Err(io::Error::from(ErrorKind::BrokenPipe)),
+        match self.network.clients.try_borrow_mut() {
+            Ok(mut clients) => clients.write_to(self.index, buf),
+            Err(_) => Err(in_use()),
         }
     }
 
@@ -122,91 +218,34 @@ impl Write for Clients {
     }
 }
 
-/// A network of clients, with the marks of each open connection.
+/// What is ready of a network.
 #[derive(Drop)]
-pub struct Network {
-    clients: Clients,
-    marks: IndexMap<u64, Marks>,
+pub struct NetworkReadiness<'n> {
+    pub network: &'n Network,
 }
 
-impl Network {
-    /// Makes a network of these clients, with these random numbers, in which at most this number of
-    /// milliseconds pass at once.
-    pub fn new(alloc: Global, clients: Vec<TestClient>, chance: Chance, longest: usize) -> Network {
-        Network {
-            clients: Clients {
-                clients,
-                chance,
-                chosen: 0,
-                connected: 0,
-                longest,
-            },
-            marks: IndexMap::new(alloc),
+impl Readiness for NetworkReadiness<'_> {
+    ghost waits = { λ r. None };
+
+    fn wait(
+        &mut self,
+        _longest_wait: Option<Duration>,
+        ready: &mut Vec<Ready>,
+    ) -> io::Result<Duration> {
+        match self.network.clients.try_borrow_mut() {
+            Ok(mut clients) => clients.happen(ready)?,
+            Err(_) => return Err(in_use()),
         }
-    }
-
-    /// Returns the clients, in the order of their numbers.
-    pub fn clients(&self) -> &[TestClient] {
-        self.clients.clients.as_slice()
-    }
-
-    /// Keeps the marks of a connection that is accepted.
-    fn admit(&mut self, number: u64) -> AcceptedStream
-        ensures { KeepsBytes number (λ c. stream_at self.old.marks c) (λ c. stream_at self.new.marks c) }
-    {
-        match self.marks.insert(number, Marks::new()) {
-            Ok(_) => AcceptedStream::Connection,
-            Err(_) => AcceptedStream::GivenUp,
-        }
-    }
-}
-
-impl Streams for Network {
-    ghost stream = { λ n c. stream_at n.marks c };
-
-    fn try_pull(&mut self, number: u64, piece: &mut [u8]) -> Result<usize, TryError> {
-        self.clients.chosen = (number as usize).wrapping_sub(1);
-        match self.marks.get_mut(&number) {
-            Some(marks) => marks.try_pull(&mut self.clients, piece),
-            None => Err(TryError::Failed),
-        }
-    }
-
-    fn try_push(&mut self, number: u64, piece: &[u8]) -> Result<usize, TryError> {
-        self.clients.chosen = (number as usize).wrapping_sub(1);
-        match self.marks.get_mut(&number) {
-            Some(marks) => marks.try_push(&mut self.clients, piece),
-            None => Err(TryError::Failed),
-        }
-    }
-}
-
-impl Sockets for Network {
-    ghost attempts = { λ n. None };
-
-    fn accept(&mut self, number: u64, key: usize) -> AcceptedStream {
-        if self.marks.contains_key(&number) {
-            return AcceptedStream::GivenUp;
-        }
-        match self.clients.accept(number, key) {
-            AcceptedStream::Connection => self.admit(number),
-            other => other,
-        }
-    }
-
-    fn poll(&mut self, _longest_wait: Option<Duration>, ready: &mut Vec<Ready>) -> io::Result<()> {
-        self.clients.happen(ready)
+        Ok(self.passed())
     }
 
     fn passed(&mut self) -> Duration {
-        let longest = self.clients.longest;
-        Duration::from_millis(self.clients.chance.below(longest) as u64)
-    }
-
-    fn close(&mut self, number: u64) {
-        if let Some(client) = self.clients.at(number) {
-            client.key = None;
+        match self.network.clients.try_borrow_mut() {
+            Ok(mut clients) => {
+                let longest = clients.longest;
+                Duration::from_millis(clients.chance.below(longest) as u64)
+            }
+            Err(_) => Duration::ZERO,
         }
-        let _ = self.marks.swap_remove(&number);
     }
 }

@@ -3,3 +3,4 @@ pub mod Bytes
 pub mod Laws
 pub mod Service
 pub mod Runs
+pub mod Loads

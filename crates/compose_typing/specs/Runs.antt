@@ -1,4 +1,5 @@
--- A client's verdicts over many keys, with a service that types over one table, while connections are lost.
+-- A client's verdicts over many keys, with a service that types over one table, while connections
+-- are lost.
 use Rattle.std.specs.Prelude.{◌≡◌, ℕ, ◌<◌, true, false, List, [], ◌∷◌, ◌++◌, length, map, take, Option, Some, None}
 use Rattle.keysym_core.specs.Names.{KeysymNames}
 use Rattle.compose_model.specs.Table.{Definition}
@@ -28,8 +29,8 @@ run_verdicts names table u (k ∷ ks) = effect_verdict (effect table u k) k (ste
 
 -- ---- keys
 
--- a connection was lost after this number of replies, and the service was left with this session; the next connection
--- brought this number
+-- a connection was lost after this number of replies, and the service was left with this session;
+-- the next connection brought this number
 pub record Loss : Type 0 where
   pub read : ℕ
   pub number : ℕ
@@ -67,8 +68,8 @@ AllInTime table c s [] = Unit {0}
 AllInTime table c s (p ∷ ps) =
     IsInTime c p.key p.loss × AllInTime table (moved table c (key_session table c s p.loss) p.key) (session_fed table (key_session table c s p.loss) p.key) ps
 
--- no key waits, the session is open, some keys led to what is pending, and unless it has to be typed again it is
--- pending in the session
+-- no key waits, the session is open, some keys led to what is pending, and unless it has to be
+-- typed again it is pending in the session
 pub record IsReady (table : List Definition) (c : Client) (s : Session) : Type 0 where
   pub stage : c.stage ≡ Ready
   pub opened : c.is_opened ≡ true

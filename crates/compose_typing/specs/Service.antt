@@ -1,4 +1,5 @@
--- A client, and a service that types over one table: what happens at a key, even if connections are lost.
+-- A client, and a service that types over one table: what happens at a key, even if connections are
+-- lost.
 use Rattle.std.specs.Prelude.{◌≡◌, ℕ, Bool, true, false, not, if◌then◌else◌, List, [], ◌∷◌, ◌++◌, Option, Some, None}
 use Rattle.keysym_core.specs.Keysym.{is_ignored}
 use Rattle.keysym_core.specs.Names.{KeysymNames}
@@ -19,8 +20,8 @@ use Rattle.compose_typing.specs.Laws.{Event, connect, reply, lose, happens, afte
 
 -- ---- the service
 
--- the answer of a service with this session open, and the session after it; the client sends no other request than
--- these
+-- the answer of a service with this session open, and the session after it; the client sends no
+-- other request than these
 abbrev pub answer_of : KeysymNames → List Definition → Session → Body → ReplyBody
 answer_of names table s (key k) = fed (session_fed table s k).status (not (is_ignored k)) (step names table s.pending k).text
 answer_of names table s reset = was_reset
@@ -66,15 +67,16 @@ moved table c s k = record c {
   stage = Ready;
 }
 
--- at these events the key has its one verdict, by its step in the session s, and the client then agrees with that
--- session
+-- at these events the key has its one verdict, by its step in the session s, and the client then
+-- agrees with that session
 pub record Types (names : KeysymNames) (table : List Definition) (c : Client) (es : List Event) (s : Session) (k : ℕ) : Type 0 where
   pub client : after c es ≡ moved table c s k
   pub verdict : verdicts_at c es ≡ verdict_on k (heard names table s k) ∷ []
 
 -- ---- laws
 
--- the session in which the key is typed: this one or, if it is stale, that of the pending keys alone
+-- the session in which the key is typed: this one or, if it is stale, that of the pending keys
+-- alone
 abbrev pub session_for : List Definition → Client → Session → Session
 session_for table c s = if c.is_stale then typed table rest c.pending else s
 
@@ -90,14 +92,14 @@ key_at (Feeding w n) = Some w
 key_at (Asking w h) = Some w
 key_at _ = None
 
--- the connection is lost, a new one is made (with a number for another session), the session is found open there, and
--- every request is answered
+-- the connection is lost, a new one is made (with a number for another session), the session is
+-- found open there, and every request is answered
 abbrev pub reconnected : KeysymNames → List Definition → Client → ℕ → Session → ℕ → List Event
 reconnected names table c n s k =
     lose ∷ connect n ∷ reply (record { session = c.session; answer = refused session_taken }) ∷ replies names table c.session s (bodies_for (record c { is_stale = true }) k)
 
--- whatever replies have come to a key when its connection is lost, and whatever session the service is left with, the
--- key is typed once, in the session of the keys that were pending before it
+-- whatever replies have come to a key when its connection is lost, and whatever session the service
+-- is left with, the key is typed once, in the session of the keys that were pending before it
 abbrev pub LostOnce : Type 0
 LostOnce = (names : KeysymNames) (table : List Definition) (c : Client) (w : Waiting) (n : ℕ) (s : Session) → key_at c.stage ≡ Some w → w.is_again ≡ false → c.is_opened ≡ true
     → Types names table c (reconnected names table c n s w.key) (typed table rest c.pending) w.key
@@ -108,14 +110,15 @@ is_fed (Feeding w n) = true
 is_fed (Asking w h) = true
 is_fed _ = false
 
--- the session turns out to be closed, a new connection is made (with a number for another session), the session is
--- opened there, and every request is answered
+-- the session turns out to be closed, a new connection is made (with a number for another session),
+-- the session is opened there, and every request is answered
 abbrev pub reopened : KeysymNames → List Definition → Client → ℕ → ℕ → List Event
 reopened names table c n k =
     reply (record { session = c.session; answer = refused no_session }) ∷ connect n ∷ reply (record { session = c.session; answer = opened })
     ∷ replies names table c.session rest (bodies_for (record c { is_stale = true }) k)
 
--- a key whose session another client closed is typed once, in the session of the keys that were pending before it
+-- a key whose session another client closed is typed once, in the session of the keys that were
+-- pending before it
 abbrev pub ClosedOnce : Type 0
 ClosedOnce = (names : KeysymNames) (table : List Definition) (c : Client) (w : Waiting) (n : ℕ) → key_at c.stage ≡ Some w → is_fed c.stage ≡ true → w.is_again ≡ false → c.is_opened ≡ true
     → Types names table c (reopened names table c n w.key) (typed table rest c.pending) w.key

@@ -1,5 +1,5 @@
--- A client of the typing service as a machine: what it does at each event (this project's protocol, "What a client does
--- with a reply").
+-- A client of the typing service as a machine: what it does at each event (this project's protocol,
+-- "What a client does with a reply").
 use Rattle.std.specs.Prelude.{ℕ, ◌-◌, ◌==◌, ◌||◌, ◌&&◌, Bool, true, false, if◌then◌else◌, List, [], ◌∷◌, ◌++◌, length, map, take}
 use Rattle.compose_text.specs.Numbers.{is_between}
 use Rattle.compose_model.specs.declared.Status.{Status}
@@ -15,8 +15,8 @@ use Rattle.compose_typing.specs.declared.stage.KeyAnswer.{KeyAnswer}
 use Rattle.compose_typing.specs.declared.stage.Stage.{Stage}
 use Rattle.compose_typing.specs.declared.stage.Stage.TheVariants.{Apart, Ready, Connecting, Opening, Feeding, Asking, Refreshing, Closing}
 
--- a client: the number of its session, and whether the service has confirmed it; its pending keys; whether a Reset and
--- these keys have to be sent before the next key; and what the client waits for
+-- a client: the number of its session, and whether the service has confirmed it; its pending keys;
+-- whether a Reset and these keys have to be sent before the next key; and what the client waits for
 pub record Client : Type 0 where
   pub session : ℕ
   pub is_opened : Bool
@@ -138,14 +138,15 @@ connected_at _ c n = give_up_outcome c
 abbrev pub connected : Client → ℕ → Outcome
 connected c n = connected_at c.stage c n
 
--- the answer to an Open: if a session is already open, it is this client's only if the client opened it before
+-- the answer to an Open: if a session is already open, it is this client's only if the client
+-- opened it before
 abbrev pub opened_at : Client → Waiting → ReplyBody → Outcome
 opened_at c w opened = asks (record c { is_opened = true; is_stale = true }) w
 opened_at c w (refused why) = if c.is_opened && (code why == code session_taken) then asks (record c { is_stale = true }) w else abandon_outcome c
 opened_at c w _ = abandon_outcome c
 
--- a session that another client closed is opened again, like one whose connection was lost; any other refusal gives the
--- connection up
+-- a session that another client closed is opened again, like one whose connection was lost; any
+-- other refusal gives the connection up
 abbrev pub refused_at : Client → Waiting → Refusal → Outcome
 refused_at c w why = if code why == code no_session then lost_with c w else abandon_outcome c
 
@@ -162,14 +163,15 @@ abbrev pub is_cancelled : Status → Bool
 is_cancelled Cancelled = true
 is_cancelled _ = false
 
--- the session's state is what the service reports; after a cancelled sequence it is reset before the next key
+-- the session's state is what the service reports; after a cancelled sequence it is reset before
+-- the next key
 abbrev pub asked_at : Client → Waiting → KeyAnswer → ReplyBody → Outcome
 asked_at c w h (state status pending) = does (record c { pending = pending; is_stale = is_cancelled status; stage = Ready }) (Tell (verdict_on w.key h))
 asked_at c w h (refused why) = refused_at c w why
 asked_at c w h _ = abandon_outcome c
 
--- the answers while no key waits: those to a Reset and to keys that are typed again are skipped, and then the session's
--- state is what the service reports
+-- the answers while no key waits: those to a Reset and to keys that are typed again are skipped,
+-- and then the session's state is what the service reports
 abbrev pub skipped_at : Client → ℕ → Outcome
 skipped_at c n = if n == 0 then give_up_outcome c else does (record c { stage = Refreshing (n - 1) }) Wait
 
@@ -216,8 +218,8 @@ timeout_outcome c = if is_idle c.stage then does c Wait else give_up_outcome c
 
 -- ---- events without a key; while a reply is waited for they change nothing
 
--- the last pending key is taken back, and the service is asked what is pending then; without a connection the next key
--- is typed after the others
+-- the last pending key is taken back, and the service is asked what is pending then; without a
+-- connection the next key is typed after the others
 abbrev pub erased_at : Stage → Client → Outcome
 erased_at Apart c = does (record c { pending = take (length c.pending - 1) c.pending; is_stale = true }) Wait
 erased_at Ready c = refreshes (record c { pending = take (length c.pending - 1) c.pending })

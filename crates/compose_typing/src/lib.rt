@@ -19,6 +19,7 @@
 #![tactic(auto)]
 
 ghost use Rattle.compose_typing.specs.Laws.{OneVerdict};
+ghost use Rattle.compose_typing.specs.Loads.{TypesOpening};
 ghost use Rattle.compose_typing.specs.Runs.{TypesRun};
 ghost use Rattle.compose_typing.specs.Service.{AskedOnce, ClosedOnce, LostOnce, PendingAgain};
 
@@ -54,4 +55,14 @@ pub fn law_key_once()
 /// a session that is open, whichever connections are lost on the way.
 pub fn law_types_run()
     ensures { TypesRun }
+{}
+
+/// Whatever tables are loaded into the service, and whatever connections are lost, what is typed is
+/// what the opening table types, which is the one that the service has at the beginning: its run
+/// over the keys, begun anew after each key that had a second loss, which types itself.
+///
+/// Keys, connections, losses, answers and loads come in any order. Each loaded table has to follow
+/// the one before it, no key may be fresh, and the opening table must not cancel.
+pub fn law_types_opening()
+    ensures { TypesOpening }
 {}

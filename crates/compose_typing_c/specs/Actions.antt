@@ -28,7 +28,7 @@ Says a Close = a.kind ≡ 5
 abbrev pub Becomes : Outcome → List ℕ → ClientRecord → ActionRecord → Type 0
 Becomes o held new action = (typing_of new ≡ record { client = o.client; held = held }) × Says action o.action
 
--- a piece of bytes leads to this outcome; what is held then, with the bytes after those that were taken, are these
--- bytes
+-- a piece of bytes leads to this outcome; what is held then, with the bytes after those that were
+-- taken, are these bytes
 abbrev pub Receives : Outcome → List ℕ → List ℕ → ClientRecord → ℕ → ActionRecord → Type 0
 Receives o more piece new used action = (client_of new ≡ o.client) × (held_of new ++ drop used piece ≡ more) × Says action o.action

@@ -20,8 +20,8 @@ use Rattle.compose_update.specs.declared.deciding.Update.TheVariants.{Replaced, 
 use Rattle.compose_update.specs.declared.deciding.UpdateFault.{UpdateFault}
 use Rattle.compose_update.specs.declared.deciding.UpdateFault.TheVariants.{Input, TooLarge}
 
--- names, the key names of fresh keysyms, the sources of the table in use, if there is one, those of the new table, and
--- a repertoire
+-- names, the key names of fresh keysyms, the sources of the table in use, if there is one, those of
+-- the new table, and a repertoire
 pub record GivenUpdate : Type 0 where
   pub header : List ℕ
   pub fresh : List (List ℕ)
@@ -61,7 +61,8 @@ HasNoCertificate move repertoire text = (needs : Needs) × (make_parts move repe
 
 -- ---- what is stored
 
--- the bytes are the bundle of the new table's sources and of a certificate of the table against itself
+-- the bytes are the bundle of the new table's sources and of a certificate of the table against
+-- itself
 abbrev pub IsStored : GivenUpdate → List ℕ → Type 0
 IsStored given bytes =
     (text : List ℕ) × IsBundle bytes (record { sources = given.new; certificate = text }) × IsCertificate (itself given) given.repertoire text

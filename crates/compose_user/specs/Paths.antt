@@ -27,7 +27,8 @@ abbrev pub IsFirstFile : Option (List Entry) → List (List ℕ) → Option (Lis
 IsFirstFile None paths path = path ≡ path
 IsFirstFile (Some entries) paths path = path ≡ find (λ p. is_file (held entries p)) paths
 
--- whether there is a file at the path, if it is known what the folder has; a definition for a private function
+-- whether there is a file at the path, if it is known what the folder has; a definition for a
+-- private function
 abbrev pub IsKnown : Option (List Entry) → List ℕ → Bool → Type 0
 IsKnown None path there = path ≡ path
 IsKnown (Some entries) path there = there ≡ is_file (held entries path)

@@ -1,5 +1,5 @@
--- The differences of two tables are their candidates. Which counterexample is least, and that a table follows if there
--- is none.
+-- The differences of two tables are their candidates. Which counterexample is least, and that a
+-- table follows if there is none.
 use Rattle.std.proofs.Common.{◌≡◌, ◌≢◌, ◌⊎◌, ℕ, ◌+◌, ◌<◌, List, [], ◌∷◌, ◌++◌, Bool, true, false, not, ◌&&◌, length, refl, sym, ◌∙◌, ap, subst, inl, inr, arith, append-nil, append_assoc, length-append, lt-ltb, eqb-true}
 use Rattle.std.specs.Prelude.{Option, Some, None, ◌==◌, nat_lt}
 use Rattle.std.specs.List.{list_all}

@@ -1,4 +1,5 @@
--- Which list of keys comes first: the shorter one, and of lists that are as long the first in the order of sequences.
+-- Which list of keys comes first: the shorter one, and of lists that are as long the first in the
+-- order of sequences.
 use Rattle.std.proofs.Common.{◌≡◌, ◌⊎◌, ℕ, ◌<◌, List, true, ◌&&◌, length, ◌∙◌, refl, ap, inl, inr, arith, lt-ltb, eqb-true, eq-eqb, Ordering, Less, Equal, Greater, nat_cmp}
 use Rattle.std.specs.Prelude.{◌==◌, nat_lt}
 use Rattle.std.specs.Ordering.{is_lt}
@@ -12,7 +13,8 @@ use Rattle.compose_walk.specs.Evidence.{comes_first}
 pub first_by_length : (v w : List ℕ) → length v < length w → comes_first v w ≡ true
 first_by_length v w h = or_left (nat_lt (length v) (length w)) (length v == length w && comes_before v w) (lt-ltb (length v) (length w) h)
 
--- of two lists that are as long, the one that is before the other in the order of sequences comes first
+-- of two lists that are as long, the one that is before the other in the order of sequences comes
+-- first
 pub first_by_order : (v w : List ℕ) → length v ≡ length w → slice_cmp nat_cmp v w ≡ Less → comes_first v w ≡ true
 first_by_order v w e h =
     or_right (nat_lt (length v) (length w)) (length v == length w && comes_before v w) (and_from (length v == length w) (comes_before v w) (eq-eqb (length v) (length w) e) (ap is_lt h))

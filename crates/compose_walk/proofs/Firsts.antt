@@ -1,4 +1,5 @@
--- The first of all differences is the least counterexample, and if there is none the new table follows.
+-- The first of all differences is the least counterexample, and if there is none the new table
+-- follows.
 use Rattle.std.proofs.Common.{◌≡◌, ◌⊎◌, ℕ, List, [], ◌∷◌, ◌++◌, true, refl, sym, ◌∙◌, ap, inl, inr, Option, Some, None}
 use Rattle.std.specs.Prelude.{is_some}
 use Rattle.std.specs.List.{list_any}

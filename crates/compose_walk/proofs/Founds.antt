@@ -92,7 +92,8 @@ pub all_append : {X : Type 0} (P : X → Type 0) (xs ys : List X) → AllByRecur
 all_append P [] ys a b = b
 all_append P (x ∷ xs) ys a b = (a.0, all_append P xs ys a.1 b)
 
--- what holds for the value of each keysym of a list that passes a test holds for each value of those that pass
+-- what holds for the value of each keysym of a list that passes a test holds for each value of
+-- those that pass
 pub all_filtered : {Y : Type 0} (P : Y → Type 0) (f : ℕ → Y) (q : ℕ → Bool) (xs : List ℕ) → ((k : ℕ) → has_key xs k ≡ true → q k ≡ true → P (f k)) → AllByRecursion P (map f (filter q xs))
 all_filtered P f q [] h = tt
 all_filtered P f q (x ∷ xs) h = go (q x) refl (all_filtered P f q xs (λ k m n. h k (or_right (k == x) (has_key xs k) m) n))
@@ -246,8 +247,8 @@ module _ (names : KeysymNames) (fresh : List ℕ) (old new : List Definition) (t
 
   -- ---- one that was found
 
-  -- what was found is a place: an old node up to which the tables agree, and a key there, not ignored, at which they
-  -- differ
+  -- what was found is a place: an old node up to which the tables agree, and a key there, not
+  -- ignored, at which they differ
   pub place_of : (f : Found) → IsFound f → IsPlace names old new f
   place_of f h = record {
     in_range = (let e : f.node ≡ number_of old h.before = ap (λ (g : Found). g.node) h.is in let l = number_below old h.before h.candidate.clear.reached.node in omega arith);

@@ -1,4 +1,5 @@
--- The numbers of nodes: each node's number is its place, and numbers rise in the order of sequences.
+-- The numbers of nodes: each node's number is its place, and numbers rise in the order of
+-- sequences.
 use Rattle.std.proofs.Common.{◌≡◌, ℕ, zero, suc, ◌+◌, ◌<◌, List, [], ◌∷◌, ◌++◌, true, false, Bool, cond, not, ◌||◌, length, get_or, set, map, refl, sym, ◌∙◌, ap, ap₂, inl, inr, arith, Less, Greater, nat_cmp, one-add, eq-eqb}
 use Rattle.std.specs.Prelude.{◌==◌}
 use Rattle.std.specs.List.{list_any, position_or_len, AllByRecursion}

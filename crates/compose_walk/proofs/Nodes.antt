@@ -156,7 +156,8 @@ module _ (names : KeysymNames) (old new : List Definition) (sound : is_table old
     pub parent : s.parent.0 ≡ number_of old (without_last p)
     pub keysym : s.keysym ≡ last_key p
 
-  -- the partner of an old node has what is pending in the new table after it, and the node and the key that lead to it
+  -- the partner of an old node has what is pending in the new table after it, and the node and the
+  -- key that lead to it
   pub standing : (p : List ℕ) (s : Partner) → stand names old new p ≡ Some s → Standing p s
   standing p s e = go (agrees names old new p) refl e
     where

@@ -1,5 +1,5 @@
--- For each counterexample there is a difference that is no longer: an old node at which the tables agree so far, and a
--- key at which they differ.
+-- For each counterexample there is a difference that is no longer: an old node at which the tables
+-- agree so far, and a key at which they differ.
 use Rattle.std.proofs.Common.{◌≡◌, ◌≢◌, ◌⊎◌, ℕ, ◌+◌, ◌<◌, List, [], ◌∷◌, ◌++◌, Bool, true, false, cond, not, ◌&&◌, length, refl, sym, ◌∙◌, ap, subst, inl, inr, arith, append-nil, append_assoc, length-append}
 use Rattle.std.specs.Prelude.{Option, Some, None, is_some}
 use Rattle.std.proofs.lemmas.Bool.{or_from, or_parts, or_left, or_right, not-true, not_from_false, not-false, cases_Bool}
@@ -56,15 +56,16 @@ module _ (names : KeysymNames) (fresh : List ℕ) (old new : List Definition) wh
   pub root_clear : Clear []
   root_clear = record { reached = root_reached old; along = tt }
 
-  -- if the tables agree along a node, and at a key by which the old table goes on, they agree along the node with that
-  -- key
+  -- if the tables agree along a node, and at a key by which the old table goes on, they agree along
+  -- the node with that key
   pub clear_more : (p : List ℕ) (k : ℕ) → Clear p → effect old p k ≡ extends → Agrees (step names old p k) (step names new (pending new p) k) → Clear (p ++ k ∷ [])
   clear_more p k c e a = record {
     reached = reached_more old p k c.reached e;
     along = agree_joined names old new [] [] p (k ∷ []) c.along (subst (λ (y : List ℕ). Agrees (step names old y k) (step names new (pending new p) k)) (sym c.reached.again) a, tt);
   }
 
-  -- a node, and a key there at which the tables differ: an edge of the node, or a new start that is not fresh
+  -- a node, and a key there at which the tables differ: an edge of the node, or a new start that is
+  -- not fresh
   pub record Candidate (p : List ℕ) (k : ℕ) : Type 0 where
     pub clear : Clear p
     pub key : (has_edge old p k ≡ true) ⊎ ((p ≡ []) × (has_edge old [] k ≡ false) × (has_edge new [] k ≡ true) × (has_key fresh k ≡ false))
@@ -139,8 +140,8 @@ module _ (names : KeysymNames) (fresh : List ℕ) (old new : List Definition) wh
   AlwaysReduces w k kind = (q : List ℕ) → Clear q → uncancelled_from old q (w ++ k ∷ []) ≡ true → AgreeAlong names old new q (pending new q) w
       → difference (step names old (pending_from old q w) k) (step names new (pending_from new (pending new q) w) k) ≡ Some kind → Reduces q w k
 
-  -- from the node p, over the keys w at which the tables agree, to the key k at which they differ: a difference with no
-  -- more keys, and with those of p and w if it has as many
+  -- from the node p, over the keys w at which the tables agree, to the key k at which they differ:
+  -- a difference with no more keys, and with those of p and w if it has as many
   pub reduced : (p w : List ℕ) (k : ℕ) (kind : Kind) → Clear p → has_key fresh k ≡ false → uncancelled_from old p (w ++ k ∷ []) ≡ true → AgreeAlong names old new p (pending new p) w
       → difference (step names old (pending_from old p w) k) (step names new (pending_from new (pending new p) w) k) ≡ Some kind
       → Reduces p w k

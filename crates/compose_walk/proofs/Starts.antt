@@ -53,8 +53,8 @@ module _ (names : KeysymNames) (fresh : List ℕ) (old new : List Definition) (k
       and_none true = refl
       and_none false = refl
 
-  -- a keysym that is not fresh and has no target at the old root is a differing start exactly if the steps at rest
-  -- differ
+  -- a keysym that is not fresh and has no target at the old root is a differing start exactly if
+  -- the steps at rest differ
   pub other_start : target_of old (node old 0) k ≡ None → has_key fresh k ≡ false → (a b : KeyStep) → IsStep names old (node old 0) k a → IsStep names new (node new 0) k b
       → is_some (difference_of a b) ≡ is_differing_start names fresh old new k
   other_start e f a b sa sb =

@@ -42,11 +42,13 @@ module _ (names : KeysymNames) (table : List Definition) (p : List ℕ) (k : ℕ
   step_to_leaf l bytes h found s c t m =
       step_by completes (effect_of (Some (Leaf l)) h) s c (t ∙ sym (ap (λ o. unwrap_or o []) (sym (leads_to (Some (Leaf l)) h).text ∙ found))) (m ∙ sym (root_number table))
 
-  -- a step from rest by a key that leads nowhere commits the key's own text, and nothing is pending after it
+  -- a step from rest by a key that leads nowhere commits the key's own text, and nothing is pending
+  -- after it
   pub step_at_rest : None ≡ target_of table p k → p ≡ [] → (s : KeyStep) → s.cancels ≡ false → text_bytes s.text ≡ text names k → s.next.0 ≡ 0 → IsStep names table p k s
   step_at_rest h at s c t m = step_by passes (effect_of None h ∙ ap (λ u. cond (is_empty u) passes cancels) at) s c t (m ∙ sym (root_number table))
 
-  -- a step by a key that leads nowhere from pending keysyms cancels, commits nothing, and leaves nothing pending
+  -- a step by a key that leads nowhere from pending keysyms cancels, commits nothing, and leaves
+  -- nothing pending
   pub step_breaks : None ≡ target_of table p k → is_empty p ≡ false → (s : KeyStep) → s.cancels ≡ true → text_bytes s.text ≡ [] → s.next.0 ≡ 0 → IsStep names table p k s
   step_breaks h at s c t m = step_by cancels (effect_of None h ∙ ap (λ b. cond b passes cancels) at) s c t (m ∙ sym (root_number table))
 

@@ -98,7 +98,8 @@ module _ (names : KeysymNames) (old new : List Definition) (sound : is_table old
         (sym (agrees_push names old new sound (without_last (node old i)) (last_key (node old i)) (prefix_node old (node old i) here)) ∙ ap (agrees names old new) (sym (pushed (node old i) some_key))
         ∙ agree)).0
 
-    -- keys that begin with a node begin with the node that leads to it, and go on with the key by which it does
+    -- keys that begin with a node begin with the node that leads to it, and go on with the key by
+    -- which it does
     pub one_back : (whole keys : List ℕ) → whole ≡ node old i ++ keys → whole ≡ node old s.parent.0 ++ s.keysym ∷ keys
     one_back whole keys e =
         e ∙ ap (λ p. p ++ keys) (pushed (node old i) some_key) ∙ append_assoc (without_last (node old i)) (last_key (node old i) ∷ []) keys
@@ -125,8 +126,8 @@ module _ (names : KeysymNames) (old new : List Definition) (p v : List ℕ) (k :
   pub some_difference : differs_at names old new p k ≡ true → is_some (difference_of a b) ≡ true
   some_difference d = differs_alike names old new p v k a b hp hv together old_step new_step ∙ d
 
-  -- evidence with the node and the key as its keys, the kind in which the steps differ, and their texts is that of this
-  -- place
+  -- evidence with the node and the key as its keys, the kind in which the steps differ, and their
+  -- texts is that of this place
   pub evidence_is : (x : Evidence) → x.keys ≡ p ++ k ∷ [] → ((found : Found_kind) → difference_of a b ≡ Some found → x.kind ≡ kind_of found) → x.old_text ≡ text_bytes a.text
       → x.new_text ≡ text_bytes b.text
       → (kind : Kind) → difference_at names old new p k ≡ Some kind → x ≡ evidence names old new p k kind
@@ -146,7 +147,8 @@ module _ (names : KeysymNames) (old new : List Definition) (p v : List ℕ) (k :
 -- ---- all evidence
 
 module _ (names : KeysymNames) (old new : List Definition) where
-  -- evidence that is right for the kind in which the tables differ at a place is the evidence of what was found there
+  -- evidence that is right for the kind in which the tables differ at a place is the evidence of
+  -- what was found there
   pub reported : (f : Found) → IsPlace names old new f → (x : Evidence)
       → ((kind : Kind) → difference_at names old new (node old f.node) f.keysym ≡ Some kind → x ≡ evidence names old new (node old f.node) f.keysym kind) → x ≡ evidence_found names old new f
   reported f place x e = go (difference_at names old new (node old f.node) f.keysym) refl place.differ

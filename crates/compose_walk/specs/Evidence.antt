@@ -7,7 +7,8 @@ use Rattle.compose_model.specs.Table.{Definition, same, comes_before}
 use Rattle.compose_model.specs.Step.{pending}
 use Rattle.compose_model.specs.Follows.{Kind, Counterexample}
 
--- keys at whose last one the tables differ, how they differ there, and the texts that they commit there
+-- keys at whose last one the tables differ, how they differ there, and the texts that they commit
+-- there
 pub record Evidence : Type 0 where
   pub keys : List ℕ
   pub kind : Kind
@@ -21,12 +22,14 @@ comes_first keys other = nat_lt (length keys) (length other) || (length keys == 
 abbrev pub Shows : KeysymNames → List ℕ → List Definition → List Definition → Evidence → Type 0
 Shows names fresh old new x = Counterexample names fresh old new x.keys x.kind x.old_text x.new_text
 
--- it is a counterexample, and comes before every other: none is shorter, and it is the first of the shortest
+-- it is a counterexample, and comes before every other: none is shorter, and it is the first of the
+-- shortest
 pub record IsLeast (names : KeysymNames) (fresh : List ℕ) (old new : List Definition) (x : Evidence) : Type 0 where
   pub shows : Shows names fresh old new x
   pub least : (y : Evidence) → Shows names fresh old new y → (x.keys ≡ y.keys) ⊎ IsTrue (comes_first x.keys y.keys)
 
--- a counterexample without detours: it has no ignored keysym, and the old table is never at rest on the way
+-- a counterexample without detours: it has no ignored keysym, and the old table is never at rest on
+-- the way
 pub record IsDifference (names : KeysymNames) (fresh : List ℕ) (old new : List Definition) (x : Evidence) : Type 0 where
   pub shows : Shows names fresh old new x
   pub none_ignored : IsTrue (list_all (λ k. not (is_ignored k)) x.keys)
@@ -37,8 +40,8 @@ differences_rise [] = true
 differences_rise (x ∷ []) = true
 differences_rise (x ∷ y ∷ xs) = comes_first x.keys y.keys && differences_rise (y ∷ xs)
 
--- these are all differences of the tables, each once, the shortest first and those of the same length in the order of
--- sequences
+-- these are all differences of the tables, each once, the shortest first and those of the same
+-- length in the order of sequences
 pub record AreDifferences (names : KeysymNames) (fresh : List ℕ) (old new : List Definition) (xs : List Evidence) : Type 0 where
   pub each : AllByRecursion (IsDifference names fresh old new) xs
   pub all : (x : Evidence) → IsDifference names fresh old new x → IsTrue (list_any (λ y. same y.keys x.keys) xs)

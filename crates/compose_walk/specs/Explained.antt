@@ -1,4 +1,5 @@
--- Evidence as text (this project's profile): four lines; and all differences, with a line that counts them.
+-- Evidence as text (this project's profile): four lines; and all differences, with a line that
+-- counts them.
 use Rattle.std.specs.Prelude.{ℕ, Bool, true, false, ◌==◌, if◌then◌else◌, List, [], ◌∷◌, ◌++◌, length, filter, flat_map, codes}
 use Rattle.std.specs.Fmt.{decimal}
 use Rattle.keysym_core.specs.Names.{KeysymNames}

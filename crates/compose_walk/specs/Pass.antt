@@ -1,5 +1,5 @@
--- What one pass over the nodes of the old table finds: up to which nodes the tables agree, and the keys at which they
--- then differ. Definitions for private functions.
+-- What one pass over the nodes of the old table finds: up to which nodes the tables agree, and the
+-- keys at which they then differ. Definitions for private functions.
 use Rattle.std.specs.Prelude.{ℕ, Bool, true, not, ◌&&◌, if◌then◌else◌, List, [], ◌∷◌, ◌++◌, Option, is_some}
 use Rattle.std.specs.List.{filter}
 use Rattle.keysym_core.specs.Names.{KeysymNames}

@@ -1,4 +1,5 @@
--- What the pass keeps: the partner of each old node, and the keys that it found. Definitions for private functions.
+-- What the pass keeps: the partner of each old node, and the keys that it found. Definitions for
+-- private functions.
 use Rattle.std.specs.Prelude.{◌≡◌, ℕ, ◌+◌, ◌<◌, Bool, true, false, ◌&&◌, ◌||◌, ◌==◌, nat_lt, if◌then◌else◌, List, [], ◌∷◌, ◌++◌, length, map, flat_map, Option, Some, None, unwrap_or}
 use Rattle.keysym_core.specs.Keysym.{is_ignored}
 use Rattle.keysym_core.specs.Names.{KeysymNames}
@@ -31,8 +32,8 @@ stand names old new p =
       keysym = last_key p;
     }) else None
 
--- the edge that leads to p was visited: it is at a node before the one with this number, or is one of these keys at
--- that node
+-- the edge that leads to p was visited: it is at a node before the one with this number, or is one
+-- of these keys at that node
 abbrev pub is_done : List Definition → ℕ → List ℕ → List ℕ → Bool
 is_done old i ks p = is_empty p || (nat_lt (number_of old (without_last p)) i || (number_of old (without_last p) == i && has_key ks (last_key p)))
 
@@ -51,7 +52,8 @@ found_behind names old new p = map (found_at old p) (differing_edges names old n
 abbrev pub all_found : KeysymNames → List ℕ → List Definition → List Definition → List (List ℕ) → List Found
 all_found names fresh old new ps = map (found_at old []) (differing_starts names fresh old new) ++ flat_map (found_behind names old new) ps
 
--- a has fewer keys than b, or as many and comes before it: by the numbers of their nodes, then by their last keys
+-- a has fewer keys than b, or as many and comes before it: by the numbers of their nodes, then by
+-- their last keys
 abbrev pub comes_sooner : Found → Found → Bool
 comes_sooner a b = if a.depth == b.depth then (if a.node == b.node then nat_lt a.keysym b.keysym else nat_lt a.node b.node) else nat_lt a.depth b.depth
 

@@ -19,8 +19,8 @@ bytes_conserved (gives q ∷ turns) held held' l =
     ap (λ h. h ++ stream_of turns) l.1.1 ∙ append_assoc (frame q) l.1.0 (stream_of turns)
     ∙ ap (λ x. frame q ++ x) (bytes_conserved turns l.1.0 held' l.1.2) ∙ sym (append_assoc (frame q) (frames (requests_of turns)) held')
 
--- the same stream leads to the same requests, and leaves the same bytes, however it is cut, once each side has returned
--- all that are whole
+-- the same stream leads to the same requests, and leaves the same bytes, however it is cut, once
+-- each side has returned all that are whole
 pub any_cut : (turns turns' : List Turn) (held held' : List ℕ) → Leads [] turns held → Leads [] turns' held' → stream_of turns ≡ stream_of turns'
     → (BeginsWithFrame held → ⊥) → (BeginsWithFrame held' → ⊥) → (requests_of turns ≡ requests_of turns') × (held ≡ held')
 any_cut turns turns' held held' l l' e n n' =

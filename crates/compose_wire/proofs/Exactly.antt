@@ -15,7 +15,8 @@ module _ (held held' : List ℕ) where
   frame_or_fault : (q : RequestValue) (more : List ℕ) → Fits q → held ≡ frame q ++ more → (fault : Fault) → fault_at held ≡ Some fault → ⊥
   frame_or_fault q more f e fault w = let n : None ≡ Some fault = sym (no_fault q more f) ∙ ap fault_at (sym e) ∙ w in cc
 
-  -- if the held bytes begin with a frame, its request is returned, or an error if a load needs memory
+  -- if the held bytes begin with a frame, its request is returned, or an error if a load needs
+  -- memory
   pub gives_request : (r : Result (Option Request) WireFault) → Returns r held held' → (q : RequestValue) (more : List ℕ) → Fits q → held ≡ frame q ++ more → ReturnsRequest q more r held'
   gives_request (Ok (Some p)) so q more f e = one_frame _ q held' more so.0 f (sym so.1 ∙ e)
   gives_request (Ok None) so q more f e = absurd (so.0.no_frame (q, more, f, e))

@@ -64,7 +64,8 @@ module _ (h : List ℕ) (n session : ℕ) (body : Body) (sized : IsSize (Ok (Som
         let same_body : body ≡ body_at (get_or h 0 0) (take (stated_size h) (drop 9 h)) = says ∙ ap (λ m. body_at (get_or h 0 0) (take m (drop 9 h))) sized.1 in
         λ i. record { session = same_session i; body = same_body i }
 
-    -- the session and the body that are read from a whole frame are its request, and the bytes begin with that frame
+    -- the session and the body that are read from a whole frame are its request, and the bytes
+    -- begin with that frame
     pub is_first_request : Fits (record { session = session; body = body }) × (h ≡ frame (record { session = session; body = body }) ++ drop (9 + n) h) × (9 + n ≤ length h)
     is_first_request =
         let r = is_read h sized.0 in (

@@ -3,7 +3,8 @@ use Rattle.std.specs.Prelude.{◌≡◌, ℕ, List, [], ◌∷◌, ◌++◌}
 use Rattle.compose_wire.specs.Messages.{Request, Fits}
 use Rattle.compose_wire.specs.Frames.{frame}
 
--- what is done with a feeder: it takes a piece after the held bytes, or returns a request from their beginning
+-- what is done with a feeder: it takes a piece after the held bytes, or returns a request from
+-- their beginning
 pub data Turn : Type 0 where
   takes : List ℕ → Turn
   gives : Request → Turn

@@ -31,8 +31,8 @@ IsFaultOf held BadLength = fault_at held ≡ Some bad_length
 IsFaultOf held TooLong = fault_at held ≡ Some too_long
 IsFaultOf held NoMemory = BeginsWithLoad held
 
--- the result for the held bytes, and what is held after it: if they begin with a frame, its request is returned; else
--- all is held as before
+-- the result for the held bytes, and what is held after it: if they begin with a frame, its request
+-- is returned; else all is held as before
 abbrev pub Returns : Result (Option Request) WireFault → List ℕ → List ℕ → Type 0
 Returns (Ok (Some q)) held held' = Fits (request_of q) × (held ≡ frame (request_of q) ++ held')
 Returns (Ok None) held held' = IsBegun held × (length held < max_frame) × (held' ≡ held)

@@ -1,4 +1,5 @@
--- Frames: a kind, a session, a length and a payload; all numbers are big-endian (this project's protocol).
+-- Frames: a kind, a session, a length and a payload; all numbers are big-endian (this project's
+-- protocol).
 use Rattle.std.specs.Prelude.{◌≡◌, ℕ, not, ◌||◌, ◌==◌, nat_lt, if◌then◌else◌, List, [], ◌∷◌, ◌++◌, length, take, drop, flat_map, Option, Some, None}
 use Rattle.std.specs.Int.{to_be_bytes, from_be_bytes, w16, w32, w64}
 use Rattle.compose_text.specs.Numbers.{is_between}
@@ -50,8 +51,8 @@ length_fault kind n =
     if kind == 5 || kind == 7 then (if nat_lt max_payload n then Some too_long else None) else
     if n == (if kind == 2 then 4 else 0) then None else Some bad_length
 
--- the fault at the beginning of the bytes: an unknown kind from the first byte on, a wrong length from the nine bytes
--- of the head on
+-- the fault at the beginning of the bytes: an unknown kind from the first byte on, a wrong length
+-- from the nine bytes of the head on
 abbrev pub fault_at : List ℕ → Option Fault
 fault_at [] = None
 fault_at (kind ∷ rest) =
@@ -77,8 +78,8 @@ answer_kind (loaded count) = 0x85
 answer_kind (state status pending) = 0x86
 answer_kind (refused why) = 0xff
 
--- the status, whether the key was accepted, and the text; the count in eight bytes; the status, the number of pending
--- keysyms, and each in four bytes; the code in two bytes; or else nothing
+-- the status, whether the key was accepted, and the text; the count in eight bytes; the status, the
+-- number of pending keysyms, and each in four bytes; the code in two bytes; or else nothing
 abbrev pub answer_payload : ReplyBody → List ℕ
 answer_payload (fed status accepted text) = status_byte status ∷ (if accepted then 1 else 0) ∷ text
 answer_payload (loaded count) = to_be_bytes w64 count

@@ -1,12 +1,13 @@
--- The grammar of a line of libxkbcommon (the head of its src/compose/parser.c), of a line that defines a sequence:
+-- The grammar of a line of libxkbcommon (the head of its src/compose/parser.c), of a line that
+-- defines a sequence:
 --
 --     LINE      = { KEY } ":" RESULT
 --     KEY       = [ MODIFIERS ] "<" name ">"
 --     MODIFIERS = "None" | [ "!" ] { [ "~" ] name }
 --     RESULT    = string [ name ] | name
 --
--- Modifiers have no meaning there. Behind the name of a result the definition is complete, and the rest of the line is
--- no part of it.
+-- Modifiers have no meaning there. Behind the name of a result the definition is complete, and the
+-- rest of the line is no part of it.
 use Rattle.std.specs.Prelude.{ℕ, Bool, zero, suc, ◌||◌, ◌&&◌, ◌==◌, nat_lt, false, if◌then◌else◌, List, [], ◌∷◌, length, drop, Option, Some, None, bytes_eq, codes}
 use Rattle.std.specs.Char.{is_ascii_alphabetic}
 use Rattle.std.specs.List.{list_any}

@@ -1,4 +1,5 @@
--- The text of a string of libxkbcommon (version 1.7, src/compose/parser.c), given what stands between its quotes.
+-- The text of a string of libxkbcommon (version 1.7, src/compose/parser.c), given what stands
+-- between its quotes.
 use Rattle.std.specs.Prelude.{ℕ, Bool, zero, suc, ◌+◌, ◌||◌, ◌&&◌, ◌==◌, nat_le, not, if◌then◌else◌, List, [], ◌∷◌, ◌++◌, length, take, option_to_list}
 use Rattle.std.specs.List.{list_any}
 use Rattle.std.specs.Str.{is_utf8}
@@ -7,8 +8,9 @@ use Rattle.compose_text.specs.Bytes.{leading}
 use Rattle.compose_text.specs.Numbers.{is_hexadecimal_digit}
 use Rattle.compose_lex.specs.Escape.{byte_of, is_octal}
 
--- the number of bytes that an escape takes after its backslash: `\` and `"` (codes 92 and 34); `x` or `X` (codes 120 and
--- 88) and up to two digits; up to three octal digits; else none, as then the backslash alone is dropped
+-- the number of bytes that an escape takes after its backslash: `\` and `"` (codes 92 and 34); `x`
+-- or `X` (codes 120 and 88) and up to two digits; up to three octal digits; else none, as then the
+-- backslash alone is dropped
 abbrev pub escape_len : List ℕ → ℕ
 escape_len [] = 0
 escape_len (e ∷ rest) =

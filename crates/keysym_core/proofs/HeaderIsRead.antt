@@ -1,4 +1,5 @@
--- The header of the built-in names gives the names and characters of the tables: written by `make names`.
+-- The header of the built-in names gives the names and characters of the tables: written by `make
+-- names`.
 use Rattle.std.proofs.Common.{◌≡◌, ◌∙◌}
 use Rattle.std.specs.Prelude.{Ok}
 use Rattle.keysym_core.specs.Header.{names_of}

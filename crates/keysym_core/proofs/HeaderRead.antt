@@ -15,7 +15,8 @@ use Rattle.keysym_core.proofs.HeaderComments.{character_read}
 
 -- ---- first bytes
 
--- blanks before bytes that do not begin with such a byte do not begin with one either, since no blank is such a byte
+-- blanks before bytes that do not begin with such a byte do not begin with one either, since no
+-- blank is such a byte
 blanks_first : (p : ℕ → Bool) (blanks rest : List ℕ) → ((b : ℕ) → is_blank b ≡ true → p b ≡ false) → list_all is_blank blanks ≡ true → begins p rest ≡ false → begins p (blanks ++ rest) ≡ false
 blanks_first p [] rest apart all stops = stops
 blanks_first p (b ∷ blanks) rest apart all stops = apart b (and_parts (is_blank b) (list_all is_blank blanks) all).0

@@ -161,7 +161,8 @@ pub rows_from : (rows : List (Bor (List ℕ) × ℕ)) (i : ℕ) (d : Bor (List �
     → map listed_row (drop i rows) ≡ listed_row (get_or rows i d) ∷ map listed_row (drop (i + 1) rows)
 rows_from rows i d h = ap (map listed_row) (drop-cons rows i d h) ∙ ap (λ n. listed_row (get_or rows i d) ∷ map listed_row (drop n rows)) (sym (add-one i))
 
--- one turn over rows that can be added after the others: the row of this turn, and the rows that are left
+-- one turn over rows that can be added after the others: the row of this turn, and the rows that
+-- are left
 pub record Turn (names : List NameRow) (row : NameRow) (left all : List NameRow) : Type 0 where
   pub keysym : row.value ≤ max_keysym
   pub addable : is_addable names row ≡ true

@@ -4,7 +4,8 @@ use Rattle.keysym_core.specs.Names.{NameRow, CharacterRow, KeysymNames}
 use Rattle.keysym_core.specs.declared.built_in_rows.TheConstants.{TEXT, STARTS, KEYSYMS}
 use Rattle.keysym_core.specs.declared.built_in_characters.TheConstants.{CHARACTERS}
 
--- names with their keysyms, where each name is the part of a text from its own start to the next one
+-- names with their keysyms, where each name is the part of a text from its own start to the next
+-- one
 abbrev pub rows_from : List ℕ → List ℕ → List ℕ → List NameRow
 rows_from [] keysyms text = []
 rows_from (start ∷ []) keysyms text = []

@@ -34,7 +34,8 @@ AreKeysyms rows = (c k : ℕ) → list_any (is_entry c k) rows ≡ true → k �
 abbrev pub counts : CharacterRow → Bool
 counts row = not (is_fixed row.value)
 
--- the rows, and one that assigns the character to k unless a row does so already: the first one counts
+-- the rows, and one that assigns the character to k unless a row does so already: the first one
+-- counts
 abbrev pub with_character : List CharacterRow → ℕ → ℕ → List CharacterRow
 with_character rows k c = if is_some (first_character rows k) then rows else rows ++ record { value = k; character = c } ∷ []
 

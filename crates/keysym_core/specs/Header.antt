@@ -1,4 +1,5 @@
--- A header of names (the lines of keysymdef.h; which comments assign a character is this project's profile).
+-- A header of names (the lines of keysymdef.h; which comments assign a character is this project's
+-- profile).
 use Rattle.std.specs.Prelude.{◌≡◌, ℕ, ◌+◌, Bool, false, ◌&&◌, ◌||◌, not, ◌==◌, nat_le, nat_lt, if◌then◌else◌, List, [], ◌∷◌, ◌++◌, length, take, drop, Option, Some, None, is_some, Result, Ok, Err, bytes_eq, codes}
 use Rattle.std.specs.List.{position_or_len}
 use Rattle.std.specs.Option.{option_map, option_map_or}
@@ -80,8 +81,8 @@ entry_of bytes =
 abbrev pub define : List ℕ
 define = codes "#define XK_"
 
--- the definition in a whole line: the entry to which DefinesEntry of HeaderLine relates it, and none if there is no
--- such entry
+-- the definition in a whole line: the entry to which DefinesEntry of HeaderLine relates it, and
+-- none if there is no such entry
 abbrev pub defined_entry : List ℕ → Option HeaderEntry
 defined_entry line = if begins_with define line then entry_of (drop (length define) line) else None
 
@@ -113,7 +114,8 @@ abbrev pub with_entry : KeysymNames → ℕ → Option HeaderEntry → Result Ke
 with_entry names n None = Err (BadLine n)
 with_entry names n (Some entry) = if is_keysym entry.value then with_noted (with_name names n entry.name entry.value) entry.value entry.character else Err (ValueTooLarge n)
 
--- the names, and the definition in the text of the line n, which is skipped if it does not define the name of a keysym
+-- the names, and the definition in the text of the line n, which is skipped if it does not define
+-- the name of a keysym
 abbrev pub with_text : KeysymNames → ℕ → List ℕ → Result KeysymNames NameFault
 with_text names n line = if begins_with define line then with_entry names n (defined_entry line) else Ok names
 

@@ -1,5 +1,5 @@
--- The grammar of a line of a header that defines a name (the form of keysymdef.h; which comments assign a character is
--- this project's profile). A line is its bytes, without the newline.
+-- The grammar of a line of a header that defines a name (the form of keysymdef.h; which comments
+-- assign a character is this project's profile). A line is its bytes, without the newline.
 use Rattle.std.specs.Prelude.{◌≡◌, ◌⊎◌, ℕ, Bool, not, ◌&&◌, nat_lt, List, [], ◌++◌, length, Option, Some, None, IsTrue, codes}
 use Rattle.std.specs.List.{list_all}
 use Rattle.compose_text.specs.Numbers.{is_hexadecimal_digit, is_hexadecimal, hexadecimal}
@@ -12,8 +12,8 @@ are_some p bytes = nat_lt 0 (length bytes) && list_all p bytes
 
 -- ---- comments
 
--- the text of a comment has the number: perhaps blanks, perhaps `(`, `U+`, four to six digits, and other bytes after
--- them, of which the first is not a digit
+-- the text of a comment has the number: perhaps blanks, perhaps `(`, `U+`, four to six digits, and
+-- other bytes after them, of which the first is not a digit
 pub record NotesNumber (text : List ℕ) (number : ℕ) : Type 0 where
   pub blanks : List ℕ
   pub opening : List ℕ
@@ -26,8 +26,8 @@ pub record NotesNumber (text : List ℕ) (number : ℕ) : Type 0 where
   pub are_all_digits : IsTrue (not (begins is_hexadecimal_digit others))
   pub is_number : hexadecimal digits ≡ number
 
--- the text of a comment assigns the character: its number is that of the character, which is graphic. It assigns none
--- if it has no such number
+-- the text of a comment assigns the character: its number is that of the character, which is
+-- graphic. It assigns none if it has no such number
 abbrev pub NotesCharacter : List ℕ → Option ℕ → Type 0
 NotesCharacter text (Some c) = NotesNumber text c × IsTrue (is_graphic c)
 NotesCharacter text None = (number : ℕ) → NotesNumber text number → IsTrue (not (is_graphic number))
@@ -44,8 +44,8 @@ abbrev pub CommentNotes : Option (List ℕ) → Option ℕ → Type 0
 CommentNotes None character = character ≡ None
 CommentNotes (Some text) character = NotesCharacter text character
 
--- the line defines the entry: `#define XK_`, its name, blanks, `0x`, one to eight digits of its value, perhaps blanks,
--- and perhaps a comment
+-- the line defines the entry: `#define XK_`, its name, blanks, `0x`, one to eight digits of its
+-- value, perhaps blanks, and perhaps a comment
 pub record DefinesEntry (line : List ℕ) (entry : HeaderEntry) : Type 0 where
   pub blanks : List ℕ
   pub digits : List ℕ

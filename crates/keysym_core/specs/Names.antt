@@ -28,7 +28,8 @@ is_latin1 k = is_between 0x20 0x7e k || is_between 0xa0 0xff k
 abbrev pub is_surrogate : ℕ → Bool
 is_surrogate c = is_between 0xd800 0xdfff c
 
--- a keysym from 0x01000100 on stands for the character with its number less 0x01000000 (keysymdef.h)
+-- a keysym from 0x01000100 on stands for the character with its number less 0x01000000
+-- (keysymdef.h)
 abbrev pub is_unicode_keysym : ℕ → Bool
 is_unicode_keysym k = is_between 0x01000100 0x0110ffff k
 

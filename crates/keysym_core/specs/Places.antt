@@ -19,7 +19,8 @@ keysym_hash keysym = mixed 0 keysym
 abbrev pub number_at : ℕ → List (List ℕ) → ℕ → ℕ
 number_at width rows index = slice_index_or (slice_index_or rows (index / width) []) (index % width) 0
 
--- the place of a hash: twelve bits of it, shifted by the shift of its group, which is its ten highest bits
+-- the place of a hash: twelve bits of it, shifted by the shift of its group, which is its ten
+-- highest bits
 abbrev pub place_of : List (List ℕ) → ℕ → ℕ
 place_of shifts hash = (hash / 2 ^ 42 + number_at 32 shifts (hash / 2 ^ 54)) % 4096
 

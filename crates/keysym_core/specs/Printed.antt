@@ -16,8 +16,8 @@ at_least_four ds = replicate (4 - length ds) 48 ++ ds
 abbrev pub has_character_form : ℕ → Bool
 has_character_form k = is_unicode_keysym k && not (is_surrogate (k - 0x01000000))
 
--- the name of a keysym that has none in the table: the letter U (code 85) and upper case digits, else `0x` (codes 48
--- and 120) and lower case digits
+-- the name of a keysym that has none in the table: the letter U (code 85) and upper case digits,
+-- else `0x` (codes 48 and 120) and lower case digits
 abbrev pub form_of : ℕ → List ℕ
 form_of k = if has_character_form k then 85 ∷ at_least_four (digits 16 true (k - 0x01000000)) else 48 ∷ 120 ∷ digits 16 false k
 

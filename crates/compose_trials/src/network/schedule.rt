@@ -6,11 +6,11 @@ use crate::chance::Chance;
 use crate::devices::{Behaviour, TrialReader, TrialWriter};
 use crate::failure::Failure;
 use crate::input::{read_file, start_service};
-use crate::network::Network;
 use crate::network::client::TestClient;
+use crate::network::{Network, NetworkListener, NetworkReadiness};
 use crate::output::print_line;
 use crate::serving::serve;
-use compose_hub::{ConnectionEnd, EndReport, Limits, serve_at_once};
+use compose_hub::{ConnectionEnd, EndReport, Limits, PolledSockets, serve_at_once};
 use compose_serve::{Device, ServeFault, StreamEnd};
 use compose_service::Service;
 use compose_tree::PackedTable;
@@ -102,12 +102,31 @@ fn run_one(
     let clients = memory(clients_of(rt.alloc(), load, &mut chance))?;
     let limits = limits_of(&mut chance);
     let mut ends = memory(no_ends(rt.alloc()))?;
-    let mut network = Network::new(rt.alloc(), clients, chance, longest_of(limits));
-    let mut service = start_service(rt)?;
-    if serve_at_once(&mut network, rt.alloc(), &mut *service, limits, &mut ends).is_err() {
+    let network = Network::new(clients, chance, longest_of(limits));
+    if serve_network(rt, &network, limits, &mut ends)?.is_err() {
         return Ok(false);
     }
-    compare_all(rt, network.clients(), &ends, limits, counts)
+    compare_all(rt, &network.into_clients(), &ends, limits, counts)
+}
+
+/// Serves the clients of a network, and keeps how they ended.
+fn serve_network(
+    rt: &HostRuntime,
+    network: &Network,
+    limits: Limits,
+    ends: &mut Ends,
+) -> Result<io::Result<()>, Failure> {
+    let mut service = start_service(rt)?;
+    let mut sockets = PolledSockets::new(NetworkListener { network }, rt.alloc());
+    let mut readiness = NetworkReadiness { network };
+    Ok(serve_at_once(
+        &mut sockets,
+        &mut readiness,
+        rt.alloc(),
+        &mut *service,
+        limits,
+        ends,
+    ))
 }
 
 /// Returns what was made, or `NoMemory`.

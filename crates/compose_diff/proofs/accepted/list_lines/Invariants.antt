@@ -3,7 +3,8 @@ use Rattle.compose_text.specs.Lines.{lines_of}
 use Rattle.compose_diff.specs.Accepted.{list_lines_from}
 use Rattle.compose_diff.proofs.accepted.list_lines.Given as goal
 
--- the lines so far and those of the remaining bytes are all lines, and no more lines were read than bytes
+-- the lines so far and those of the remaining bytes are all lines, and no more lines were read than
+-- bytes
 abbrev pub invariant-loop-text : goal.invariant-loop-text
 invariant-loop-text l = record {
   lines : l.lines.items ++ list_lines_from (1 + l.number) (lines_of l.rest) ≡ list_lines_from 1 (lines_of l.bytes);

@@ -7,7 +7,8 @@ use Rattle.compose_fresh.specs.Conditions.{first_unmet}
 use Rattle.compose_fresh.specs.Fresh.{one_fresh_conditions}
 use Rattle.compose_fresh.proofs.fresh.first_stale.Given as goal
 
--- no keysym so far is used, and the conditions on the remaining ones have the same first fault as those on all of them
+-- no keysym so far is used, and the conditions on the remaining ones have the same first fault as
+-- those on all of them
 abbrev pub invariant-loop-index : goal.invariant-loop-index
 invariant-loop-index l =
     (l.index ≤ l.used)

@@ -1,4 +1,4 @@
-use Rattle.std.proofs.Common.{◌≡◌, ◌∙◌, true, refl, sym, ap, inr, subst, rules}
+use Rattle.std.proofs.Common.{◌≡◌, ◌∙◌, true, refl, ap, inr, subst, rules}
 use Rattle.std.specs.Prelude.{ℕ, Option, Some, None, Result}
 use Rattle.compose_serve.specs.declared.ends.StreamEnd.{StreamEnd}
 use Rattle.compose_serve.specs.declared.ends.ServeFault.{ServeFault}
@@ -41,7 +41,7 @@ returns-in-GoesOn-clause-turns g c =
       c.take_turns.new.self.connection,
       g.N.Streams.stream c.take_turns.new.streams,
       c.in-GoesOn.ensures.turns.0,
-      c.pause.ensures.stay,
+      λ n. refl,
       follows c.in-Some.client c.take_turns.new.self c.pause.new.client ForTurn c.pause.new.time c.in-GoesOn.ensures.turns.1 c.pause.ensures.waits c.pause.result c.pause.ensures.none,
     )
 
@@ -58,7 +58,7 @@ returns-in-Loaded-clause-turns g c =
       c.take_turns.new.self.connection,
       g.N.Streams.stream c.take_turns.new.streams,
       c.in-Loaded.ensures.turns.0,
-      c.pause-in-Loaded.ensures.stay,
+      λ n. refl,
       follows c.in-Some.client c.take_turns.new.self c.pause-in-Loaded.new.client ForTurn c.pause-in-Loaded.new.time c.in-Loaded.ensures.turns.1 c.pause-in-Loaded.ensures.waits c.pause-in-Loaded.result c.pause-in-Loaded.ensures.none,
     )
 
@@ -75,7 +75,7 @@ returns-in-Waits-clause-turns g c =
       c.take_turns.new.self.connection,
       g.N.Streams.stream c.take_turns.new.streams,
       c.in-Waits.ensures.turns.0,
-      c.pause-in-Waits.ensures.stay,
+      λ n. refl,
       follows c.in-Some.client c.take_turns.new.self c.pause-in-Waits.new.client ForStream c.pause-in-Waits.new.time c.in-Waits.ensures.turns.1 c.pause-in-Waits.ensures.waits c.pause-in-Waits.result c.pause-in-Waits.ensures.none,
     )
 
@@ -92,7 +92,7 @@ returns-in-NeedsRoom-clause-turns g c =
       c.take_turns.new.self.connection,
       g.N.Streams.stream c.take_turns.new.streams,
       c.in-NeedsRoom.ensures.turns.0,
-      c.pause-in-NeedsRoom.ensures.stay,
+      λ n. refl,
       follows c.in-Some.client c.take_turns.new.self c.pause-in-NeedsRoom.new.client ForRoom c.pause-in-NeedsRoom.new.time c.in-NeedsRoom.ensures.turns.1 c.pause-in-NeedsRoom.ensures.waits c.pause-in-NeedsRoom.result c.pause-in-NeedsRoom.ensures.none,
     )
 

@@ -7,8 +7,8 @@ use Rattle.compose_manifest.proofs.manifest.read_manifest.Given as goal
 abbrev nothing : Listing
 nothing = record { rule = None; paths_here = false; entries = [] }
 
--- the remaining lines lead from the listing so far to the same result as all lines, and no more lines were read than
--- there are bytes
+-- the remaining lines lead from the listing so far to the same result as all lines, and no more
+-- lines were read than there are bytes
 abbrev pub invariant-loop-line : goal.invariant-loop-line
 invariant-loop-line l =
     (lines_on (1 + l.number) (lines_of l.rest) (Ok l.manifest) ≡ lines_on 1 (lines_of l.bytes) (Ok nothing))

@@ -1,24 +1,17 @@
-use Rattle.std.proofs.Common.{◌≡◌, ◌<◌, List, length, sym, subst, rules}
-use Rattle.std.specs.Prelude.{Some, None}
-use Rattle.compose_many.specs.Owners.{first_own}
+use Rattle.std.proofs.Common.{List, not, ◌==◌, sym, ap, subst}
+use Rattle.compose_many.specs.Owners.{OwnersState, EachOnce, ClosesOwn}
 use Rattle.compose_many.specs.declared.owners.Owner.{Owner}
-use Rattle.compose_many.proofs.Owning.{closed_more, closed_all, fewer_left}
+use Rattle.compose_many.proofs.Once.{once_filter}
+use Rattle.compose_many.proofs.Owning.{closes_as}
 use Rattle.compose_many.proofs.owners.close_own.Goals as goal
 
-pub returns-in_default : goal.returns-in_default
-returns-in_default g c =
-    let none : first_own c.args.number c.sessions.owners.items ≡ None = search rules in
-    closed_all c.args.number g.A.Responder.reading (g.A.Responder.state c.args.service.now) (g.A.Responder.state c.sessions.service) (g.A.Responder.state c.sessions.service) c.args.owners.now.items c.sessions.owners.items
-    c.sessions.owners.items c.sessions.invariant none
+pub invariant_of-owners : goal.invariant_of-owners
+invariant_of-owners g c =
+    subst (λ (os : List Owner). EachOnce os) (sym c.forget_all.ensures) (once_filter (λ (o : Owner). not (o.connection == c.args.number)) c.owners.inside.list.items c.owners.invariant)
 
-pub sessions-smaller : goal.sessions-smaller
-sessions-smaller g c =
-    let some : first_own c.args.number c.sessions.owners.items ≡ Some c.in-Some.session = search rules in
-    subst (λ (o : List Owner). length o < length c.sessions.owners.items) (sym c.close.ensures.owners) (fewer_left c.args.number c.in-Some.session c.sessions.owners.items some)
-
-pub sessions-preserved : goal.sessions-preserved
-sessions-preserved g c =
-    let some : first_own c.args.number c.sessions.owners.items ≡ Some c.in-Some.session = search rules in
-    let so = c.close.ensures.so in
-    closed_more c.args.number g.A.Responder.reading (g.A.Responder.state c.args.service.now) (g.A.Responder.state c.sessions.service) (g.A.Responder.state c.close.new.service) c.args.owners.now.items
-    c.sessions.owners.items c.close.new.owners.items c.sessions.invariant c.in-Some.session some so.0 so.1 so.2 so.3 c.close.ensures.owners
+pub returns : goal.returns
+returns g c =
+    let so = c.close_each.ensures in
+    closes_as c.args.number g.A.Responder.reading (g.A.Responder.state c.args.service.now) (g.A.Responder.state c.close_each.new.service) c.owners.inside.list.items c.args.owners.now.list
+    c.forget_all.new.owners.items c.owners.invariant (ap (λ (o : OwnersState). o.list) c.owners.view_is) c.forget_all.ensures so.0
+    (subst (λ (os : List Owner). ClosesOwn c.args.number os so.0) c.as_slice.ensures.value so.1) so.2

@@ -56,7 +56,7 @@ returns-then-not-is_empty-clause-turn g c =
     let so = c.in_default.ensures.so in
     let answers =
     subst
-    (λ (n : ℕ). AnswersAs n c.args.number c.args.owners.now.items c.answer_held-stop.new.owners.items g.A.Responder.reading (g.A.Responder.state c.args.service.now)
+    (λ (n : ℕ). AnswersAs n c.args.number c.args.owners.now.list c.answer_held-stop.new.owners.list g.A.Responder.reading (g.A.Responder.state c.args.service.now)
     (g.A.Responder.state c.answer_held-stop.new.service) c.send_on.new.connection c.answer_held-stop.new.self c.answer_held-stop.result) c.max.ensures c.answer_held-stop.ensures in
     let now = c.answer_held-stop.new.self in
     let some = some_left c.unsent.result.now now.unsent c.is_empty.result c.if-not-is_empty.true c.is_empty.ensures c.unsent.ensures in
@@ -86,7 +86,7 @@ returns-in-NeedsBytes-clause-turn g c =
     let so = c.in_default.ensures.so in
     let answers =
     subst
-    (λ (n : ℕ). AnswersAs n c.args.number c.args.owners.now.items c.answer_held-stop.new.owners.items g.A.Responder.reading (g.A.Responder.state c.args.service.now)
+    (λ (n : ℕ). AnswersAs n c.args.number c.args.owners.now.list c.answer_held-stop.new.owners.list g.A.Responder.reading (g.A.Responder.state c.args.service.now)
     (g.A.Responder.state c.answer_held-stop.new.service) c.send_on.new.connection c.answer_held-stop.new.self c.answer_held-stop.result) c.max.ensures c.answer_held-stop.ensures in
     let stop = c.answer_held-stop.result in
     let mid = c.answer_held-stop.new.self in
@@ -120,7 +120,7 @@ returns-in-NeedsBytes-clause-turn g c =
       follows_read c.args.limits.held after c.read_on.new.connection read.0 left' read_new.read_mark
           read_new.write_mark stops.0 quiet c.read_on.result c.args.connection.now (sends so.0 ∷ answers.0)
           (subst (λ (t : ConnectionState). ReadsAs c.args.limits.held c.read_on.result t read.0 c.read_on.new.connection left' read_new.read_mark) kept read.3),
-      answers.6 ∙ ap (owners_by c.args.number c.args.owners.now.items) (sym (exchanges_read (sends so.0 ∷ answers.0) read.0)),
+      answers.6 ∙ ap (owners_by c.args.number c.args.owners.now.list) (sym (exchanges_read (sends so.0 ∷ answers.0) read.0)),
     )
 
 pub returns-in-NoMemory-clause-turn : goal.returns-in-NoMemory-clause-turn
@@ -131,7 +131,7 @@ returns-in-NoMemory-clause-turn g c =
     let so = c.in_default.ensures.so in
     let answers =
     subst
-    (λ (n : ℕ). AnswersAs n c.args.number c.args.owners.now.items c.answer_held-stop.new.owners.items g.A.Responder.reading (g.A.Responder.state c.args.service.now)
+    (λ (n : ℕ). AnswersAs n c.args.number c.args.owners.now.list c.answer_held-stop.new.owners.list g.A.Responder.reading (g.A.Responder.state c.args.service.now)
     (g.A.Responder.state c.answer_held-stop.new.service) c.send_on.new.connection c.answer_held-stop.new.self c.answer_held-stop.result) c.max.ensures c.answer_held-stop.ensures in
     let mid = c.answer_held-stop.new.self in
     let after = answers.1 in
@@ -158,7 +158,7 @@ returns-in-TooManyFrames-clause-turn g c =
     let so = c.in_default.ensures.so in
     let answers =
     subst
-    (λ (n : ℕ). AnswersAs n c.args.number c.args.owners.now.items c.answer_held-stop.new.owners.items g.A.Responder.reading (g.A.Responder.state c.args.service.now)
+    (λ (n : ℕ). AnswersAs n c.args.number c.args.owners.now.list c.answer_held-stop.new.owners.list g.A.Responder.reading (g.A.Responder.state c.args.service.now)
     (g.A.Responder.state c.answer_held-stop.new.service) c.send_on.new.connection c.answer_held-stop.new.self c.answer_held-stop.result) c.max.ensures c.answer_held-stop.ensures in
     let after = answers.1 in
     let stops = subst (λ (s : Stop). StopsAs (max c.args.limits.unsent 1) s after) c.in-TooManyFrames.is answers.3 in (
@@ -179,7 +179,7 @@ pub returns-in-Full-clause-turn : goal.returns-in-Full-clause-turn
 returns-in-Full-clause-turn g c =
     let answers =
     subst
-    (λ (n : ℕ). AnswersAs n c.args.number c.args.owners.now.items c.answer_held-stop.new.owners.items g.A.Responder.reading (g.A.Responder.state c.args.service.now)
+    (λ (n : ℕ). AnswersAs n c.args.number c.args.owners.now.list c.answer_held-stop.new.owners.list g.A.Responder.reading (g.A.Responder.state c.args.service.now)
     (g.A.Responder.state c.answer_held-stop.new.service) c.send_on.new.connection c.answer_held-stop.new.self c.answer_held-stop.result) c.max.ensures c.answer_held-stop.ensures in
     absurd
     (not_full (max c.args.limits.unsent 1) c.answer_held-stop.result answers.1 c.answer_held-stop.new.self (omega arith) c.in-Full.is answers.3 answers.4

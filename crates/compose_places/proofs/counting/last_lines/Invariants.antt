@@ -6,8 +6,8 @@ use Rattle.compose_model.specs.Table.{is_sequence}
 use Rattle.compose_places.specs.Counting.{counting_line, defined_sequence}
 use Rattle.compose_places.proofs.counting.last_lines.Given as goal
 
--- so far each leaf has the last of the lines that were read, and the sequences that the table doesn't have are appended
--- to the others
+-- so far each leaf has the last of the lines that were read, and the sequences that the table
+-- doesn't have are appended to the others
 abbrev pub invariant-loop-index : goal.invariant-loop-index
 invariant-loop-index g l = record {
   fits : length l.kept.items ≡ length (leaves (g.T.ComposeTable.definitions l.table));

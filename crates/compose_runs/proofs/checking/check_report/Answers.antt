@@ -3,7 +3,7 @@ use Rattle.compose_report.specs.Outcomes.{IsWorded}
 use Rattle.compose_report.proofs.Results.{ok_map}
 use Rattle.compose_runs.specs.Checking.{allowed_names, given_parts}
 use Rattle.compose_runs.specs.Reports.{IsReport}
-use Rattle.compose_runs.proofs.Lent.{names_or_none}
+use Rattle.compose_given.proofs.Lent.{names_or_none}
 use Rattle.compose_runs.proofs.checking.check_report.Goals as goal
 
 pub returns : goal.returns
@@ -23,7 +23,6 @@ returns g c =
         repertoire_text = c.deref.ensures.value;
         certificate = refl;
         certificate_text = c.deref-2.ensures.value;
-        all = parts.all;
       };
       reported = reported;
     }) c.worded_outcome.ensures

@@ -1,6 +1,6 @@
 use Rattle.std.proofs.Common.{refl, inl, map}
 use Rattle.compose_input.specs.declared.fault.Fault.TheVariants.{NoMemory}
-use Rattle.compose_runs.proofs.Failing.{handed}
+use Rattle.compose_given.proofs.Failing.{handed}
 use Rattle.compose_runs.specs.Faults.{FailsCheck}
 use Rattle.compose_runs.proofs.checking.run_check.Goals as goal
 

@@ -1,5 +1,5 @@
 use Rattle.std.proofs.Common.{refl, inl, map}
-use Rattle.compose_runs.proofs.Failing.{handed, memory}
+use Rattle.compose_given.proofs.Failing.{handed, memory}
 use Rattle.compose_runs.specs.Faults.{FailsCheckFiles}
 use Rattle.compose_runs.proofs.checking.run_check_files.Goals as goal
 

@@ -1,6 +1,6 @@
 use Rattle.std.proofs.Common.{refl, inl, inr, map}
 use Rattle.compose_input.specs.declared.fault.Fault.TheVariants.{NoMemory}
-use Rattle.compose_runs.proofs.Failing.{handed}
+use Rattle.compose_given.proofs.Failing.{handed}
 use Rattle.compose_runs.specs.Faults.{FailsDiffRun}
 use Rattle.compose_runs.proofs.differing.run_diff.Goals as goal
 

@@ -4,7 +4,7 @@ use Rattle.compose_input.specs.Tables.{IsFoundOnSystem}
 use Rattle.compose_report.proofs.Results.{ok_map}
 use Rattle.compose_runs.specs.DiffFiles.{IsFoundTable, place_arguments}
 use Rattle.compose_input.specs.Faults.{FailsFound}
-use Rattle.compose_runs.proofs.Failing.{fails, err_map}
+use Rattle.compose_given.proofs.Failing.{fails, err_map}
 use Rattle.compose_runs.specs.Faults.{FailsTable}
 use Rattle.compose_runs.proofs.files.read_table.Goals as goal
 

@@ -3,7 +3,7 @@ use Rattle.std.specs.Prelude.{codes}
 use Rattle.compose_answer.specs.declared.answer.Ended.TheVariants.{Refused}
 use Rattle.compose_report.specs.Outcomes.{PrintsErrors, reported_text}
 use Rattle.compose_runs.specs.Linting.{lint_accept_details}
-use Rattle.compose_runs.proofs.Lent.{now_unwrap_or}
+use Rattle.compose_given.proofs.Lent.{now_unwrap_or}
 use Rattle.compose_runs.proofs.linting.accept_outcome.Goals as goal
 
 pub returns : goal.returns

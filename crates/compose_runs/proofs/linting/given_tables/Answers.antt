@@ -1,8 +1,9 @@
 use Rattle.std.proofs.Common.{rules, ◌≡◌, ◌∙◌, ◌+◌, [], List, ℕ, Bor, map, take, drop, get_or, inr, sym, subst}
 use Rattle.std.specs.Prelude.{Option, Some, Err}
-use Rattle.compose_runs.specs.Faults.{FailsChosenTable, FailsTables, OrMemory}
+use Rattle.compose_given.specs.Faults.{FailsChosenTable, OrMemory}
+use Rattle.compose_runs.specs.Faults.{FailsTables}
 use Rattle.compose_runs.specs.Linting.{AreReadTables, IsReadTable}
-use Rattle.compose_runs.proofs.Failing.{fails}
+use Rattle.compose_given.proofs.Failing.{fails}
 use Rattle.compose_runs.proofs.Zipped.{around, zip_next}
 use Rattle.compose_runs.proofs.linting.given_tables.Goals as goal
 

@@ -1,7 +1,8 @@
 use Rattle.std.proofs.Common.{rules, ◌≡◌, [], ◌∷◌, inr, refl}
 use Rattle.std.specs.Prelude.{None, Err}
-use Rattle.compose_runs.specs.Faults.{FailsTables, OrMemory}
-use Rattle.compose_runs.proofs.Failing.{fails}
+use Rattle.compose_runs.specs.Faults.{FailsTables}
+use Rattle.compose_given.specs.Faults.{OrMemory}
+use Rattle.compose_given.proofs.Failing.{fails}
 use Rattle.compose_runs.proofs.linting.own_table.Goals as goal
 
 pub returns-in_err-read_table-clause-fault : goal.returns-in_err-read_table-clause-fault

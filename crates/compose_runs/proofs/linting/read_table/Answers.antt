@@ -3,8 +3,8 @@ use Rattle.std.specs.Prelude.{Err, option_copied}
 use Rattle.compose_model.specs.declared.Rule.TheVariants.{Longest}
 use Rattle.compose_input.specs.Faults.{FailsFound}
 use Rattle.compose_input.specs.Tables.{IsFoundOnSystem}
-use Rattle.compose_runs.proofs.Failing.{fails}
-use Rattle.compose_runs.specs.Faults.{FailsChosenTable}
+use Rattle.compose_given.proofs.Failing.{fails}
+use Rattle.compose_given.specs.Faults.{FailsChosenTable}
 use Rattle.compose_runs.proofs.linting.read_table.Goals as goal
 
 pub returns-clause-read : goal.returns-clause-read

@@ -1,6 +1,7 @@
 use Rattle.std.proofs.Common.{◌≡◌, ◌==◌, List, [], ◌∷◌, ℕ, Bor, length, map, refl, sym, subst, true, false}
 use Rattle.std.specs.Prelude.{Some, IfOk, IfErr}
-use Rattle.compose_runs.specs.Faults.{FailsTables, OrMemory}
+use Rattle.compose_runs.specs.Faults.{FailsTables}
+use Rattle.compose_given.specs.Faults.{OrMemory}
 use Rattle.compose_runs.specs.Linting.{AreReadTables, asked_files}
 use Rattle.compose_runs.proofs.linting.read_tables.Goals as goal
 

@@ -4,7 +4,7 @@ use Rattle.compose_migration.specs.declared.refusal.Refusal.{Refusal}
 use Rattle.compose_listing.specs.declared.how.Ways.{Ways}
 use Rattle.compose_runs.specs.HowTo.{IsHowOutcome, IsWaysOutcome}
 use Rattle.compose_runs.specs.OneTable.{IsTableOutcome}
-use Rattle.compose_runs.proofs.Lent.{now_unwrap_or}
+use Rattle.compose_given.proofs.Lent.{now_unwrap_or}
 use Rattle.compose_runs.proofs.looking_up.how_outcome.Goals as goal
 
 pub returns-in-Ok : goal.returns-in-Ok

@@ -1,9 +1,9 @@
 use Rattle.std.proofs.Common.{rules, ◌≡◌, refl, inl, inr, map, subst, []}
 use Rattle.std.specs.Prelude.{Err, option_copied, option_map, unwrap_or}
 use Rattle.compose_input.specs.declared.fault.Fault.TheVariants.{NoMemory}
-use Rattle.compose_runs.proofs.Failing.{fails}
+use Rattle.compose_given.proofs.Failing.{fails}
 use Rattle.compose_runs.specs.Faults.{FailsAccepted, FailsHow}
-use Rattle.compose_runs.specs.HowTo.{IsGivenText, IsHowOutcome}
+use Rattle.compose_runs.specs.HowTo.{IsGivenText}
 use Rattle.compose_runs.proofs.looking_up.run_how.Goals as goal
 
 pub returns-clause-outcome : goal.returns-clause-outcome

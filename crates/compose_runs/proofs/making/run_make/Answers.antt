@@ -3,7 +3,7 @@ use Rattle.compose_folder.specs.Content.{File, IsHeld}
 use Rattle.compose_runs.specs.Making.{IsMakeOutcome}
 use Rattle.std.specs.Prelude.{Err}
 use Rattle.compose_input.specs.declared.fault.Fault.TheVariants.{NoMemory}
-use Rattle.compose_runs.proofs.Failing.{handed, memory}
+use Rattle.compose_given.proofs.Failing.{handed, memory}
 use Rattle.compose_input.specs.Texts.{IsRead}
 use Rattle.compose_runs.specs.Faults.{FailsMake}
 use Rattle.compose_runs.proofs.making.run_make.Goals as goal

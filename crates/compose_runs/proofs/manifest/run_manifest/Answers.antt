@@ -2,7 +2,7 @@ use Rattle.std.proofs.Common.{rules, ◌≡◌, inr, ◌∙◌, ap, subst, ◌++
 use Rattle.std.specs.Prelude.{Err}
 use Rattle.compose_input.specs.Faults.{FailsFound}
 use Rattle.compose_input.specs.Search.{IsSystemTable}
-use Rattle.compose_runs.proofs.Failing.{fails}
+use Rattle.compose_given.proofs.Failing.{fails}
 use Rattle.compose_runs.specs.Faults.{FailsManifestRun}
 use Rattle.compose_report.specs.Outcomes.{IsNoted}
 use Rattle.compose_runs.specs.Manifest.{IsManifestOutcome}

@@ -22,7 +22,6 @@ returns g c =
         repertoire_text = refl;
         certificate = parts.certificate;
         certificate_text = parts.certificate_text;
-        all = parts.all;
       };
       reported = subst (λ v. IsWorded c.args.numbered v given answered outcome) c.is_refused-verbose.ensures reported;
     }) c.worded_outcome.ensures

@@ -1,6 +1,6 @@
 use Rattle.std.proofs.Common.{◌≡◌, ℕ, List, [], Bor, inr, map, subst, sym, eqb-true}
 use Rattle.std.proofs.lemmas.List.{nil_from_length}
-use Rattle.compose_runs.proofs.Failing.{handed}
+use Rattle.compose_given.proofs.Failing.{handed}
 use Rattle.compose_runs.specs.Faults.{FailsLines, FailsText}
 use Rattle.compose_runs.proofs.typing.read_lines.Goals as goal
 

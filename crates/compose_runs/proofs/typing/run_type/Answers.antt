@@ -2,7 +2,7 @@ use Rattle.std.proofs.Common.{subst, rules, ◌≡◌, refl, inl, inr, map}
 use Rattle.compose_input.specs.Tables.{IsListed}
 use Rattle.std.specs.Prelude.{Err, codes}
 use Rattle.compose_input.specs.declared.fault.Fault.TheVariants.{NoMemory}
-use Rattle.compose_runs.proofs.Failing.{fails}
+use Rattle.compose_given.proofs.Failing.{fails}
 use Rattle.compose_input.specs.Faults.{FailsListed}
 use Rattle.compose_runs.specs.Faults.{FailsType}
 use Rattle.compose_runs.proofs.typing.run_type.Goals as goal

@@ -2,7 +2,7 @@ use Rattle.std.proofs.Common.{rules, ◌≡◌, refl, inl, inr, map, string_byte
 use Rattle.std.specs.Prelude.{Err, option_map}
 use Rattle.compose_runs.specs.Faults.{FailsLines, FailsTypeFile}
 use Rattle.compose_runs.specs.Typing.{AreGivenLines}
-use Rattle.compose_runs.proofs.Failing.{fails, memory}
+use Rattle.compose_given.proofs.Failing.{fails, memory}
 use Rattle.compose_runs.proofs.typing.run_type_file.Goals as goal
 
 pub returns-clause-outcome : goal.returns-clause-outcome

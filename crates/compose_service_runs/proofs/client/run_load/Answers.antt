@@ -3,7 +3,7 @@ use Rattle.std.specs.Prelude.{Err}
 use Rattle.compose_folder.specs.Content.{File, IsHeld}
 use Rattle.compose_input.specs.Texts.{IsRead}
 use Rattle.compose_report.proofs.Results.{ok_map}
-use Rattle.compose_runs.proofs.Failing.{err_map, handed}
+use Rattle.compose_given.proofs.Failing.{err_map, handed}
 use Rattle.compose_service_runs.specs.Clients.{FailsLoad, IsLoadRun, IsUnsendable, LoadsTable, bundle_of}
 use Rattle.compose_service_runs.proofs.client.run_load.Goals as goal
 

@@ -22,7 +22,6 @@ returns g c =
         repertoire_text = c.deref.ensures.value;
         certificate = refl;
         certificate_text = c.deref-2.ensures.value;
-        all = parts.all;
       };
       worded = subst (λ numbered. IsWorded numbered true given answered outcome) (ap not c.is_file-numbered.ensures) worded;
     }) c.worded_outcome.ensures

@@ -1,6 +1,6 @@
 use Rattle.std.proofs.Common.{◌≡◌, ◌∙◌, ap, refl, subst, map, [], ℕ, List, Bor}
 use Rattle.std.specs.Prelude.{unwrap_or}
-use Rattle.compose_runs.proofs.Lent.{names_or_none}
+use Rattle.compose_given.proofs.Lent.{names_or_none}
 use Rattle.compose_runs.specs.Checking.{allowed_names}
 use Rattle.compose_service_runs.specs.Serving.{IsStartOutcome, wants_details}
 use Rattle.compose_service_runs.proofs.serving.start_service.Goals as goal

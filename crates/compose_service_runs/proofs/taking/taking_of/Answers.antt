@@ -6,14 +6,14 @@ pub returns-then-is_meant : goal.returns-then-is_meant
 returns-then-is_meant c = (
   c.in-Replaced.stored,
   inr (c.in-Replaced.certificate, sym c.in-Replaced.is, c.if-is_meant.true),
-  subst (λ payload. IsFile c.args.files.now.repertoire.items payload c.in_ok-file-in-Replaced.file.items) c.deref-in-Replaced.ensures.value c.in_ok-file-in-Replaced.ensures,
+  subst (λ payload. IsFile c.args.files.now c.args.fresh.now payload c.in_ok-file-in-Replaced.file.items) c.deref-in-Replaced.ensures.value c.in_ok-file-in-Replaced.ensures,
 )
 
 pub returns-in_ok-file-in-Meant : goal.returns-in_ok-file-in-Meant
 returns-in_ok-file-in-Meant c = (
   c.in-Meant.stored,
   inl (sym c.in-Meant.is),
-  subst (λ payload. IsFile c.args.files.now.repertoire.items payload c.in_ok-file-in-Meant.file.items) c.deref.ensures.value c.in_ok-file-in-Meant.ensures,
+  subst (λ payload. IsFile c.args.files.now c.args.fresh.now payload c.in_ok-file-in-Meant.file.items) c.deref.ensures.value c.in_ok-file-in-Meant.ensures,
 )
 
 pub returns-in_ok-load-in-Replaced : goal.returns-in_ok-load-in-Replaced
@@ -22,6 +22,6 @@ returns-in_ok-load-in-Replaced c = (
   c.in-Replaced.certificate,
   sym c.in-Replaced.is,
   c.if-is_meant.false,
-  subst (λ payload. IsFile c.args.files.now.repertoire.items payload c.in_ok-file-in-Replaced.file.items) c.deref-in-Replaced.ensures.value c.in_ok-file-in-Replaced.ensures,
+  subst (λ payload. IsFile c.args.files.now c.args.fresh.now payload c.in_ok-file-in-Replaced.file.items) c.deref-in-Replaced.ensures.value c.in_ok-file-in-Replaced.ensures,
   c.in_ok-load-in-Replaced.ensures,
 )

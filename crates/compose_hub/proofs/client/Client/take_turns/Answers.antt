@@ -7,11 +7,11 @@ use Rattle.compose_hub.proofs.client.Client.take_turns.Goals as goal
 pub returns-in_default-clause-turns : goal.returns-in_default-clause-turns
 returns-in_default-clause-turns g c =
     let lt : c.turns.counter < max_turns = omega arith in
-    let mid = owned (g.A.Responder.state c.turns.service) c.turns.owners.items in
-    let new = owned (g.A.Responder.state c.turn.new.service) c.turn.new.owners.items in
+    let mid = owned (g.A.Responder.state c.turns.service) c.turns.owners.list in
+    let new = owned (g.A.Responder.state c.turn.new.service) c.turn.new.owners.list in
     let streams = g.N.Streams.stream c.turns.streams in
     let streams' = g.N.Streams.stream c.turn.new.streams in (
-      turns_then c.turns.counter c.args.unsent g.A.Responder.reading (owned (g.A.Responder.state c.args.service.now) c.args.owners.now.items) mid new c.args.self.now.number (g.N.Streams.stream c.args.streams.now) streams streams'
+      turns_then c.turns.counter c.args.unsent g.A.Responder.reading (owned (g.A.Responder.state c.args.service.now) c.args.owners.now.list) mid new c.args.self.now.number (g.N.Streams.stream c.args.streams.now) streams streams'
           c.args.self.now.connection c.turns.self.connection c.turn.new.self.connection c.turns.invariant.0 max_turns c.turn.result lt
           (subst (λ (n : ℕ). TurnsAs 1 c.args.unsent g.A.Responder.reading c.turn.result mid new n streams streams' c.turns.self.connection c.turn.new.self.connection) c.turns.invariant.1 c.turn.ensures.turn.0),
       c.turn.ensures.turn.1 ∙ c.turns.invariant.1,
@@ -19,11 +19,11 @@ returns-in_default-clause-turns g c =
 
 pub turns-preserved : goal.turns-preserved
 turns-preserved g c =
-    let mid = owned (g.A.Responder.state c.turns.service) c.turns.owners.items in
-    let new = owned (g.A.Responder.state c.turn.new.service) c.turn.new.owners.items in
+    let mid = owned (g.A.Responder.state c.turns.service) c.turns.owners.list in
+    let new = owned (g.A.Responder.state c.turn.new.service) c.turn.new.owners.list in
     let streams = g.N.Streams.stream c.turns.streams in
     let streams' = g.N.Streams.stream c.turn.new.streams in (
-      went_on c.turns.counter c.args.unsent g.A.Responder.reading (owned (g.A.Responder.state c.args.service.now) c.args.owners.now.items) mid new c.args.self.now.number (g.N.Streams.stream c.args.streams.now) streams streams'
+      went_on c.turns.counter c.args.unsent g.A.Responder.reading (owned (g.A.Responder.state c.args.service.now) c.args.owners.now.list) mid new c.args.self.now.number (g.N.Streams.stream c.args.streams.now) streams streams'
           c.args.self.now.connection c.turns.self.connection c.turn.new.self.connection c.turns.invariant.0
           (subst (λ (n : ℕ). TurnsAs 1 c.args.unsent g.A.Responder.reading GoesOn mid new n streams streams' c.turns.self.connection c.turn.new.self.connection) c.turns.invariant.1 c.in-GoesOn.ensures.turn.0),
       c.in-GoesOn.ensures.turn.1 ∙ c.turns.invariant.1,

@@ -14,8 +14,8 @@ use Rattle.compose_hub.proofs.server.Server.give_up.Goals as goal
 pub returns-in_err-tell-clause-happened : goal.returns-in_err-tell-clause-happened
 returns-in_err-tell-clause-happened g c first s =
     let lt : c.slots.slot-index < length c.slots.slot-items = omega arith in
-    let old = owned (g.A.Responder.state c.slots.service) c.slots.self.1.1.1.1.0.items in
-    let new = owned (g.A.Responder.state c.close_sessions.new.service) c.close_sessions.new.owners.items in
+    let old = owned (g.A.Responder.state c.slots.service) c.slots.self.1.1.1.1.0.list in
+    let new = owned (g.A.Responder.state c.close_sessions.new.service) c.close_sessions.new.owners.list in
     slot_fails c.args.limits g.A.Responder.reading first old new (g.N.Streams.stream c.slots.sockets)
     (g.N.Streams.stream c.give_up-ended.new.sockets) (g.E.EndReport.reported c.slots.report) (g.E.EndReport.reported c.tell.new.report) c.args.self.now.accepted c.slots.slot-items (c.slots.invariant.goes_on first s)
     c.slots.slot-index c.give_up-ended.new.slot lt c.slot-item.result c.give_up-ended.result
@@ -25,8 +25,8 @@ returns-in_err-tell-clause-happened g c first s =
 pub slots-preserved : goal.slots-preserved
 slots-preserved g c =
     let lt : c.slots.slot-index < length c.slots.slot-items = omega arith in
-    let old = owned (g.A.Responder.state c.slots.service) c.slots.self.1.1.1.1.0.items in
-    let new = owned (g.A.Responder.state c.close_sessions.new.service) c.close_sessions.new.owners.items in
+    let old = owned (g.A.Responder.state c.slots.service) c.slots.self.1.1.1.1.0.list in
+    let new = owned (g.A.Responder.state c.close_sessions.new.service) c.close_sessions.new.owners.list in
     let i = c.slots.slot-index in
     let slots = c.args.self.now.slots.items in
     let there : get_or c.slots.slot-items i None ≡ get_or slots i None = c.slots.invariant.ahead i (omega arith) in
@@ -39,7 +39,7 @@ slots-preserved g c =
           (slot_gives_up c.args.limits _ _ g.A.Responder.reading old _ _ _ _ _ c.give_up-ended.ensures.gives_up)) (reports _ _ _ _ _ _ c.in_ok-tell.ensures);
       ends =
           each_step (GivesUp c.args.limits (is_room_short slots) c.args.time g.A.Responder.reading)
-          (at_now (owned (g.A.Responder.state c.args.service.now) c.args.self.now.owners.items) (g.N.Streams.stream c.args.sockets.now) (g.E.EndReport.reported c.args.report.now))
+          (at_now (owned (g.A.Responder.state c.args.service.now) c.args.self.now.owners.list) (g.N.Streams.stream c.args.sockets.now) (g.E.EndReport.reported c.args.report.now))
           (at_now old (g.N.Streams.stream c.slots.sockets) (g.E.EndReport.reported c.slots.report)) (at_now new (g.N.Streams.stream c.give_up-ended.new.sockets) (g.E.EndReport.reported c.tell.new.report))
           slots c.slots.slot-items i (get_or c.slots.slot-items i c.slot-item.result) c.give_up-ended.new.slot (omega arith) lt before c.slots.invariant.ends (
             c.give_up-ended.result,
@@ -66,14 +66,14 @@ returns-clause-happened g c first s = (c.slots.invariant.goes_on first s).so_far
 pub returns-clause-goes_on : goal.returns-clause-goes_on
 returns-clause-goes_on g c first s =
     let len : length c.slots.slot-items ≡ c.args.self.now.slots.len = omega arith in
-    subst (λ (now : List (Option Client)). ServedSoFar c.args.limits g.A.Responder.reading first (at_now (owned (g.A.Responder.state c.slots.service) c.slots.self.1.1.1.1.0.items) (g.N.Streams.stream c.slots.sockets) (g.E.EndReport.reported c.slots.report)) c.args.self.now.accepted now)
+    subst (λ (now : List (Option Client)). ServedSoFar c.args.limits g.A.Responder.reading first (at_now (owned (g.A.Responder.state c.slots.service) c.slots.self.1.1.1.1.0.list) (g.N.Streams.stream c.slots.sockets) (g.E.EndReport.reported c.slots.report)) c.args.self.now.accepted now)
     (sym (take_at _ _ _ len)) (c.slots.invariant.goes_on first s)
 
 pub returns-clause-ends : goal.returns-clause-ends
 returns-clause-ends g c =
     let len : length c.slots.slot-items ≡ c.args.self.now.slots.len = omega arith in
-    let old = at_now (owned (g.A.Responder.state c.args.service.now) c.args.self.now.owners.items) (g.N.Streams.stream c.args.sockets.now) (g.E.EndReport.reported c.args.report.now) in
-    let new = at_now (owned (g.A.Responder.state c.slots.service) c.slots.self.1.1.1.1.0.items) (g.N.Streams.stream c.slots.sockets) (g.E.EndReport.reported c.slots.report) in
+    let old = at_now (owned (g.A.Responder.state c.args.service.now) c.args.self.now.owners.list) (g.N.Streams.stream c.args.sockets.now) (g.E.EndReport.reported c.args.report.now) in
+    let new = at_now (owned (g.A.Responder.state c.slots.service) c.slots.self.1.1.1.1.0.list) (g.N.Streams.stream c.slots.sockets) (g.E.EndReport.reported c.slots.report) in
     let step = GivesUp c.args.limits (is_room_short c.args.self.now.slots.items) c.args.time g.A.Responder.reading in
     subst (λ (now : List (Option Client)). EachSlot step old new c.args.self.now.slots.items now) (sym (take_at _ _ _ len))
     (subst (λ (now : List (Option Client)). EachSlot step old new c.args.self.now.slots.items now) (take_all c.slots.slot-index c.slots.slot-items (omega arith))

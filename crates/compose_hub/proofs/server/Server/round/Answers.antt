@@ -1,12 +1,12 @@
-use Rattle.std.proofs.Common.{◌≡◌, ◌∙◌, ◌≤◌, ℕ, List, Option, refl, sym, ap, subst, arith}
+use Rattle.std.proofs.Common.{◌≡◌, ◌∙◌, ℕ, List, Option, refl, sym, ap, subst, arith}
 use Rattle.std.specs.Duration.{as_nanos}
 use Rattle.compose_machine.specs.Machine.{Reading}
 use Rattle.compose_many.specs.Numbered.{StreamState}
 use Rattle.compose_many.specs.declared.owners.Owner.{Owner}
 use Rattle.compose_hub.specs.Ends.{ReportedEnd}
 use Rattle.compose_hub.specs.Turns.{OwnedService, owned}
-use Rattle.compose_hub.specs.Serving.{World, world, at_now, ServedSoFar, AllAreStill}
-use Rattle.compose_hub.specs.Rounds.{AreWithinRooms, KeepsRooms, later, queue_with, is_room_short, MarksReady}
+use Rattle.compose_hub.specs.Serving.{World, at_now, ServedSoFar, AllAreStill}
+use Rattle.compose_hub.specs.Rounds.{AreWithinRooms, later, queue_with, is_room_short, MarksReady}
 use Rattle.compose_hub.specs.Round.{EachSlot, TakesTurns, GivesUp, SharesRoom}
 use Rattle.compose_hub.specs.declared.client.Client.{Client}
 use Rattle.compose_hub.specs.declared.client.Limits.{Limits}
@@ -23,33 +23,33 @@ so_far limits reading first service owners streams reported accepted accepted' s
 
 pub returns-in_err-take_turns-clause-happened : goal.returns-in_err-take_turns-clause-happened
 returns-in_err-take_turns-clause-happened g c first s =
-    let service = owned (g.A.Responder.state c.args.service.now) c.args.self.now.owners.items in
+    let service = owned (g.A.Responder.state c.args.service.now) c.args.self.now.owners.list in
     let marked =
-    so_far c.args.limits g.A.Responder.reading first service c.mark_ready.new.self.owners.items (g.N.Streams.stream c.args.sockets.now) (g.E.EndReport.reported c.args.report.now) c.args.self.now.accepted c.mark_ready.new.self.accepted
-    c.args.self.now.slots.items c.mark_ready.new.self.slots.items (c.mark_ready.ensures.owners ∙ ap (λ v. v.owners.items) c.count_time.ensures) (c.mark_ready.ensures.still.0 ∙ ap (λ v. v.accepted) c.count_time.ensures)
+    so_far c.args.limits g.A.Responder.reading first service c.mark_ready.new.self.owners.list (g.N.Streams.stream c.args.sockets.now) (g.E.EndReport.reported c.args.report.now) c.args.self.now.accepted c.mark_ready.new.self.accepted
+    c.args.self.now.slots.items c.mark_ready.new.self.slots.items (c.mark_ready.ensures.owners ∙ ap (λ v. v.owners.list) c.count_time.ensures) (c.mark_ready.ensures.still.0 ∙ ap (λ v. v.accepted) c.count_time.ensures)
     (subst (λ (v : List (Option Client)). AllAreStill v c.mark_ready.new.self.slots.items) (ap (λ v. v.slots.items) c.count_time.ensures) c.mark_ready.ensures.still.1) s
     in
     c.take_turns.ensures.happened first marked
 
 pub returns-in_err-give_up-clause-happened : goal.returns-in_err-give_up-clause-happened
 returns-in_err-give_up-clause-happened g c first s =
-    let service = owned (g.A.Responder.state c.args.service.now) c.args.self.now.owners.items in
+    let service = owned (g.A.Responder.state c.args.service.now) c.args.self.now.owners.list in
     let marked =
-    so_far c.args.limits g.A.Responder.reading first service c.mark_ready.new.self.owners.items (g.N.Streams.stream c.args.sockets.now) (g.E.EndReport.reported c.args.report.now) c.args.self.now.accepted c.mark_ready.new.self.accepted
-    c.args.self.now.slots.items c.mark_ready.new.self.slots.items (c.mark_ready.ensures.owners ∙ ap (λ v. v.owners.items) c.count_time.ensures) (c.mark_ready.ensures.still.0 ∙ ap (λ v. v.accepted) c.count_time.ensures)
+    so_far c.args.limits g.A.Responder.reading first service c.mark_ready.new.self.owners.list (g.N.Streams.stream c.args.sockets.now) (g.E.EndReport.reported c.args.report.now) c.args.self.now.accepted c.mark_ready.new.self.accepted
+    c.args.self.now.slots.items c.mark_ready.new.self.slots.items (c.mark_ready.ensures.owners ∙ ap (λ v. v.owners.list) c.count_time.ensures) (c.mark_ready.ensures.still.0 ∙ ap (λ v. v.accepted) c.count_time.ensures)
     (subst (λ (v : List (Option Client)). AllAreStill v c.mark_ready.new.self.slots.items) (ap (λ v. v.slots.items) c.count_time.ensures) c.mark_ready.ensures.still.1) s
     in
     c.give_up.ensures.happened first (c.in_ok-take_turns.ensures.goes_on first marked)
 
 shared_so_far : goal.returns-clause-goes_on
 shared_so_far g c first s =
-    let service = owned (g.A.Responder.state c.args.service.now) c.args.self.now.owners.items in
+    let service = owned (g.A.Responder.state c.args.service.now) c.args.self.now.owners.list in
     let marked =
-    so_far c.args.limits g.A.Responder.reading first service c.mark_ready.new.self.owners.items (g.N.Streams.stream c.args.sockets.now) (g.E.EndReport.reported c.args.report.now) c.args.self.now.accepted c.mark_ready.new.self.accepted
-    c.args.self.now.slots.items c.mark_ready.new.self.slots.items (c.mark_ready.ensures.owners ∙ ap (λ v. v.owners.items) c.count_time.ensures) (c.mark_ready.ensures.still.0 ∙ ap (λ v. v.accepted) c.count_time.ensures)
+    so_far c.args.limits g.A.Responder.reading first service c.mark_ready.new.self.owners.list (g.N.Streams.stream c.args.sockets.now) (g.E.EndReport.reported c.args.report.now) c.args.self.now.accepted c.mark_ready.new.self.accepted
+    c.args.self.now.slots.items c.mark_ready.new.self.slots.items (c.mark_ready.ensures.owners ∙ ap (λ v. v.owners.list) c.count_time.ensures) (c.mark_ready.ensures.still.0 ∙ ap (λ v. v.accepted) c.count_time.ensures)
     (subst (λ (v : List (Option Client)). AllAreStill v c.mark_ready.new.self.slots.items) (ap (λ v. v.slots.items) c.count_time.ensures) c.mark_ready.ensures.still.1) s
     in
-    so_far c.args.limits g.A.Responder.reading first (owned (g.A.Responder.state c.give_up.new.service) c.give_up.new.self.owners.items) c.share_room.new.self.owners.items (g.N.Streams.stream c.give_up.new.sockets)
+    so_far c.args.limits g.A.Responder.reading first (owned (g.A.Responder.state c.give_up.new.service) c.give_up.new.self.owners.list) c.share_room.new.self.owners.list (g.N.Streams.stream c.give_up.new.sockets)
     (g.E.EndReport.reported c.give_up.new.report) c.give_up.new.self.accepted c.share_room.new.self.accepted c.give_up.new.self.slots.items c.share_room.new.self.slots.items c.share_room.ensures.owners c.share_room.ensures.still.0
     c.share_room.ensures.still.1 (c.in_ok-give_up.ensures.goes_on first (c.in_ok-take_turns.ensures.goes_on first marked))
 
@@ -63,9 +63,9 @@ pub returns-clause-round : goal.returns-clause-round
 returns-clause-round g c =
     let streams = g.N.Streams.stream c.args.sockets.now in
     let reported = g.E.EndReport.reported c.args.report.now in
-    let owners : c.mark_ready.new.self.owners.items ≡ c.args.self.now.owners.items = c.mark_ready.ensures.owners ∙ ap (λ v. v.owners.items) c.count_time.ensures in
+    let owners : c.mark_ready.new.self.owners.list ≡ c.args.self.now.owners.list = c.mark_ready.ensures.owners ∙ ap (λ v. v.owners.list) c.count_time.ensures in
     let time : c.mark_ready.new.self.time ≡ later c.args.self.now.time (as_nanos c.args.passed) = c.mark_ready.ensures.time ∙ ap (λ v. v.time) c.count_time.ensures in
-    let mid = at_now (owned (g.A.Responder.state c.take_turns.new.service) c.take_turns.new.self.owners.items) (g.N.Streams.stream c.take_turns.new.sockets) (g.E.EndReport.reported c.take_turns.new.report) in
+    let mid = at_now (owned (g.A.Responder.state c.take_turns.new.service) c.take_turns.new.self.owners.list) (g.N.Streams.stream c.take_turns.new.sockets) (g.E.EndReport.reported c.take_turns.new.report) in
     record {
       marked = c.mark_ready.new.self.slots.items;
       marks = subst (λ (s : List (Option Client)). MarksReady c.args.ready.now s c.mark_ready.new.self.slots.items) (ap (λ v. v.slots.items) c.count_time.ensures) c.mark_ready.ensures.marks;
@@ -74,7 +74,7 @@ returns-clause-round g c =
       turns =
           subst (λ (o : List Owner). EachSlot (TakesTurns c.args.limits g.A.Responder.reading (later c.args.self.now.time (as_nanos c.args.passed))) (at_now (owned (g.A.Responder.state c.args.service.now) o) streams reported) mid
           c.mark_ready.new.self.slots.items c.take_turns.new.self.slots.items) owners
-          (subst (λ (t : ℕ). EachSlot (TakesTurns c.args.limits g.A.Responder.reading t) (at_now (owned (g.A.Responder.state c.args.service.now) c.mark_ready.new.self.owners.items) streams reported) mid
+          (subst (λ (t : ℕ). EachSlot (TakesTurns c.args.limits g.A.Responder.reading t) (at_now (owned (g.A.Responder.state c.args.service.now) c.mark_ready.new.self.owners.list) streams reported) mid
           c.mark_ready.new.self.slots.items c.take_turns.new.self.slots.items) time c.in_ok-take_turns.ensures.turns);
       kept = c.give_up.new.self.slots.items;
       ends =

@@ -1,5 +1,5 @@
-use Rattle.std.proofs.Common.{◌≡◌, ℕ, ◌+◌, ◌-◌, ◌<◌, ◌∙◌, length, List, get_or, set, refl, sym, ap, subst, inl, inr, arith, rules}
-use Rattle.std.specs.Prelude.{true, Option, Some, None, count_by}
+use Rattle.std.proofs.Common.{◌≡◌, ℕ, ◌+◌, ◌<◌, ◌∙◌, length, List, get_or, set, sym, ap, subst, inl, inr, arith, rules}
+use Rattle.std.specs.Prelude.{Option, Some, None, count_by}
 use Rattle.compose_hub.specs.Slots.{given_room, waits_since, slot_waits_for_room, slot_uses_room}
 use Rattle.compose_hub.specs.Rounds.{LeastTo}
 use Rattle.compose_hub.specs.Round.{KeepsOrIsGiven}

@@ -10,7 +10,7 @@ use Rattle.compose_hub.proofs.server.Server.share_room.Given as goal
 abbrev pub invariant-rooms : goal.invariant-rooms
 invariant-rooms l = record {
   accepted : l.self.accepted ≡ l.fn.self.accepted;
-  owners : l.self.owners.items ≡ l.fn.self.owners.items;
+  owners : l.self.owners.list ≡ l.fn.self.owners.list;
   time : l.self.time ≡ l.fn.self.time;
   queue : l.self.queue ≡ l.fn.self.queue;
   still : AllAreStill l.fn.self.slots.items l.self.slots.items;

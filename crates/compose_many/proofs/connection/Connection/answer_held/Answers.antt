@@ -15,7 +15,7 @@ answers-preserved g c =
             (g.S.Responder.state c.answer_next.new.service) c.answers.self c.answer_next.new.self so.0 so.1 next.0 next.1 next.2,
         loads-more so.0 next.0 0 false next.3 so.2,
         owned_more c.args.limit g.S.Responder.reading (g.S.Responder.state c.args.service.now) c.args.self.now (g.S.Responder.state c.answers.service)
-            (g.S.Responder.state c.answer_next.new.service) c.answers.self c.answer_next.new.self so.0 so.1 c.args.number c.args.owners.now.items c.answers.owners.items c.answer_next.new.owners.items so.3 next.0 next.4,
+            (g.S.Responder.state c.answer_next.new.service) c.answers.self c.answer_next.new.self so.0 so.1 c.args.number c.args.owners.now.list c.answers.owners.list c.answer_next.new.owners.list so.3 next.0 next.4,
       );
       goes_on = stays_open c.args.limit c.answers.self c.answer_next.new.self next.0 next.1;
     }
@@ -24,4 +24,4 @@ pub returns-in-Err : goal.returns-in-Err
 returns-in-Err g c =
     let so = c.answers.invariant.so in
     answers_stop c.args.limit g.S.Responder.reading (g.S.Responder.state c.args.service.now) c.args.self.now (g.S.Responder.state c.answers.service)
-    (g.S.Responder.state c.answer_next.new.service) c.answers.self c.answer_next.new.self so.0 so.1 c.args.number c.args.owners.now.items c.answers.owners.items c.answer_next.new.owners.items so.3 c.in-Err.stop so.2 c.in-Err.ensures
+    (g.S.Responder.state c.answer_next.new.service) c.answers.self c.answer_next.new.self so.0 so.1 c.args.number c.args.owners.now.list c.answers.owners.list c.answer_next.new.owners.list so.3 c.in-Err.stop so.2 c.in-Err.ensures

@@ -7,7 +7,7 @@ use Rattle.compose_many.proofs.connection.Connection.answer_held.Given as goal
 abbrev pub invariant-answers : goal.invariant-answers
 invariant-answers g l = record {
   so : (events : List Event) × AreAnswers l.limit g.S.Responder.reading (g.S.Responder.state l.fn.service) (g.S.Responder.state l.service) l.fn.self l.self events × (loads events ≡ 0)
-      × (l.owners.items ≡ owners_by l.number l.fn.owners.items (exchanges events));
+      × (l.owners.list ≡ owners_by l.number l.fn.owners.list (exchanges events));
   goes_on : l.self.refused ≡ false;
 }
 

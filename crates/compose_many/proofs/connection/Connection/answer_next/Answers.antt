@@ -21,8 +21,8 @@ returns g c =
     let old = g.S.Responder.state c.args.service.now in
     let new = g.S.Responder.state c.answer_into.new.self in
     let kind = is_load (request_of c.in-Ok.request).body in
-    let owners = c.args.owners.now.items in
-    let owners' = c.note.new.owners.items in
+    let owners = c.args.owners.now.list in
+    let owners' = c.note.new.self.list in
     subst (λ (r : Result (Unit {0}) Stop). NextAs c.args.limit c.args.number owners owners' g.S.Responder.reading old new c.args.self.now after r) (sym c.after_reply.ensures)
     (next_reported c.args.limit c.args.number owners owners' g.S.Responder.reading old new c.args.self.now after kind
     (subst (λ (o : ConnectionState). OneAnswered c.args.limit c.args.number owners owners' g.S.Responder.reading old new o after kind) c.self.view_is

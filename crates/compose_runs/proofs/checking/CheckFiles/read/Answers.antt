@@ -1,7 +1,7 @@
 use Rattle.std.proofs.Common.{◌∙◌, subst, inl, inr, map}
 use Rattle.compose_folder.specs.Content.{File, IsHeld}
 use Rattle.std.specs.Prelude.{Err}
-use Rattle.compose_runs.proofs.Failing.{handed}
+use Rattle.compose_given.proofs.Failing.{handed}
 use Rattle.compose_input.specs.Texts.{IsRead}
 use Rattle.compose_runs.specs.Faults.{FailsCheck}
 use Rattle.compose_runs.proofs.checking.CheckFiles.read.Goals as goal

@@ -1,7 +1,7 @@
 use Rattle.std.proofs.Common.{subst, option_copied, inl, inr, map}
 use Rattle.compose_runs.specs.DiffFiles.{IsAccepted}
 use Rattle.compose_runs.specs.Faults.{FailsAccepted, FailsDiff}
-use Rattle.compose_runs.proofs.Failing.{handed}
+use Rattle.compose_given.proofs.Failing.{handed}
 use Rattle.compose_runs.proofs.differing.DiffFiles.read.Goals as goal
 
 pub returns-clause-read : goal.returns-clause-read

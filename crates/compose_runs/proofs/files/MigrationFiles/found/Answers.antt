@@ -2,7 +2,7 @@ use Rattle.std.proofs.Common.{◌∙◌, subst, rules, ◌≡◌, inl, inr, map}
 use Rattle.std.specs.Prelude.{Err}
 use Rattle.compose_runs.specs.DiffFiles.{IsFoundTable, place_arguments}
 use Rattle.compose_runs.specs.Faults.{FailsTable, FailsPair}
-use Rattle.compose_runs.proofs.Failing.{fails}
+use Rattle.compose_given.proofs.Failing.{fails}
 use Rattle.compose_runs.proofs.files.MigrationFiles.found.Goals as goal
 
 pub returns-clause-read : goal.returns-clause-read

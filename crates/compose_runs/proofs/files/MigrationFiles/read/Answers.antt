@@ -1,7 +1,7 @@
 use Rattle.std.proofs.Common.{◌∙◌, subst, rules, ◌≡◌, inl, inr, map}
 use Rattle.compose_input.specs.Tables.{IsListed}
 use Rattle.std.specs.Prelude.{Err, codes}
-use Rattle.compose_runs.proofs.Failing.{fails}
+use Rattle.compose_given.proofs.Failing.{fails}
 use Rattle.compose_input.specs.Faults.{FailsListed}
 use Rattle.compose_runs.specs.Faults.{FailsMigration}
 use Rattle.compose_runs.proofs.files.MigrationFiles.read.Goals as goal

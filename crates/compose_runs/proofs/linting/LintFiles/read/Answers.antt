@@ -1,9 +1,10 @@
 use Rattle.std.proofs.Common.{rules, ◌≡◌, ◌∙◌, inl, inr, map, subst, option_copied}
 use Rattle.std.specs.Prelude.{Err}
 use Rattle.compose_runs.specs.DiffFiles.{IsAccepted}
-use Rattle.compose_runs.specs.Faults.{FailsAccepted, FailsLint, FailsLintRun, FailsTables, OrMemory}
+use Rattle.compose_runs.specs.Faults.{FailsAccepted, FailsLint, FailsLintRun, FailsTables}
+use Rattle.compose_given.specs.Faults.{OrMemory}
 use Rattle.compose_runs.specs.Linting.{AreReadTables, asked_files}
-use Rattle.compose_runs.proofs.Failing.{fails, or_map}
+use Rattle.compose_given.proofs.Failing.{fails, or_map}
 use Rattle.compose_runs.proofs.linting.LintFiles.read.Goals as goal
 
 pub returns-clause-read : goal.returns-clause-read

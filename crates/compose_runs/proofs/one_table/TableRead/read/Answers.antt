@@ -1,11 +1,12 @@
 use Rattle.std.proofs.Common.{◌⊎◌, inl, inr, map, subst, option_copied}
 use Rattle.compose_input.specs.declared.fault.Fault.{Fault}
-use Rattle.compose_runs.proofs.Failing.{handed, or_map}
-use Rattle.compose_runs.specs.DiffFiles.{names_or_builtin}
+use Rattle.compose_given.proofs.Failing.{handed, or_map}
+use Rattle.compose_given.specs.Names.{names_or_builtin}
 use Rattle.compose_input.specs.Faults.{FailNames}
 use Rattle.compose_input.specs.declared.places.Places.{Places}
-use Rattle.compose_runs.specs.Faults.{FailsChosenTable, FailsPlaced, FailsTableRead, HasNames}
-use Rattle.compose_runs.specs.OneTable.{IsNotedTable, table_places}
+use Rattle.compose_given.specs.Faults.{FailsChosenTable, FailsPlaced, HasNames}
+use Rattle.compose_runs.specs.Faults.{FailsTableRead}
+use Rattle.compose_given.specs.Noted.{IsNotedTable, table_places}
 use Rattle.compose_runs.proofs.one_table.TableRead.read.Goals as goal
 
 pub returns-clause-read : goal.returns-clause-read

@@ -1,10 +1,10 @@
-use Rattle.std.proofs.Common.{◌∙◌, subst, rules, ◌≡◌, inl, inr, ℕ, List}
+use Rattle.std.proofs.Common.{◌∙◌, subst, rules, ◌≡◌, inl, inr, ℕ, List, map}
 use Rattle.std.specs.Prelude.{Option, Some, None, Err, option_copied}
 use Rattle.compose_folder.specs.Content.{Entry}
 use Rattle.compose_model.specs.declared.Rule.TheVariants.{Longest}
 use Rattle.compose_input.specs.Faults.{FailsFound}
 use Rattle.compose_input.specs.Tables.{IsFoundOnSystem}
-use Rattle.compose_runs.proofs.Failing.{fails}
+use Rattle.compose_given.proofs.Failing.{fails}
 use Rattle.compose_runs.specs.Faults.{FailsAccepted, FailsUpdateRead, HasOption}
 use Rattle.compose_runs.specs.Updating.{IsRepertoire}
 use Rattle.compose_runs.proofs.updating.UpdateFiles.read.Goals as goal
@@ -13,7 +13,7 @@ pub returns-in_err-new-clause-fault : goal.returns-in_err-new-clause-fault
 returns-in_err-new-clause-fault g c =
     let fault = c.in_err-new.field-0.0 in let places = c.in_ok-places.places in
     let is : c.from_residual-in_err-new.result ≡ Err fault = search rules in
-    fails (FailsUpdateRead c.args.files.now.holds c.args.environment.now c.args.arguments.now) c.from_residual-in_err-new.result fault is
+    fails (FailsUpdateRead c.args.files.now.holds c.args.environment.now (map (λ name. name.now) c.args.names.now) c.args.arguments.now) c.from_residual-in_err-new.result fault is
     (inr (inr (
       places,
       c.in_ok-places.ensures,
@@ -28,7 +28,7 @@ returns-in_err-repertoire-clause-fault g c =
     let fault = c.in_err-repertoire.field-0.0 in let places = c.in_ok-places.places in let arguments = c.args.arguments.now in
     let names_kept = c.in_ok-names.ensures.kept in let new_kept = c.in_ok-new.ensures.kept ∙ names_kept in
     let is : c.from_residual-in_err-repertoire.result ≡ Err fault = search rules in
-    fails (FailsUpdateRead c.args.files.now.holds c.args.environment.now arguments) c.from_residual-in_err-repertoire.result fault is
+    fails (FailsUpdateRead c.args.files.now.holds c.args.environment.now (map (λ name. name.now) c.args.names.now) arguments) c.from_residual-in_err-repertoire.result fault is
     (inr (inr (
       places,
       c.in_ok-places.ensures,
@@ -51,7 +51,7 @@ returns-in_err-meant-clause-fault g c =
     let fault = c.in_err-meant.field-0.0 in let folder = c.args.files.now.holds in let places = c.in_ok-places.places in let arguments = c.args.arguments.now in
     let names_kept = c.in_ok-names.ensures.kept in let new_kept = c.in_ok-new.ensures.kept ∙ names_kept in let repertoire_kept = c.in_ok-repertoire.ensures.kept ∙ new_kept in
     let is : c.from_residual-in_err-meant.result ≡ Err fault = search rules in
-    fails (FailsUpdateRead folder c.args.environment.now arguments) c.from_residual-in_err-meant.result fault is
+    fails (FailsUpdateRead folder c.args.environment.now (map (λ name. name.now) c.args.names.now) arguments) c.from_residual-in_err-meant.result fault is
     (inr (inr (
       places,
       c.in_ok-places.ensures,

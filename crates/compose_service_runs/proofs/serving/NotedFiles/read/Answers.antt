@@ -4,8 +4,9 @@ use Rattle.compose_folder.specs.Content.{File, IsHeld}
 use Rattle.compose_input.specs.Faults.{FailNames}
 use Rattle.compose_input.specs.Names.{AreNames}
 use Rattle.compose_input.specs.Texts.{IsRead}
-use Rattle.compose_runs.proofs.Failing.{handed}
-use Rattle.compose_runs.specs.GivenTable.{FailsGivenTable, IsGivenTable, names_for}
+use Rattle.compose_given.proofs.Failing.{handed}
+use Rattle.compose_given.specs.GivenTable.{FailsGivenTable, IsGivenTable}
+use Rattle.compose_given.specs.Names.{names_for}
 use Rattle.compose_service_runs.specs.ServingFaults.{FailsServe}
 use Rattle.compose_service_runs.proofs.serving.NotedFiles.read.Goals as goal
 

@@ -1,0 +1,5 @@
+pub mod Failing
+pub mod InOrder
+pub mod Lent
+pub mod Slashes
+pub mod Variables

@@ -1,0 +1,9 @@
+pub mod Variables
+pub mod Environment
+pub mod Own
+pub mod Names
+pub mod Noted
+pub mod Faults
+pub mod GivenTable
+pub mod First
+pub mod Reads

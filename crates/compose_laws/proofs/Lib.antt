@@ -1,0 +1,10 @@
+pub mod Checked
+pub mod Compared
+pub mod Ends
+pub mod Explained
+pub mod Makes
+pub mod ReadNames
+pub mod ReadTables
+pub mod Results
+pub mod Silent
+pub mod Steps

@@ -1,0 +1,4 @@
+pub mod Files
+pub mod Judging
+pub mod Reporting
+pub mod Texts

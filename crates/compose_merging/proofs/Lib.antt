@@ -1,0 +1,6 @@
+pub mod Rows
+pub mod Back
+pub mod Both
+pub mod Read
+pub mod Skips
+pub mod Steps

@@ -1,0 +1,70 @@
+-- The merged table as a Compose file without includes (Compose(5), "FILE DESCRIPTION"), and the
+-- reading of it.
+use Rattle.std.specs.Prelude.{◌≡◌, ◌<◌, ℕ, List, [], ◌∷◌, ◌++◌, codes, filter, flat_map, map, length, Ok}
+use Rattle.keysym_core.specs.Names.{KeysymNames}
+use Rattle.compose_model.specs.Table.{Definition}
+use Rattle.compose_model.specs.Nodes.{leaves, nodes}
+use Rattle.compose_model.specs.declared.Rule.TheVariants.{Refuse}
+use Rattle.compose_read.specs.Lines.{Source}
+use Rattle.compose_read.specs.Settle.{settled}
+use Rattle.compose_tree.specs.TableReturns.{first_table}
+use Rattle.compose_tree.specs.declared.table.LeafId.{LeafId}
+use Rattle.compose_lookup.specs.TextIndex.{leaf_ids}
+use Rattle.compose_listing.specs.Leaves.{leaf_line}
+use Rattle.compose_listing.specs.declared.form.ListForm.TheVariants.{Lines}
+use Rattle.compose_diff_rows.specs.Rows.{Written}
+use Rattle.compose_listing.specs.declared.listed.ListedTable.{ListedTable}
+use Rattle.compose_migration.specs.declared.refusal.Refusal.TheVariants as refusals
+use Rattle.compose_tree.specs.Targets.{max_nodes}
+use Rattle.compose_merging.specs.Settled.{rows_of}
+use Rattle.compose_merging.specs.Treatments.{is_taken_leaf}
+use Rattle.compose_merging.specs.declared.asking.MergingFault.{MergingFault}
+use Rattle.compose_merging.specs.declared.asking.MergingFault.TheVariants.{Input, TooLarge, NotReadBack}
+use Rattle.compose_merging.specs.declared.treatment.Treatment.{Treatment}
+
+-- ---- what is printed
+
+-- a table as it is listed
+abbrev pub listed_as : {T : Type 0} → (T → List Definition) → ListedTable T → Written
+listed_as view l = record { table = view l.table.now; lines = l.lines.now; paths = map (λ path. path.now) l.paths.now }
+
+-- the lines of these leaves, as `list` prints them: each with its place in the sources of this
+-- table as a comment
+abbrev pub leaf_lines : Written → List LeafId → List ℕ
+leaf_lines written leaves = flat_map (leaf_line Lines written.table written.lines written.paths) leaves
+
+-- the leaves of a table, and those of the new table that are taken if these are the treatments of
+-- its leaves
+abbrev pub all_leaves : List Definition → List LeafId
+all_leaves table = leaf_ids (length (leaves table))
+
+abbrev pub taken_leaves : List Definition → List Treatment → List LeafId
+taken_leaves table treatments = filter (is_taken_leaf treatments) (all_leaves table)
+
+-- those of all sequences of the old table, and then those of the sequences of the new one that are
+-- taken
+abbrev pub table_text : Written → Written → List Treatment → List ℕ
+table_text old new treatments = leaf_lines old (all_leaves old.table) ++ leaf_lines new (taken_leaves new.table treatments)
+
+-- ---- what is read of it
+
+-- the text as the only source
+abbrev pub source_of : List ℕ → List Source
+source_of text = record { name = codes "merged"; bytes = text } ∷ []
+
+-- by the reader that refuses overlaps, with these names, the text is read to the rows of these
+-- definitions
+pub record ReadsBack (names : KeysymNames) (definitions : List Definition) (text : List ℕ) : Type 0 where
+  pub rows : List Definition
+  pub settles : settled Refuse definitions ≡ Ok rows
+  pub read : first_table names (source_of text) Refuse ≡ Ok rows
+
+-- the definitions that are read of the text are settled to these rows
+abbrev pub ReadsRows : KeysymNames → List ℕ → List Definition → Type 0
+ReadsRows names text rows = rows_of names (source_of text) (codes "merged") Refuse ≡ Ok rows
+
+-- why what is printed is not read to the rows of these definitions
+abbrev pub FailsBack : KeysymNames → List Definition → List ℕ → MergingFault → Type 0
+FailsBack names definitions text (Input refusal) = refusal ≡ refusals.NoMemory
+FailsBack names definitions text TooLarge = max_nodes < length (nodes definitions)
+FailsBack names definitions text NotReadBack = ReadsBack names definitions text → ⊥

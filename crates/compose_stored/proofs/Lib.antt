@@ -1,0 +1,4 @@
+pub mod Changing
+pub mod EachStep
+pub mod Seen
+pub mod Whole

@@ -1,0 +1,5 @@
+pub mod Folder
+pub mod Changes
+pub mod Storing
+pub mod Steps
+pub mod Laws
