@@ -25,6 +25,8 @@ import measured
 import store
 
 
+# A proof that needs more than this part of the memory has no more jobs than rt gives it: each job beside the first needs about half as much once more.
+PART_OF_A_CHAIN = 0.3
 # A gate on a slow machine has to end all the same. Edits of which no check has begun by then, in seconds, are left for the next run.
 SECONDS_FOR_EDITS = 70 * 60
 
@@ -153,18 +155,19 @@ class Gate:
 
     def in_measured_lanes(self, tasks):
         """Runs rt's tasks with the measured seconds of proofs in the place of lines, and with the memory that the checks of a crate took. A proof
-        on a long chain of proofs gets up to four jobs, and the others give way to it: how many jobs a proof has is settled when it begins, so that
+        on a long chain of proofs gets four jobs if it needs little memory, and the others give way to it: how many jobs a proof has is settled when it begins, so that
         it would have one for good if it began beside three others."""
         crates = {it.name: it for it in self.rt.rtlib.crates_below(os.getcwd())}
         self.on_chains.update(on_long_chains([*crates.values()]))
-        least_of_chains = min(4, self.rt.processors())
+        free = self.rt.free()
 
         def weighed(name, kind, waits, work, memory, call):
             # (a task of some edits is named after its crate and their number)
             crate = crates[name.partition(" ")[0]]
             seconds = work if kind == "edits" else work and measured.seconds_of(crate, kind)
-            least = least_of_chains if kind == "proof" and name in self.on_chains else 1
-            return waits, seconds, measured.memory_of(crate, memory), lambda given, jobs: named(f"{name} {kind}", lambda: call(given, max(jobs, least)))
+            needs = measured.memory_of(crate, memory)
+            least = min(4, self.rt.processors()) if kind == "proof" and name in self.on_chains and needs < PART_OF_A_CHAIN * free else 1
+            return waits, seconds, needs, lambda given, jobs: named(f"{name} {kind}", lambda: call(given, max(jobs, least)))
 
         return self.in_lanes({it: weighed(*it, *task) for it, task in tasks.items()})
 

@@ -60,13 +60,29 @@ pub fn serve_kept<T: BuildTable>(
     folder.create(rt)?;
     let _lock = lock_of_service(rt, &folder)?;
     let mut service = first_service::<T, _>(rt, &folder, given)?;
+    serve_folder(rt, process_id, &mut service, &folder, arguments, given.fresh)
+}
+
+/// Serves connections without end, and takes each table into service that the owner chooses.
+fn serve_folder<
+    'f,
+    T: BuildTable,
+    R: Clock + Env + Files<File = File> + Net + Print + Eprint + AllocGlobal,
+>(
+    rt: &'f R,
+    process_id: u32,
+    service: &mut Journal<'f, R, T>,
+    folder: &'f StateFolder,
+    arguments: &ServeArguments<'_>,
+    allowed: Option<&[&str]>,
+) -> Result<Ended, Fault> {
     let listener = listen(rt, process_id, arguments)?;
     for _ in 0..u64::MAX {
         service.print_table();
         let one = listener_again(rt.alloc(), &listener, arguments)?;
-        match serve_until_next(rt, one, &mut service, &folder, arguments)? {
+        match serve_until_next(rt, one, service, folder, arguments)? {
             Some(ended) => return Ok(unlinked(rt, arguments, ended)),
-            None => service = next_service(rt, service, &folder, given.fresh)?,
+            None => take_next(rt, service, folder, allowed)?,
         }
     }
     Ok(Ended::Yes)
@@ -187,22 +203,20 @@ fn no_table(alloc: Global, folder: &StateFolder) -> Fault {
     Fault::refused("state", words)
 }
 
-/// Returns the service over the table that the owner chose, in the place of one that serves; its
-/// sessions are closed. If none can be served, the old one goes on.
-fn next_service<'f, T: BuildTable, R: Files<File = File> + Print + Eprint + AllocGlobal>(
+/// Has the table that the owner chose served, in the place of the one that is; its sessions are
+/// closed. If it can't be served, the old one goes on.
+fn take_next<'f, T: BuildTable, R: Files<File = File> + Print + Eprint + AllocGlobal>(
     rt: &'f R,
-    old: Journal<'f, R, T>,
+    service: &mut Journal<'f, R, T>,
     folder: &'f StateFolder,
     allowed: Option<&[&str]>,
-) -> Result<Journal<'f, R, T>, Fault> {
-    let sessions = old.session_count();
-    match chosen_service(rt, folder, allowed)? {
-        Some(service) => {
-            let _ = print_text(rt, chosen_text(rt.alloc(), sessions));
-            Ok(service)
-        }
-        None => Ok(old),
+) -> Result<(), Fault> {
+    let sessions = service.session_count();
+    if let Some(next) = chosen_service(rt, folder, allowed)? {
+        let _ = print_text(rt, chosen_text(rt.alloc(), sessions));
+        *service = next;
     }
+    Ok(())
 }
 
 /// Returns the service over the table that the owner chose, which becomes the table in use. If it

@@ -1,5 +1,5 @@
 //! A listener and its connections, as sockets that are polled.
-ghost use Rattle.std.specs.Prelude.{◌≡◌, ◌≢◌, ◌⊎◌, [], ◌∷◌, List, None, nat_eq};
+ghost use Rattle.std.specs.Prelude.{◌≡◌, ◌≢◌, ◌⊎◌, ℕ, [], ◌∷◌, List, None, nat_eq};
 ghost use Rattle.std.specs.HashMap.{get};
 ghost use Rattle.compose_hub.specs.Sockets.{KeepsBytes, StaysFailed};
 ghost use Rattle.compose_hub.specs.Calls.{Call, AreAccepting, calls_more, watches_both};
@@ -27,7 +27,10 @@ pub struct PolledSockets<S: SocketCalls> {
 
 impl<S: SocketCalls> PolledSockets<S> {
     /// Returns the sockets of a listener without connections. O(1).
-    pub fn new(system: S, alloc: Global) -> PolledSockets<S> {
+    pub fn new(system: S, alloc: Global) -> PolledSockets<S>
+        ensures none { (number : ℕ) → get nat_eq result.streams number ≡ None }
+        ensures calls { S.calls result.system ≡ S.calls system }
+    {
         PolledSockets {
             system,
             streams: IndexMap::new(alloc),

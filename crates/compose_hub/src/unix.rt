@@ -1,5 +1,6 @@
 //! A Unix listener and its connections, and what is ready of them.
-ghost use Rattle.std.specs.Prelude.{None};
+ghost use Rattle.std.specs.Prelude.{◌≡◌, ℕ, None, IfOk, nat_eq};
+ghost use Rattle.std.specs.HashMap.{get};
 
 use crate::calls::SocketCalls;
 use crate::polled::PolledSockets;
@@ -59,7 +60,10 @@ pub fn poll_listener<'c, C: Clock + Net>(
     clock: &'c C,
     alloc: Global,
     listener: UnixListener,
-) -> io::Result<(PolledSockets<UnixCalls>, PolledReadiness<'c, C>)> {
+) -> io::Result<(PolledSockets<UnixCalls>, PolledReadiness<'c, C>)>
+    ensures none { IfOk result
+        (λ polled. (number : ℕ) → get nat_eq polled.0.streams number ≡ None) }
+{
     let mut listener = listener;
     let poll = Poll::new(clock)?;
     let asked = clock.monotonic()?;
