@@ -1,8 +1,9 @@
 #!/usr/bin/env python3
 """edits_test.py: the runner of must-fail edits (tools/edits.py) against a small crate, whose edits are good, useless or bad, and against a prover that only prints what it is given;
-and the gate's own store of what passed (tools/store.py), in a folder of its own.
+the gate's own store of what passed (tools/store.py), in a folder of its own; and what the kit's store keeps of static libraries (tools/kit.py).
 
 It prints a line for each test and last 'N passed, M failed'."""
+import contextlib
 import os
 import re
 import shutil
@@ -17,6 +18,7 @@ TOP = os.path.dirname(os.path.dirname(os.path.abspath(__file__)))
 sys.path[:0] = [f"{TOP}/tools"]
 import edits
 import gate
+import kit
 import store
 
 SOURCE = """//! Numbers and their neighbours.
@@ -278,9 +280,39 @@ def tests_of_the_store():
         yield "what failed is not kept", (its.run(), its.run()) == ((2, None), (2, None))
 
 
+def kept_in(rt):
+    """Returns the kit's store as a run meets it that has just begun, for crates whose sums don't matter."""
+    kept = rt.Kept([])
+    kept.is_untouched, kept.key = lambda crate: True, lambda crate: "the sum of all"
+    return kept
+
+
+def tests_of_static_libraries():
+    rt = edits.load_rt()
+    if not kit.has_store(rt):
+        return
+    kit.keep_static_libraries(rt)
+    with tempfile.TemporaryDirectory(prefix="edits-test-") as room, unittest.mock.patch.object(rt, "STORE", f"{room}/store"):
+        crate = types.SimpleNamespace(name="ffi", folder=f"{room}/crates/ffi", is_static=True, is_program=False, below=lambda: [])
+        library = f"{crate.folder}/out/{kit.static_library(crate)}"
+        kept_in(rt).keep(crate, False, "the sum of all")
+        yield "a static library of which nothing was built is not kept", not kept_in(rt).give(crate, False, "the sum of all")
+        write(library, "built")
+        kept_in(rt).keep(crate, False, "the sum of all")
+        shutil.rmtree(f"{crate.folder}/out")
+        yield "the next run takes a static library from the store", kept_in(rt).give(crate, False, "the sum of all") and store.read(library) == b"built"
+        write(f"{room}/crates.txt", "ffi staticlib:\n")
+        write(f"{crate.folder}/src/lib.rt", "//! Nothing.\n")
+        shutil.rmtree(f"{crate.folder}/out")
+        build = lambda is_anew: write(f"crates/ffi/out/{kit.static_library(crate)}", "built again") or 0
+        with contextlib.chdir(room), unittest.mock.patch.object(rt, "ci", build), unittest.mock.patch.dict(os.environ, CI="true"):
+            status = kit.ci(rt, False, ["ffi"])
+        yield "what was built of a named crate is brought, in a merge gate too", status == 0 and store.read(library) == b"built again"
+
+
 def main():
     passed = failed = 0
-    for tests in (tests_of_words, tests_of_the_time, tests_of_the_store, tests_of_the_control, tests_of_the_runner):
+    for tests in (tests_of_words, tests_of_the_time, tests_of_the_store, tests_of_static_libraries, tests_of_the_control, tests_of_the_runner):
         for name, is_well in tests():
             print(f"{'ok' if is_well else 'FAILED'}: {name}", flush=True)
             passed, failed = passed + is_well, failed + (not is_well)
