@@ -60,7 +60,14 @@ pub fn serve_kept<T: BuildTable>(
     folder.create(rt)?;
     let _lock = lock_of_service(rt, &folder)?;
     let mut service = first_service::<T, _>(rt, &folder, given)?;
-    serve_folder(rt, process_id, &mut service, &folder, arguments, given.fresh)
+    serve_folder(
+        rt,
+        process_id,
+        &mut service,
+        &folder,
+        arguments,
+        given.fresh,
+    )
 }
 
 /// Serves connections without end, and takes each table into service that the owner chooses.
