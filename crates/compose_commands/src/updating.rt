@@ -25,6 +25,7 @@ use std::alloc::Global;
 use std::env::current_dir;
 use std::fs::File;
 use std::io::ErrorKind;
+use std::mem::replace;
 use std::net::Net;
 use std::rt::{Clock, Env, Files};
 use std::{fs, io};
@@ -212,7 +213,8 @@ fn name_from_here(rt: &(impl Env + AllocGlobal), table: &mut TableFiles) -> Resu
     };
     match named_from(rt.alloc(), folder, &table.sources) {
         Ok(named) => {
-            table.sources = named;
+            // (an assignment of what borrows for 'static is what this kit can't prove)
+            let _old = replace(&mut table.sources, named);
             Ok(())
         }
         Err(SourceFault::NoMemory) => Err(Fault::NoMemory),
