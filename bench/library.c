@@ -5,7 +5,7 @@
  *
  *   library ours|theirs TABLE KEYS   types the keys once by the one or the other, with status and text: for counts of instructions */
 #define _GNU_SOURCE
-#include <composecheck.h>
+#include "block.h"
 #include <stdint.h>
 #include <stdio.h>
 #include <stdlib.h>
@@ -13,7 +13,8 @@
 #include <time.h>
 #include <xkbcommon/xkbcommon-compose.h>
 
-static struct composecheck_table *table;
+static void *table;
+static size_t table_size;
 static struct composecheck_state state;
 static struct xkb_context *context;
 static struct xkb_compose_state *their_state;
@@ -49,7 +50,7 @@ static void ours(void)
     for (size_t i = 0; i < key_count; i++) {
         uint8_t text[COMPOSECHECK_MOST_TEXT];
         uint32_t count;
-        composecheck_table_feed(table, &state, keys[i], text, &count);
+        composecheck_table_feed(table, table_size, &state, keys[i], text, &count);
         text_bytes += count + composecheck_status(&state);
     }
 }
@@ -69,7 +70,7 @@ static void our_feed(void)
     for (size_t i = 0; i < key_count; i++) {
         uint8_t text[COMPOSECHECK_MOST_TEXT];
         uint32_t count;
-        text_bytes += composecheck_table_feed(table, &state, keys[i], text, &count);
+        text_bytes += composecheck_table_feed(table, table_size, &state, keys[i], text, &count);
     }
 }
 
@@ -88,7 +89,7 @@ static size_t differences(void)
     for (size_t i = 0; i < key_count; i++) {
         uint8_t text[COMPOSECHECK_MOST_TEXT];
         char their_text[256];
-        uint32_t count, fed = composecheck_table_feed(table, &state, keys[i], text, &count);
+        uint32_t count, fed = composecheck_table_feed(table, table_size, &state, keys[i], text, &count);
         bool same = fed == (uint32_t) xkb_compose_state_feed(their_state, keys[i])
                     && composecheck_status(&state) == (uint32_t) xkb_compose_state_get_status(their_state);
         /* (an ignored key leaves their text as it was) */
@@ -99,12 +100,12 @@ static size_t differences(void)
     return wrong;
 }
 
-static struct composecheck_table *our_table(void)
+static void *our_table(size_t *size)
 {
     struct composecheck_source source = { "root", bytes, length };
     struct composecheck_input input = { .sources = &source, .source_count = 1, .longest = true };
     struct composecheck_fault fault;
-    struct composecheck_table *read = composecheck_table_new(&input, &fault);
+    void *read = composecheck_table_new(&input, size, &fault);
     if (!read)
         exit(2);
     return read;
@@ -121,29 +122,23 @@ static struct xkb_compose_table *their_table(void)
 
 static void our_reading(void)
 {
-    composecheck_table_free(our_table());
+    size_t size;
+    composecheck_table_free(our_table(&size));
 }
 
-/* A bundle of the one source, and arrays for its table, which the caller keeps. */
-static uint8_t *bundle;
+/* A bundle of the one source, and a block for its table, which the caller keeps. */
+static uint8_t *bundle, *kept;
 static size_t bundle_length;
-static struct composecheck_node *nodes;
-static struct composecheck_edge *edges;
-static uint8_t *texts, *long_texts, *hints;
 
 static void keep_arrays(void)
 {
     const uint8_t head[] = { 0, 1, 0, 1, 'r', (uint8_t) (length >> 24), (uint8_t) (length >> 16), (uint8_t) (length >> 8), (uint8_t) length };
-    const struct composecheck_sizes *sizes = &table->sizes;
     bundle_length = sizeof head + length + 4;
     bundle = calloc(1, bundle_length);
-    nodes = calloc(sizes->nodes, sizeof *nodes);
-    edges = calloc(sizes->edges, sizeof *edges);
-    texts = calloc(1, sizes->texts);
-    long_texts = calloc(1, sizes->long_texts);
-    hints = calloc(1, sizes->hints);
-    if (!bundle || !nodes || !edges || !texts || !long_texts || !hints)
+    kept = malloc(table_size);
+    if (!bundle || !kept)
         exit(2);
+    memcpy(kept, table, table_size);
     memcpy(bundle, head, sizeof head);
     memcpy(bundle + sizeof head, bytes, length);
 }
@@ -152,10 +147,17 @@ static void our_compiling(void)
 {
     size_t header_length;
     const uint8_t *header = composecheck_builtin_names(&header_length);
-    struct composecheck_sizes sizes = table->sizes;
+    struct composecheck_sizes sizes;
     struct composecheck_fault fault;
-    if (composecheck_compile(header, header_length, bundle, bundle_length, true, nodes, sizes.nodes, edges, sizes.edges, texts, sizes.texts, long_texts,
-                             sizes.long_texts, hints, sizes.hints, &sizes, &fault) != COMPOSECHECK_DONE)
+    if (composecheck_compile(header, header_length, bundle, bundle_length, true, array_of(kept, NODES), count_of(kept, NODES), array_of(kept, EDGES),
+                             count_of(kept, EDGES), array_of(kept, TEXTS), count_of(kept, TEXTS), array_of(kept, LONG_TEXTS), count_of(kept, LONG_TEXTS),
+                             array_of(kept, HINTS), count_of(kept, HINTS), &sizes, &fault) != COMPOSECHECK_DONE)
+        exit(2);
+}
+
+static void our_check(void)
+{
+    if (composecheck_table_is_table(table, table_size) != 1)
         exit(2);
 }
 
@@ -169,7 +171,7 @@ static void begin(const char *table_path, const char *key_path)
     bytes = read_file(table_path, &length);
     context = xkb_context_new(XKB_CONTEXT_NO_DEFAULT_INCLUDES);
     xkb_context_set_log_level(context, XKB_LOG_LEVEL_CRITICAL);
-    table = our_table();
+    table = our_table(&table_size);
     keep_arrays();
     their_state = xkb_compose_state_new(their_table(), XKB_COMPOSE_STATE_NO_FLAGS);
     keys = read_file(key_path, &key_count);
@@ -185,8 +187,8 @@ int main(int count, char **words)
         (words[1][0] == 'o' ? ours : theirs)();
         return 0;
     }
-    static void (*const parts[])(void) = { ours, theirs, our_feed, their_feed, our_compiling, our_reading, their_reading };
-    static const char *const names[] = { "ours", "theirs", "our feed", "their feed", "our compiling", "our table", "their table" };
+    static void (*const parts[])(void) = { ours, theirs, our_feed, their_feed, our_compiling, our_reading, our_check, their_reading };
+    static const char *const names[] = { "ours", "theirs", "our feed", "their feed", "our compiling", "our table", "our check", "their table" };
     /* (several turns in a row: after a million keys the first one has nothing in the caches) */
     enum { PARTS = sizeof parts / sizeof *parts, TURNS = 3 };
     uint64_t least[PARTS];

@@ -44,7 +44,7 @@ def main():
     print(f"{figures['differences']} of {KEYS} keys are answered otherwise")
     for name in ("ours", "theirs", "our feed", "their feed"):
         print(f"{name}: {figures[name] / KEYS:.1f} ns a key")
-    for name in ("our compiling", "our table", "their table"):
+    for name in ("our compiling", "our table", "our check", "their table"):
         print(f"{name}: {figures[name] / 1e6:.2f} ms")
     for whose, number in zip(("ours", "theirs"), counted):
         print(f"{whose}: {number and round(number)} instructions a key")

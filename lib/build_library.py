@@ -42,9 +42,10 @@ def run(*command, **options):
 
 def compiled(folder, flags):
     """Compiles the C code, and returns the object files: those of the library, and that of the shim."""
-    run(sys.executable, f"{LIB}/names.py", f"{TOP}/crates/builtin_names/src/lines.rt", f"{folder}/names.c")
+    sources = [f"{LIB}/{it}.c" for it in ("block", "table", "files", "cache", "user_table")]
+    run(sys.executable, f"{LIB}/names.py", f"{TOP}/crates/builtin_names/src/lines.rt", f"{folder}/names.c", PROVED, *sources)
     objects = []
-    for source in (f"{LIB}/table.c", f"{LIB}/files.c", f"{LIB}/user_table.c", f"{folder}/names.c", f"{LIB}/xkb_shim.c"):
+    for source in (*sources, f"{folder}/names.c", f"{LIB}/xkb_shim.c"):
         target = f"{folder}/{os.path.basename(source)[:-2]}.o"
         run(compiler(), "-O2", "-fPIC", *WARNINGS, *flags, f"-I{LIB}", "-c", source, "-o", target)
         objects.append(target)

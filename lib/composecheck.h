@@ -1,27 +1,28 @@
 /* composecheck: proved Compose tables and compose states for C programs. docs/LIBRARY.md begins with an example.
  *
- * A table is five arrays in the caller's memory, which composecheck_compile fills and nothing changes after; a state is a struct of
- * numbers in the caller's memory, and zeros are a state at rest. The library keeps nothing between two calls: what it allocates it
- * frees before it returns. The exceptions are the calls that return a struct composecheck_table, one block of malloc that
- * composecheck_table_free frees, and composecheck_files_find.
+ * A table is one block of bytes, which a call makes and nothing changes after: a program may copy it, keep it in a file, map it and send it. A state is
+ * a struct of numbers in the caller's memory, and zeros are a state at rest. The library keeps nothing between two calls: what it allocates it frees
+ * before it returns. The exceptions are the calls that return a table, one block of malloc that composecheck_table_free frees, and
+ * composecheck_files_find.
  *
  * The functions of the first part are proved: their contracts stand in crates/compose_c/src/lib.rt, and docs/LIBRARY.md says them in
- * words. Those of the second part are C over them, and tested.
+ * words. Those of the second part are C over proved ones, and tested.
  *
  * Premises of every function, which nothing checks:
  *   - a pointer is not null, even if a count is 0, and points to as many entries as the count after it says, aligned as their type;
  *     it may be null only if a comment says so;
+ *   - `const void *table, size_t length` are a table: what a call of this library returned, or bytes of which composecheck_table_is_table said 1,
+ *     aligned for 8 bytes. Only composecheck_table_is_table and composecheck_table_copy look at the length: a key costs no check;
  *   - memory that a call writes overlaps no other memory that the call is given, and no other thread reads or writes it meanwhile;
- *   - memory that a call only reads is not written meanwhile;
+ *   - memory that a call only reads is not written meanwhile, nor a table from its check to its last use;
  *   - malloc, realloc and free belong together, and align as C says;
  *   - a function marked MALLOC is not called in a signal handler, nor in the forked child of a process with threads.
- * What a call says of arrays being a table is its own premise, and composecheck_is_table tests it.
  * A text, a path, a name, a bundle or characters that a call of the first part refuses, or for which there is no room, it leaves as they were.
  *
  * What stays (ABI 1): the names, their parameters and what they mean; the sizes of the structs, whose reserved members are 0 and may get
- * a meaning; the numbers of faults. New functions may come. What the entries of a table hold is the library's own: a later release may
- * write and take others, and then composecheck_is_table refuses these. The symbols have the version COMPOSECHECK_1, and the name of the
- * shared library is libcomposecheck.so.1. */
+ * a meaning; the numbers of faults. New functions may come. What a table's bytes hold is the library's own (docs/LIBRARY.md has the layout): a later
+ * release may write and take others, and then composecheck_table_is_table refuses these. The symbols have the version COMPOSECHECK_1, and the name of
+ * the shared library is libcomposecheck.so.1. */
 #ifndef COMPOSECHECK_H
 #define COMPOSECHECK_H
 #include <stdbool.h>
@@ -38,13 +39,6 @@ extern "C" {
 #define COMPOSECHECK_MOST_PENDING 31
 #define COMPOSECHECK_MOST_TEXT 255
 
-/* Entries of a table. What they hold is the library's own. */
-struct composecheck_node { uint32_t depth, first; };
-struct composecheck_edge { uint32_t target, keysym; };
-
-/* How many entries the arrays of a table have. */
-struct composecheck_sizes { size_t nodes, edges, texts, long_texts, hints, reserved[3]; };
-
 /* A state. Zeros are at rest, and any numbers are a state: if count is above 31, or one of that many pending numbers above 0x1fffffff,
  * nothing is pending; a status above 3 is nothing; any hints serve. It may be copied and kept. */
 struct composecheck_state { uint32_t pending[31], hints[31], count, status; uint32_t reserved[4]; };
@@ -55,13 +49,13 @@ enum composecheck_status { COMPOSECHECK_NOTHING, COMPOSECHECK_COMPOSING, COMPOSE
 /* What composecheck_feed answers; the first two are those of enum xkb_compose_feed_result. */
 enum composecheck_fed { COMPOSECHECK_IGNORED, COMPOSECHECK_ACCEPTED, COMPOSECHECK_NO_KEYSYM };
 
-/* What composecheck_compile, composecheck_load and composecheck_find return; WANTED only the last one. */
+/* What composecheck_find returns. */
 enum composecheck_done { COMPOSECHECK_DONE, COMPOSECHECK_REFUSED, COMPOSECHECK_TOO_SMALL, COMPOSECHECK_WANTED };
 
 /* The part that is refused. */
 enum composecheck_part {
     COMPOSECHECK_NAMES = 1, COMPOSECHECK_BUNDLE, COMPOSECHECK_SOURCE, COMPOSECHECK_OVERLAP, COMPOSECHECK_NODES, COMPOSECHECK_MEMORY,
-    COMPOSECHECK_REPERTOIRE, COMPOSECHECK_CERTIFICATE, COMPOSECHECK_CONDITION, COMPOSECHECK_SEARCH
+    COMPOSECHECK_REPERTOIRE, COMPOSECHECK_CERTIFICATE, COMPOSECHECK_CONDITION, COMPOSECHECK_SEARCH, COMPOSECHECK_TABLE
 };
 
 /* Why a call refuses what it is given; docs/LIBRARY.md lists the codes. Sources count from 0, lines and columns (in characters) from 1;
@@ -71,48 +65,13 @@ struct composecheck_fault { uint32_t part, code, lexical, value; uint64_t source
 
 /* ---- proved */
 
-/* Reads a table and fills its arrays. header: names, lines as of keysymdef.h. bundle: the number of sources (2 bytes, 1 to 64); each as
- * the length of its name (2 bytes), the name, the length of its content (4 bytes) and the content; the length of a certificate (4 bytes)
- * and the certificate. Numbers are big-endian, the names UTF-8 and distinct, and the first source is the root. longest: of two sequences of which
- * one is a prefix of the other the longer one counts, as in libxkbcommon; else such a table is refused.
- * edges: memory of zeros (calloc), or what an earlier call filled: each entry holds a keysym, at most 0x1fffffff, before the call too.
- * DONE: sizes says how many entries count, and the arrays are a table. REFUSED: fault says why, and sizes stays as it was. TOO_SMALL: sizes says
- * how many entries the table has, and an array is smaller than that. If it isn't DONE, the arrays stay as they were; if it isn't REFUSED, fault does.
- * MALLOC */
-uint32_t composecheck_compile(const uint8_t *header, size_t header_length, const uint8_t *bundle, size_t bundle_length, bool longest,
-                              struct composecheck_node *nodes, size_t node_room, struct composecheck_edge *edges, size_t edge_room,
-                              uint8_t *texts, size_t text_room, uint8_t *long_texts, size_t long_text_room, uint8_t *hints, size_t hint_room,
-                              struct composecheck_sizes *sizes, struct composecheck_fault *fault);
-
-/* As composecheck_compile, and fills results besides with the result keysym of each sequence, one for each text and in their order;
- * *result_count says how many they are, a quarter of the bytes of texts. It is the keysym that the line names which counts for the sequence; if it
- * names none, the least keysym of the text's character; and 0 (XKB_KEY_NoSymbol) if the text isn't one character, or no keysym has it.
- * TOO_SMALL also if results has less room than *result_count says. If it isn't DONE, results stays as it was, and if it is REFUSED, *result_count
- * does. MALLOC */
-uint32_t composecheck_compile_with_results(const uint8_t *header, size_t header_length, const uint8_t *bundle, size_t bundle_length, bool longest,
-                                           struct composecheck_node *nodes, size_t node_room, struct composecheck_edge *edges, size_t edge_room,
-                                           uint8_t *texts, size_t text_room, uint8_t *long_texts, size_t long_text_room, uint8_t *hints,
-                                           size_t hint_room, uint32_t *results, size_t result_room, struct composecheck_sizes *sizes,
-                                           size_t *result_count, struct composecheck_fault *fault);
-
-/* The sentence that says why composecheck_compile refuses these sources, or no bytes if it doesn't: UTF-8, of *length bytes, without an
- * end mark. 0 done, 1 no room (*length says what is needed), 2 no memory. MALLOC */
+/* The sentence that says why these sources are no table, or no bytes if they are one: UTF-8, of *length bytes, without an end mark. header: names,
+ * lines as of keysymdef.h. bundle: the number of sources (2 bytes, 1 to 64); each as the length of its name (2 bytes), the name, the length of its
+ * content (4 bytes) and the content; the length of a certificate (4 bytes) and the certificate. Numbers are big-endian, the names UTF-8 and distinct,
+ * and the first source is the root. longest: of two sequences of which one is a prefix of the other the longer one counts, as in libxkbcommon; else
+ * such a table is refused. 0 done, 1 no room (*length says what is needed), 2 no memory. MALLOC */
 uint32_t composecheck_explain(const uint8_t *header, size_t header_length, const uint8_t *bundle, size_t bundle_length, bool longest,
                               uint8_t *text, size_t text_room, size_t *length);
-
-/* Feeds a keysym: ACCEPTED, IGNORED, or NO_KEYSYM above 0x1fffffff, and then the state stays as it was. text gets the *text_length bytes that a
- * sequence commits which the key completes, without an end mark; a key that is part of no sequence commits none here.
- * Premise: the arrays are a table. */
-uint32_t composecheck_feed(const struct composecheck_node *nodes, size_t node_count, const struct composecheck_edge *edges, size_t edge_count,
-                           const uint8_t *texts, size_t text_count, const uint8_t *long_texts, size_t long_text_count,
-                           const uint8_t *hints, size_t hint_count, struct composecheck_state *state, uint32_t keysym,
-                           uint8_t text[COMPOSECHECK_MOST_TEXT], uint32_t *text_length);
-
-/* Takes the state over to another table, also in the middle of a sequence: what is pending is typed anew there, and nothing is committed.
- * Premise: the arrays are a table. */
-void composecheck_refeed(const struct composecheck_node *nodes, size_t node_count, const struct composecheck_edge *edges, size_t edge_count,
-                         const uint8_t *texts, size_t text_count, const uint8_t *long_texts, size_t long_text_count,
-                         const uint8_t *hints, size_t hint_count, struct composecheck_state *state);
 
 void composecheck_reset(struct composecheck_state *state);
 
@@ -121,50 +80,6 @@ uint32_t composecheck_status(const struct composecheck_state *state);
 
 /* Puts the pending keysyms at the front, and gives their count. The entries after them hold any numbers. */
 uint32_t composecheck_pending(const struct composecheck_state *state, uint32_t keysyms[COMPOSECHECK_MOST_PENDING]);
-
-/* The keysym at this index among those that may follow what is pending, in rising order, and what feeding it would do: the status, and the
- * text that it would commit. False if index is not below their number; what it points to then stays as it was.
- * Premise: the arrays are a table. */
-bool composecheck_following(const struct composecheck_node *nodes, size_t node_count, const struct composecheck_edge *edges, size_t edge_count,
-                            const uint8_t *texts, size_t text_count, const uint8_t *long_texts, size_t long_text_count,
-                            const uint8_t *hints, size_t hint_count, const struct composecheck_state *state, uint32_t index,
-                            uint32_t *keysym, uint32_t *status, uint8_t text[COMPOSECHECK_MOST_TEXT], uint32_t *text_length);
-
-/* The result keysym of the sequence that feeding the keysym would complete: of results, which composecheck_compile_with_results filled with
- * the table. 0 if it completes none, if the sequence has none, or if results ends before it. The state stays as it is.
- * Premise: the arrays are a table. */
-uint32_t composecheck_result(const struct composecheck_node *nodes, size_t node_count, const struct composecheck_edge *edges, size_t edge_count,
-                             const uint8_t *texts, size_t text_count, const uint8_t *long_texts, size_t long_text_count,
-                             const uint8_t *hints, size_t hint_count, const uint32_t *results, size_t result_count,
-                             const struct composecheck_state *state, uint32_t keysym);
-
-/* Whether the certificate is valid for a move from the old table to the new one, with these names and this repertoire, as the command
- * `composecheck check` says. False: fault says why; else it stays as it was. Premise: both arrays are tables. MALLOC */
-bool composecheck_check(const uint8_t *header, size_t header_length,
-                        const struct composecheck_node *old_nodes, size_t old_node_count, const struct composecheck_edge *old_edges,
-                        size_t old_edge_count, const uint8_t *old_texts, size_t old_text_count, const uint8_t *old_long_texts,
-                        size_t old_long_text_count, const uint8_t *old_hints, size_t old_hint_count,
-                        const struct composecheck_node *new_nodes, size_t new_node_count, const struct composecheck_edge *new_edges,
-                        size_t new_edge_count, const uint8_t *new_texts, size_t new_text_count, const uint8_t *new_long_texts,
-                        size_t new_long_text_count, const uint8_t *new_hints, size_t new_hint_count,
-                        const uint8_t *repertoire, size_t repertoire_length, const uint8_t *certificate, size_t certificate_length,
-                        struct composecheck_fault *fault);
-
-/* As composecheck_compile, but REFUSED too if the bundle's certificate is not valid for a move from the table in use.
- * Premise: the old arrays are a table. MALLOC */
-uint32_t composecheck_load(const uint8_t *header, size_t header_length,
-                           const struct composecheck_node *old_nodes, size_t old_node_count, const struct composecheck_edge *old_edges,
-                           size_t old_edge_count, const uint8_t *old_texts, size_t old_text_count, const uint8_t *old_long_texts,
-                           size_t old_long_text_count, const uint8_t *old_hints, size_t old_hint_count,
-                           const uint8_t *repertoire, size_t repertoire_length, const uint8_t *bundle, size_t bundle_length, bool longest,
-                           struct composecheck_node *nodes, size_t node_room, struct composecheck_edge *edges, size_t edge_room,
-                           uint8_t *texts, size_t text_room, uint8_t *long_texts, size_t long_text_room, uint8_t *hints, size_t hint_room,
-                           struct composecheck_sizes *sizes, struct composecheck_fault *fault);
-
-/* Whether arrays of any numbers are a table: 1 they are, 0 they are the arrays of no table, 2 no memory. At most as dear as compiling the
- * table. MALLOC */
-uint32_t composecheck_is_table(const struct composecheck_node *nodes, size_t node_count, const struct composecheck_edge *edges, size_t edge_count,
-                               const uint8_t *texts, size_t text_count, const uint8_t *long_texts, size_t long_text_count);
 
 /* The characters of keysyms by the names of a header, each at its keysym's index; 0 if a keysym has none, or the number is above
  * 0x1fffffff. A key that is part of no sequence commits its character. It takes as long as reading the names: ask for all keys at once.
@@ -182,9 +97,9 @@ uint32_t composecheck_include(const uint8_t *line, size_t line_length, uint8_t *
  *     of the file (4 bytes) and its bytes, or 0 if no file is there. All numbers are big-endian.
  *   root: the path of the table. system, locale, home: what %S, %L and %H stand for; locale is the path of the locale's table
  *     (composecheck_locale_file). sysroot: the folder below which an absolute path of an include is looked for first. locale, home and sysroot
- *     may have no bytes: then they aren't known. certificate: what the bundle gets as its certificate, which only composecheck_load reads.
- * WANTED: target gets the path to look for, *target_length bytes, which has no answer yet. DONE: target gets the bundle of all sources, as
- * composecheck_compile and composecheck_load take it. TOO_SMALL: target has no room, and *target_length says what is needed. REFUSED: fault says
+ *     may have no bytes: then they aren't known. certificate: what the bundle gets as its certificate, which only composecheck_table_load reads.
+ * WANTED: target gets the path to look for, *target_length bytes, which has no answer yet. DONE: target gets the bundle of all sources, which a
+ * struct composecheck_input takes. TOO_SMALL: target has no room, and *target_length says what is needed. REFUSED: fault says
  * why; the source of a fault of COMPOSECHECK_SEARCH is the index of an answer. A second call with the same arguments returns the same. MALLOC */
 uint32_t composecheck_find(const uint8_t *answers, size_t answers_length, const uint8_t *root, size_t root_length, const uint8_t *system,
                            size_t system_length, const uint8_t *locale, size_t locale_length, const uint8_t *home, size_t home_length,
@@ -198,18 +113,7 @@ uint32_t composecheck_locale_file(const uint8_t *folder, size_t folder_length, c
                                   const uint8_t *aliases, size_t aliases_length, const uint8_t *locale, size_t locale_length, uint8_t *path,
                                   size_t path_room, size_t *path_length);
 
-/* ---- C over these: a table as one struct. A fault that a call of this part would fill may be null */
-
-/* A table: where its arrays are. Whoever has the arrays elsewhere, as in shared memory, fills it in; if there are no result keysyms,
- * results is null and result_count 0. */
-struct composecheck_table {
-    struct composecheck_sizes sizes;
-    const struct composecheck_node *nodes;
-    const struct composecheck_edge *edges;
-    const uint8_t *texts, *long_texts, *hints;
-    const uint32_t *results;
-    size_t result_count;
-};
+/* ---- C over these, and over the proved calls on the arrays of a table. A fault that a call of this part would fill may be null */
 
 /* A source: its name as the including line writes it between its quotes (the root's can be any), and its bytes. */
 struct composecheck_source { const char *name; const void *bytes; size_t length; };
@@ -230,34 +134,49 @@ struct composecheck_input {
     void *reserved[2];
 };
 
-/* The table with its result keysyms, in one block of malloc; null if it is refused, and fault says why (COMPOSECHECK_MEMORY: no memory). MALLOC */
-struct composecheck_table *composecheck_table_new(const struct composecheck_input *input, struct composecheck_fault *fault);
+/* The table of these sources with its result keysyms, a block of malloc of *length bytes; null if it is refused, and fault says why
+ * (COMPOSECHECK_MEMORY: no memory). The result keysym of a sequence is that which the line names which counts for it; if it names none, the least
+ * keysym of the text's character; and 0 (XKB_KEY_NoSymbol) if the text isn't one character, or no keysym has it. MALLOC */
+void *composecheck_table_new(const struct composecheck_input *input, size_t *length, struct composecheck_fault *fault);
 
 /* The same, and refused too if the certificate is not valid for a move from the table in use. MALLOC */
-struct composecheck_table *composecheck_table_load(const struct composecheck_table *in_use, const struct composecheck_input *input,
-                                                   struct composecheck_fault *fault);
+void *composecheck_table_load(const void *in_use, size_t in_use_length, const struct composecheck_input *input, size_t *length,
+                              struct composecheck_fault *fault);
 
-/* Frees a table of composecheck_table_new or composecheck_table_load; null does nothing. */
-void composecheck_table_free(struct composecheck_table *table);
+/* Whether any bytes at any address are a table: 1 they are, and then every call may have them; 0 they aren't, 2 no memory. At most as dear as
+ * compiling the table. MALLOC */
+uint32_t composecheck_table_is_table(const void *bytes, size_t length);
+
+/* A copy of a table of this length, in a block of malloc; the bytes may be anywhere and any. Null if they are none: fault says why (COMPOSECHECK_TABLE:
+ * 1 no block of this layout, 2 the arrays of no table). MALLOC */
+void *composecheck_table_copy(const void *bytes, size_t length, struct composecheck_fault *fault);
+
+/* Frees a table that a call of this library returned; null does nothing. */
+void composecheck_table_free(void *table);
 
 /* The sentence of composecheck_explain, cut to the room, with an end mark; gives the whole length, as snprintf does. MALLOC */
 size_t composecheck_table_explain(const struct composecheck_input *input, char *text, size_t room);
 
-/* composecheck_check with the input's header, repertoire and certificate. MALLOC */
-bool composecheck_table_check(const struct composecheck_table *old_table, const struct composecheck_table *new_table,
+/* Whether the input's certificate is valid for a move from the old table to the new one, with the input's header and repertoire, as the command
+ * `composecheck check` says. False: fault says why. MALLOC */
+bool composecheck_table_check(const void *old_table, size_t old_length, const void *new_table, size_t new_length,
                               const struct composecheck_input *input, struct composecheck_fault *fault);
 
-/* composecheck_is_table. MALLOC */
-uint32_t composecheck_table_is_table(const struct composecheck_table *table);
-
-uint32_t composecheck_table_feed(const struct composecheck_table *table, struct composecheck_state *state, uint32_t keysym,
+/* Feeds a keysym: ACCEPTED, IGNORED, or NO_KEYSYM above 0x1fffffff, and then the state stays as it was. text gets the *text_length bytes that a
+ * sequence commits which the key completes, without an end mark; a key that is part of no sequence commits none here. */
+uint32_t composecheck_table_feed(const void *table, size_t length, struct composecheck_state *state, uint32_t keysym,
                                  uint8_t text[COMPOSECHECK_MOST_TEXT], uint32_t *text_length);
-void composecheck_table_refeed(const struct composecheck_table *table, struct composecheck_state *state);
-bool composecheck_table_following(const struct composecheck_table *table, const struct composecheck_state *state, uint32_t index,
+
+/* Takes the state over to another table, also in the middle of a sequence: what is pending is typed anew there, and nothing is committed. */
+void composecheck_table_refeed(const void *table, size_t length, struct composecheck_state *state);
+
+/* The keysym at this index among those that may follow what is pending, in rising order, and what feeding it would do: the status, and the
+ * text that it would commit. False if index is not below their number; what it points to then stays as it was. */
+bool composecheck_table_following(const void *table, size_t length, const struct composecheck_state *state, uint32_t index,
                                   uint32_t *keysym, uint32_t *status, uint8_t text[COMPOSECHECK_MOST_TEXT], uint32_t *text_length);
 
-/* composecheck_result; 0 if the table has no result keysyms. */
-uint32_t composecheck_table_result(const struct composecheck_table *table, const struct composecheck_state *state, uint32_t keysym);
+/* The result keysym of the sequence that feeding the keysym would complete; 0 if it completes none, or the sequence has none. The state stays as it is. */
+uint32_t composecheck_table_result(const void *table, size_t length, const struct composecheck_state *state, uint32_t keysym);
 
 /* The next include of a source from *offset on, which goes on after its line: its name with an end mark in name, false if there is none
  * with a name that has room. *offset is 0 at first. */
@@ -267,10 +186,10 @@ bool composecheck_next_include(const void *bytes, size_t length, size_t *offset,
  * for %L; the home folder, for %H; and the folder below which an absolute path is looked for first. */
 struct composecheck_places { const char *system, *locale, *home, *sysroot; };
 
-/* Reads the table of the file at this path, with every file that it includes, by stdio; places may be null. Null if it is refused: fault says
- * why, and text gets it as a line `FILE:LINE:COLUMN: SENTENCE`, cut to the room (with no room text may be null). MALLOC */
-struct composecheck_table *composecheck_table_from_file(const char *path, const struct composecheck_places *places, bool longest,
-                                                        struct composecheck_fault *fault, char *text, size_t room);
+/* Reads the table of the file at this path, with every file that it includes, by stdio, as a block of *length bytes; places may be null. Null if it is
+ * refused: fault says why, and text gets it as a line `FILE:LINE:COLUMN: SENTENCE`, cut to the room (with no room text may be null). MALLOC */
+void *composecheck_table_from_file(const char *path, const struct composecheck_places *places, bool longest, size_t *length,
+                                   struct composecheck_fault *fault, char *text, size_t room);
 
 /* The files of a table: the answers that composecheck_find took, and the bundle that it gave. */
 struct composecheck_files { uint8_t *answers, *bundle; size_t answers_length, bundle_length; };
@@ -292,6 +211,7 @@ size_t composecheck_files_explain(const struct composecheck_files *files, bool l
 struct composecheck_options {
     const char *system; /* the folder of the system's tables, for %S and the tables of locales; null: $XLOCALEDIR, or /usr/share/X11/locale */
     bool is_strict;     /* a faulty line refuses the table; else up to ten of them are left out, as by libxkbcommon */
+    bool is_cached;     /* the table is kept in composecheck/ in $XDG_CACHE_HOME (or $HOME/.cache), and taken from there while its files are the same */
     void *context;      /* what the report is given */
     void *reserved[5];
 };
@@ -305,7 +225,7 @@ typedef void composecheck_report(void *context, const struct composecheck_messag
  * $XCOMPOSEFILE; XCompose in $XDG_CONFIG_HOME if that is an absolute path, else in $HOME/.config; $HOME/.XCompose; the file of the locale. The longest
  * of overlapping sequences count. locale: null for that of the environment ($LC_ALL, $LC_CTYPE or $LANG); C stands for en_US.UTF-8. Null if there is
  * no table, and the last message says why. options and report may be null. A program with more rights than its user reads no variable. MALLOC */
-struct composecheck_table *composecheck_table_from_locale(const char *locale, const struct composecheck_options *options, composecheck_report *report);
+void *composecheck_table_from_locale(const char *locale, const struct composecheck_options *options, composecheck_report *report, size_t *length);
 
 /* The text of a key that is part of no sequence, by the names that are built in, in UTF-8 with an end mark; returns its length, 0 if the
  * key has none or memory is wanting. For several keys composecheck_characters is faster. MALLOC */

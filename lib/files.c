@@ -1,5 +1,5 @@
 /* The files of a table: composecheck_find says which, and stdio reads them. C, and unproved. */
-#include "composecheck.h"
+#include "cache.h"
 #include <errno.h>
 #include <stdio.h>
 #include <stdlib.h>
@@ -28,8 +28,7 @@ static uint8_t *put_number(uint8_t *at, size_t number, int bytes)
 
 /* ---- answers */
 
-/* Adds what was found at a path: bytes, or null where no file is there. */
-static bool add_answer(struct composecheck_files *files, const void *path, size_t path_length, const void *bytes, size_t length)
+bool composecheck_add_answer(struct composecheck_files *files, const void *path, size_t path_length, const void *bytes, size_t length)
 {
     size_t count = files->answers ? number_at(files->answers, 2) : 0, old = files->answers ? files->answers_length : 2;
     size_t needed = old + 2 + path_length + 1 + (bytes ? 4 + length : 0);
@@ -111,7 +110,7 @@ static enum found look(struct composecheck_files *files, const uint8_t *path, si
     memcpy(name, path, path_length);
     name[path_length] = 0;
     enum found found = strlen(name) == path_length ? read_file(name, &bytes, &length) : ABSENT;
-    if (found != OUT_OF_MEMORY && !add_answer(files, name, path_length, bytes, length))
+    if (found != OUT_OF_MEMORY && !composecheck_add_answer(files, name, path_length, bytes, length))
         found = OUT_OF_MEMORY;
     free(bytes);
     free(name);
@@ -180,7 +179,7 @@ bool composecheck_files_find(struct composecheck_files *files, const char *root,
     size_t size;
     *files = none;
     *fault = fault_of(COMPOSECHECK_MEMORY, 0);
-    if (bytes && !add_answer(files, root, strlen(root), bytes, length))
+    if (bytes && !composecheck_add_answer(files, root, strlen(root), bytes, length))
         return false;
     if (!search(files, root, places, &size, fault))
         return false;
@@ -263,15 +262,16 @@ size_t composecheck_files_explain(const struct composecheck_files *files, bool l
 
 /* ---- tables */
 
-struct composecheck_table *composecheck_table_from_file(const char *path, const struct composecheck_places *places, bool longest,
-                                                        struct composecheck_fault *wanted, char *text, size_t room)
+void *composecheck_table_from_file(const char *path, const struct composecheck_places *places, bool longest, size_t *length,
+                                   struct composecheck_fault *wanted, char *text, size_t room)
 {
     struct composecheck_files files;
     struct composecheck_fault unwanted, *fault = wanted ? wanted : &unwanted;
-    struct composecheck_table *table = NULL;
+    void *table = NULL;
+    *length = 0;
     if (composecheck_files_find(&files, path, NULL, 0, places, fault)) {
         struct composecheck_input input = { .bundle = files.bundle, .bundle_length = files.bundle_length, .longest = longest };
-        table = composecheck_table_new(&input, fault);
+        table = composecheck_table_new(&input, length, fault);
     }
     if (!table && room > 0)
         composecheck_files_explain(&files, longest, fault, text, room);

@@ -1,16 +1,7 @@
-/* A table as one struct, over the proved functions. C, and unproved. */
-#include "composecheck.h"
+/* Tables as blocks of bytes, over the proved calls on their arrays. C, and unproved. */
+#include "block.h"
 #include <stdlib.h>
 #include <string.h>
-
-/* Arrays that are filled. */
-struct room {
-    struct composecheck_sizes sizes;
-    struct composecheck_node *nodes;
-    struct composecheck_edge *edges;
-    uint32_t *results;
-    uint8_t *texts, *long_texts, *hints;
-};
 
 /* ---- bundles */
 
@@ -86,66 +77,23 @@ static bool bundle_of(const struct composecheck_input *input, struct bundle *bun
 
 /* ---- blocks */
 
-/* Where the arrays lie behind a struct in one block, the wider entries first; the bytes of all of it. A text has a result keysym and four bytes. */
-static size_t lay_out(uint8_t *block, const struct composecheck_sizes *sizes, struct room *room)
+/* A block with arrays of this many entries, which may hold anything. A text has a result keysym, and four bytes. */
+static void *new_block(const struct composecheck_sizes *sizes)
 {
-    uint8_t *at = block + sizeof(struct composecheck_table);
-    room->sizes = *sizes;
-    room->nodes = (struct composecheck_node *) (void *) at;
-    at += sizes->nodes * sizeof *room->nodes;
-    room->edges = (struct composecheck_edge *) (void *) at;
-    at += sizes->edges * sizeof *room->edges;
-    room->results = (uint32_t *) (void *) at;
-    at += sizes->texts / 4 * sizeof *room->results;
-    room->texts = at;
-    at += sizes->texts;
-    room->long_texts = at;
-    at += sizes->long_texts;
-    room->hints = at;
-    at += sizes->hints;
-    return (size_t) (at - block);
-}
-
-static size_t block_size(const struct composecheck_sizes *sizes)
-{
-    return sizeof(struct composecheck_table) + sizes->nodes * sizeof(struct composecheck_node) + sizes->edges * sizeof(struct composecheck_edge)
-           + sizes->texts / 4 * sizeof(uint32_t) + sizes->texts + sizes->long_texts + sizes->hints;
-}
-
-/* A block with room for this number of entries, which may hold anything. */
-static uint8_t *new_block(const struct composecheck_sizes *sizes, struct room *room)
-{
-    uint8_t *block = malloc(block_size(sizes));
+    const uint64_t counts[ARRAYS] = { sizes->nodes, sizes->edges, sizes->texts / 4, sizes->texts, sizes->long_texts, sizes->hints };
+    void *block = malloc(composecheck_block_length(counts));
     if (block)
-        lay_out(block, sizes, room);
+        composecheck_begin_block(block, counts);
     return block;
 }
 
-/* A block of the right size with the entries that count. */
-static struct composecheck_table *table_of(const struct room *wide, const struct composecheck_sizes *sizes, size_t result_count)
+/* A block of just the entries that count. */
+static void *table_of(const void *wide, const struct composecheck_sizes *sizes)
 {
-    struct room room;
-    uint8_t *block = new_block(sizes, &room);
-    if (!block)
-        return NULL;
-    memcpy(room.nodes, wide->nodes, sizes->nodes * sizeof *room.nodes);
-    memcpy(room.edges, wide->edges, sizes->edges * sizeof *room.edges);
-    memcpy(room.texts, wide->texts, sizes->texts);
-    memcpy(room.long_texts, wide->long_texts, sizes->long_texts);
-    memcpy(room.hints, wide->hints, sizes->hints);
-    memcpy(room.results, wide->results, result_count * sizeof *room.results);
-    struct composecheck_table *table = (struct composecheck_table *) (void *) block;
-    *table = (struct composecheck_table) {
-        .sizes = *sizes,
-        .nodes = room.nodes,
-        .edges = room.edges,
-        .texts = room.texts,
-        .long_texts = room.long_texts,
-        .hints = room.hints,
-        .results = room.results,
-        .result_count = result_count,
-    };
-    return table;
+    void *block = new_block(sizes);
+    for (int i = 0; block && i < ARRAYS; i++)
+        memcpy(array_of(block, i), array_of(wide, i), count_of(block, i) * composecheck_widths[i]);
+    return block;
 }
 
 /* Room for the table of most sources of this number of bytes. An event has three bytes and a line five, so only the edges and their hints can be too
@@ -170,82 +118,116 @@ static const uint8_t *header_of(const struct composecheck_input *input, size_t *
     return input->header ? input->header : composecheck_builtin_names(length);
 }
 
-static uint32_t fill(const struct composecheck_input *input, const struct bundle *bundle, struct room *room, struct composecheck_sizes *sizes,
-                     size_t *result_count, struct composecheck_fault *fault)
+static uint32_t fill(const struct composecheck_input *input, const struct bundle *bundle, void *wide, struct composecheck_sizes *sizes,
+                     struct composecheck_fault *fault)
 {
-    size_t length;
+    size_t length, results;
     const uint8_t *header = header_of(input, &length);
-    return composecheck_compile_with_results(header, length, bundle->bytes, bundle->length, input->longest, room->nodes, room->sizes.nodes,
-                                             room->edges, room->sizes.edges, room->texts, room->sizes.texts, room->long_texts, room->sizes.long_texts,
-                                             room->hints, room->sizes.hints, room->results, room->sizes.texts / 4, sizes, result_count, fault);
+    return composecheck_compile_with_results(header, length, bundle->bytes, bundle->length, input->longest, array_of(wide, NODES), count_of(wide, NODES),
+                                             array_of(wide, EDGES), count_of(wide, EDGES), array_of(wide, TEXTS), count_of(wide, TEXTS),
+                                             array_of(wide, LONG_TEXTS), count_of(wide, LONG_TEXTS), array_of(wide, HINTS), count_of(wide, HINTS),
+                                             array_of(wide, RESULTS), count_of(wide, RESULTS), sizes, &results, fault);
 }
 
 /* Whether the certificate lets the table be loaded; its arrays are filled then. */
-static uint32_t load(const struct composecheck_table *in_use, const struct composecheck_input *input, const struct bundle *bundle,
-                     struct room *room, struct composecheck_sizes *sizes, struct composecheck_fault *fault)
+static uint32_t load(const void *in_use, const struct composecheck_input *input, const struct bundle *bundle, void *wide,
+                     struct composecheck_sizes *sizes, struct composecheck_fault *fault)
 {
     size_t length;
     const uint8_t *header = header_of(input, &length);
-    return composecheck_load(header, length, in_use->nodes, in_use->sizes.nodes, in_use->edges, in_use->sizes.edges, in_use->texts,
-                             in_use->sizes.texts, in_use->long_texts, in_use->sizes.long_texts, in_use->hints, in_use->sizes.hints,
-                             or_nothing(input->repertoire), input->repertoire_length, bundle->bytes, bundle->length, input->longest, room->nodes,
-                             room->sizes.nodes, room->edges, room->sizes.edges, room->texts, room->sizes.texts, room->long_texts,
-                             room->sizes.long_texts, room->hints, room->sizes.hints, sizes, fault);
+    return composecheck_load(header, length, array_of(in_use, NODES), count_of(in_use, NODES), array_of(in_use, EDGES), count_of(in_use, EDGES),
+                             array_of(in_use, TEXTS), count_of(in_use, TEXTS), array_of(in_use, LONG_TEXTS), count_of(in_use, LONG_TEXTS),
+                             array_of(in_use, HINTS), count_of(in_use, HINTS), or_nothing(input->repertoire), input->repertoire_length, bundle->bytes,
+                             bundle->length, input->longest, array_of(wide, NODES), count_of(wide, NODES), array_of(wide, EDGES), count_of(wide, EDGES),
+                             array_of(wide, TEXTS), count_of(wide, TEXTS), array_of(wide, LONG_TEXTS), count_of(wide, LONG_TEXTS),
+                             array_of(wide, HINTS), count_of(wide, HINTS), sizes, fault);
 }
 
 /* Reads into a block of this room. TOO_SMALL changes the room to what is needed. */
-static uint32_t read_into(const struct composecheck_table *in_use, const struct composecheck_input *input, const struct bundle *bundle,
-                          struct composecheck_sizes *sizes, struct composecheck_table **table, struct composecheck_fault *fault)
+static uint32_t read_into(const void *in_use, const struct composecheck_input *input, const struct bundle *bundle, struct composecheck_sizes *sizes,
+                          void **table, struct composecheck_fault *fault)
 {
-    struct room room;
-    size_t result_count;
-    uint8_t *block = new_block(sizes, &room);
+    void *wide = new_block(sizes);
     *table = NULL;
     *fault = fault_of(COMPOSECHECK_MEMORY, 0);
-    if (!block)
+    if (!wide)
         return COMPOSECHECK_REFUSED;
     /* (an edge holds a keysym before the call too; the other entries may hold anything) */
-    memset(room.edges, 0, sizes->edges * sizeof *room.edges);
-    uint32_t done = in_use ? load(in_use, input, bundle, &room, sizes, fault) : COMPOSECHECK_DONE;
+    memset(array_of(wide, EDGES), 0, count_of(wide, EDGES) * sizeof(struct composecheck_edge));
+    uint32_t done = in_use ? load(in_use, input, bundle, wide, sizes, fault) : COMPOSECHECK_DONE;
     if (done == COMPOSECHECK_DONE)
-        done = fill(input, bundle, &room, sizes, &result_count, fault);
+        done = fill(input, bundle, wide, sizes, fault);
     if (done == COMPOSECHECK_DONE)
-        *table = table_of(&room, sizes, result_count);
-    free(block);
+        *table = table_of(wide, sizes);
+    free(wide);
     return done;
 }
 
-static struct composecheck_table *read_table(const struct composecheck_table *in_use, const struct composecheck_input *input,
-                                             struct composecheck_fault *wanted)
+static void *read_table(const void *in_use, const struct composecheck_input *input, size_t *length, struct composecheck_fault *wanted)
 {
     struct bundle bundle;
-    struct composecheck_table *table;
+    void *table;
     struct composecheck_fault unwanted, *fault = wanted ? wanted : &unwanted;
+    *length = 0;
     if (!bundle_of(input, &bundle, fault))
         return NULL;
     struct composecheck_sizes sizes = guess(bundle.length);
     if (read_into(in_use, input, &bundle, &sizes, &table, fault) == COMPOSECHECK_TOO_SMALL)
         read_into(in_use, input, &bundle, &sizes, &table, fault);
     free(bundle.block);
-    if (table)
+    if (table) {
         *fault = fault_of(0, 0);
+        *length = length_of(table);
+    }
     return table;
 }
 
-struct composecheck_table *composecheck_table_new(const struct composecheck_input *input, struct composecheck_fault *fault)
+void *composecheck_table_new(const struct composecheck_input *input, size_t *length, struct composecheck_fault *fault)
 {
-    return read_table(NULL, input, fault);
+    return read_table(NULL, input, length, fault);
 }
 
-struct composecheck_table *composecheck_table_load(const struct composecheck_table *in_use, const struct composecheck_input *input,
-                                                   struct composecheck_fault *fault)
+void *composecheck_table_load(const void *in_use, size_t in_use_length, const struct composecheck_input *input, size_t *length,
+                              struct composecheck_fault *fault)
 {
-    return read_table(in_use, input, fault);
+    (void) in_use_length;
+    return read_table(in_use, input, length, fault);
 }
 
-void composecheck_table_free(struct composecheck_table *table)
+void composecheck_table_free(void *table)
 {
     free(table);
+}
+
+/* ---- tables of any bytes */
+
+uint32_t composecheck_table_is_table(const void *bytes, size_t length)
+{
+    if (!composecheck_is_block(bytes, length))
+        return 0;
+    return composecheck_is_table(array_of(bytes, NODES), count_of(bytes, NODES), array_of(bytes, EDGES), count_of(bytes, EDGES), array_of(bytes, TEXTS),
+                                 count_of(bytes, TEXTS), array_of(bytes, LONG_TEXTS), count_of(bytes, LONG_TEXTS));
+}
+
+void *composecheck_table_copy(const void *bytes, size_t length, struct composecheck_fault *wanted)
+{
+    enum { NO_BLOCK = 1, NO_TABLE = 2 };
+    struct composecheck_fault unwanted, *fault = wanted ? wanted : &unwanted;
+    void *copy = malloc(length + 1);
+    *fault = fault_of(COMPOSECHECK_MEMORY, 0);
+    if (!copy)
+        return NULL;
+    /* (what is checked is the copy, which nobody else can change) */
+    memcpy(copy, bytes, length);
+    uint32_t is = composecheck_table_is_table(copy, length);
+    if (is == 1) {
+        *fault = fault_of(0, 0);
+        return copy;
+    }
+    if (is == 0)
+        *fault = fault_of(COMPOSECHECK_TABLE, composecheck_is_block(copy, length) ? NO_TABLE : NO_BLOCK);
+    free(copy);
+    return NULL;
 }
 
 /* ---- what is printed */
@@ -302,51 +284,56 @@ size_t composecheck_table_explain(const struct composecheck_input *input, char *
     return length;
 }
 
-bool composecheck_table_check(const struct composecheck_table *old_table, const struct composecheck_table *new_table,
+bool composecheck_table_check(const void *old_table, size_t old_length, const void *new_table, size_t new_length,
                               const struct composecheck_input *input, struct composecheck_fault *wanted)
 {
-    const struct composecheck_table *a = old_table, *b = new_table;
+    const void *a = old_table, *b = new_table;
     struct composecheck_fault unwanted, *fault = wanted ? wanted : &unwanted;
     size_t length;
     const uint8_t *header = header_of(input, &length);
-    return composecheck_check(header, length, a->nodes, a->sizes.nodes, a->edges, a->sizes.edges, a->texts, a->sizes.texts, a->long_texts,
-                              a->sizes.long_texts, a->hints, a->sizes.hints, b->nodes, b->sizes.nodes, b->edges, b->sizes.edges, b->texts,
-                              b->sizes.texts, b->long_texts, b->sizes.long_texts, b->hints, b->sizes.hints, or_nothing(input->repertoire),
+    (void) old_length;
+    (void) new_length;
+    return composecheck_check(header, length, array_of(a, NODES), count_of(a, NODES), array_of(a, EDGES), count_of(a, EDGES), array_of(a, TEXTS),
+                              count_of(a, TEXTS), array_of(a, LONG_TEXTS), count_of(a, LONG_TEXTS), array_of(a, HINTS), count_of(a, HINTS),
+                              array_of(b, NODES), count_of(b, NODES), array_of(b, EDGES), count_of(b, EDGES), array_of(b, TEXTS), count_of(b, TEXTS),
+                              array_of(b, LONG_TEXTS), count_of(b, LONG_TEXTS), array_of(b, HINTS), count_of(b, HINTS), or_nothing(input->repertoire),
                               input->repertoire_length, or_nothing(input->certificate), input->certificate_length, fault);
 }
 
-uint32_t composecheck_table_is_table(const struct composecheck_table *t)
-{
-    return composecheck_is_table(t->nodes, t->sizes.nodes, t->edges, t->sizes.edges, t->texts, t->sizes.texts, t->long_texts, t->sizes.long_texts);
-}
+/* ---- typing: the block is a table, and nothing of it is checked at a key */
 
-/* ---- typing */
-
-uint32_t composecheck_table_feed(const struct composecheck_table *t, struct composecheck_state *state, uint32_t keysym,
+uint32_t composecheck_table_feed(const void *table, size_t length, struct composecheck_state *state, uint32_t keysym,
                                  uint8_t text[COMPOSECHECK_MOST_TEXT], uint32_t *text_length)
 {
-    return composecheck_feed(t->nodes, t->sizes.nodes, t->edges, t->sizes.edges, t->texts, t->sizes.texts, t->long_texts, t->sizes.long_texts,
-                             t->hints, t->sizes.hints, state, keysym, text, text_length);
+    (void) length;
+    return composecheck_feed(array_of(table, NODES), count_of(table, NODES), array_of(table, EDGES), count_of(table, EDGES), array_of(table, TEXTS),
+                             count_of(table, TEXTS), array_of(table, LONG_TEXTS), count_of(table, LONG_TEXTS), array_of(table, HINTS),
+                             count_of(table, HINTS), state, keysym, text, text_length);
 }
 
-void composecheck_table_refeed(const struct composecheck_table *t, struct composecheck_state *state)
+void composecheck_table_refeed(const void *table, size_t length, struct composecheck_state *state)
 {
-    composecheck_refeed(t->nodes, t->sizes.nodes, t->edges, t->sizes.edges, t->texts, t->sizes.texts, t->long_texts, t->sizes.long_texts,
-                        t->hints, t->sizes.hints, state);
+    (void) length;
+    composecheck_refeed(array_of(table, NODES), count_of(table, NODES), array_of(table, EDGES), count_of(table, EDGES), array_of(table, TEXTS),
+                        count_of(table, TEXTS), array_of(table, LONG_TEXTS), count_of(table, LONG_TEXTS), array_of(table, HINTS),
+                        count_of(table, HINTS), state);
 }
 
-bool composecheck_table_following(const struct composecheck_table *t, const struct composecheck_state *state, uint32_t index,
+bool composecheck_table_following(const void *table, size_t length, const struct composecheck_state *state, uint32_t index,
                                   uint32_t *keysym, uint32_t *status, uint8_t text[COMPOSECHECK_MOST_TEXT], uint32_t *text_length)
 {
-    return composecheck_following(t->nodes, t->sizes.nodes, t->edges, t->sizes.edges, t->texts, t->sizes.texts, t->long_texts, t->sizes.long_texts,
-                                  t->hints, t->sizes.hints, state, index, keysym, status, text, text_length);
+    (void) length;
+    return composecheck_following(array_of(table, NODES), count_of(table, NODES), array_of(table, EDGES), count_of(table, EDGES), array_of(table, TEXTS),
+                                  count_of(table, TEXTS), array_of(table, LONG_TEXTS), count_of(table, LONG_TEXTS), array_of(table, HINTS),
+                                  count_of(table, HINTS), state, index, keysym, status, text, text_length);
 }
 
-uint32_t composecheck_table_result(const struct composecheck_table *t, const struct composecheck_state *state, uint32_t keysym)
+uint32_t composecheck_table_result(const void *table, size_t length, const struct composecheck_state *state, uint32_t keysym)
 {
-    static const uint32_t none[1];
-    return composecheck_result(t->nodes, t->sizes.nodes, t->edges, t->sizes.edges, t->texts, t->sizes.texts, t->long_texts, t->sizes.long_texts,
-                               t->hints, t->sizes.hints, t->results ? t->results : none, t->results ? t->result_count : 0, state, keysym);
+    (void) length;
+    return composecheck_result(array_of(table, NODES), count_of(table, NODES), array_of(table, EDGES), count_of(table, EDGES), array_of(table, TEXTS),
+                               count_of(table, TEXTS), array_of(table, LONG_TEXTS), count_of(table, LONG_TEXTS), array_of(table, HINTS),
+                               count_of(table, HINTS), array_of(table, RESULTS), count_of(table, RESULTS), state, keysym);
 }
 
 /* ---- keys */

@@ -19,7 +19,8 @@ extern void xkb_context_unref(struct xkb_context *context) __attribute__((weak))
 struct xkb_compose_table {
     int references;
     struct xkb_context *context;
-    struct composecheck_table *table;
+    void *table;
+    size_t length;
 };
 struct xkb_compose_state {
     struct composecheck_state state;
@@ -73,14 +74,20 @@ static void report(void *context, const struct composecheck_message *message)
     fprintf(stderr, "composecheck: %s%s\n", message->text, message->is_left_out ? "; the line is left out" : "");
 }
 
-/* Faulty lines are left out with COMPOSECHECK_SHIM_SKIP=1. */
-static struct composecheck_options options(void)
+/* Whether the variable is 1. */
+static bool is_on(const char *name)
 {
-    const char *given = secure_getenv("COMPOSECHECK_SHIM_SKIP");
-    return (struct composecheck_options) { .is_strict = !given || strcmp(given, "1") != 0 };
+    const char *given = secure_getenv(name);
+    return given && strcmp(given, "1") == 0;
 }
 
-static struct xkb_compose_table *kept(struct xkb_context *context, struct composecheck_table *table)
+/* Faulty lines are left out with COMPOSECHECK_SHIM_SKIP=1, and the table of a locale is cached with COMPOSECHECK_SHIM_CACHE=1. */
+static struct composecheck_options options(void)
+{
+    return (struct composecheck_options) { .is_strict = !is_on("COMPOSECHECK_SHIM_SKIP"), .is_cached = is_on("COMPOSECHECK_SHIM_CACHE") };
+}
+
+static struct xkb_compose_table *kept(struct xkb_context *context, void *table, size_t length)
 {
     struct xkb_compose_table *made = table ? calloc(1, sizeof *made) : NULL;
     if (!made) {
@@ -90,6 +97,7 @@ static struct xkb_compose_table *kept(struct xkb_context *context, struct compos
     made->references = 1;
     made->context = xkb_context_ref ? xkb_context_ref(context) : context;
     made->table = table;
+    made->length = length;
     return made;
 }
 
@@ -97,25 +105,29 @@ struct xkb_compose_table *xkb_compose_table_new_from_buffer(struct xkb_context *
                                                             int format, int flags)
 {
     struct composecheck_options given = options();
+    size_t size;
     if (flags || format != TEXT_FORMAT)
         return NULL;
-    return kept(context, composecheck_table_of_root(length ? buffer : "", length, "(input string)", locale, &given, report));
+    void *table = composecheck_table_of_root(length ? buffer : "", length, "(input string)", locale, &given, report, &size);
+    return kept(context, table, size);
 }
 
 struct xkb_compose_table *xkb_compose_table_new_from_file(struct xkb_context *context, FILE *file, const char *locale, int format, int flags)
 {
     struct composecheck_options given = options();
-    size_t length;
+    size_t length, size = 0;
     char *bytes = flags || format != TEXT_FORMAT ? NULL : composecheck_read_all(file, &length);
-    struct composecheck_table *table = bytes ? composecheck_table_of_root(bytes, length, "(unknown file)", locale, &given, report) : NULL;
+    void *table = bytes ? composecheck_table_of_root(bytes, length, "(unknown file)", locale, &given, report, &size) : NULL;
     free(bytes);
-    return kept(context, table);
+    return kept(context, table, size);
 }
 
 struct xkb_compose_table *xkb_compose_table_new_from_locale(struct xkb_context *context, const char *locale, int flags)
 {
     struct composecheck_options given = options();
-    return flags ? NULL : kept(context, composecheck_table_from_locale(locale, &given, report));
+    size_t size;
+    void *table = flags ? NULL : composecheck_table_from_locale(locale, &given, report, &size);
+    return table ? kept(context, table, size) : NULL;
 }
 
 struct xkb_compose_table *xkb_compose_table_ref(struct xkb_compose_table *table)
@@ -188,10 +200,10 @@ int xkb_compose_state_feed(struct xkb_compose_state *state, uint32_t keysym)
     struct composecheck_state before = pending_of(&state->state);
     if (keysym > COMPOSECHECK_GREATEST_KEYSYM)
         cancel(&state->state);
-    else if (composecheck_table_feed(state->table->table, &state->state, keysym, text, &length) == COMPOSECHECK_IGNORED)
+    else if (composecheck_table_feed(state->table->table, state->table->length, &state->state, keysym, text, &length) == COMPOSECHECK_IGNORED)
         return 0;
     bool is_composed = composecheck_status(&state->state) == COMPOSECHECK_COMPOSED;
-    state->keysym = is_composed ? composecheck_table_result(state->table->table, &before, keysym) : 0;
+    state->keysym = is_composed ? composecheck_table_result(state->table->table, state->table->length, &before, keysym) : 0;
     memcpy(state->text, text, length);
     state->text[length] = 0;
     return 1;
@@ -245,25 +257,27 @@ static void descend(struct xkb_compose_table_iterator *iterator, uint32_t keysym
     uint8_t text[COMPOSECHECK_MOST_TEXT];
     uint32_t length;
     *state = iterator->states[iterator->depths - 1];
-    composecheck_table_feed(iterator->table->table, state, keysym, text, &length);
+    composecheck_table_feed(iterator->table->table, iterator->table->length, state, keysym, text, &length);
     iterator->next[iterator->depths++] = 0;
 }
 
 struct xkb_compose_table_entry *xkb_compose_table_iterator_next(struct xkb_compose_table_iterator *iterator)
 {
-    const struct composecheck_table *table = iterator->table->table;
+    const void *table = iterator->table->table;
+    size_t size = iterator->table->length;
     struct xkb_compose_table_entry *entry = &iterator->entry;
     while (iterator->depths > 0) {
         size_t depth = iterator->depths - 1;
         uint32_t *keysym = &entry->keysyms[depth], status, length;
-        if (!composecheck_table_following(table, &iterator->states[depth], iterator->next[depth]++, keysym, &status, (uint8_t *) entry->text, &length)) {
+        const struct composecheck_state *state = &iterator->states[depth];
+        if (!composecheck_table_following(table, size, state, iterator->next[depth]++, keysym, &status, (uint8_t *) entry->text, &length)) {
             iterator->depths--;
         } else if (status == COMPOSECHECK_COMPOSING) {
             descend(iterator, *keysym);
         } else {
             entry->count = iterator->depths;
             entry->text[length] = 0;
-            entry->keysym = composecheck_table_result(table, &iterator->states[depth], *keysym);
+            entry->keysym = composecheck_table_result(table, size, state, *keysym);
             return entry;
         }
     }

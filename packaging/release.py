@@ -28,8 +28,8 @@ OLDER = ((b"= ptrtoaddr ", b"= ptrtoint "), (b"captures(none)", b"nocapture"))
 FOLDERS = ("lib/examples", "typing", "ibus", "fcitx5")
 FILES = {
     **{f"lib/{it}": f"lib/{it}" for it in (
-        "composecheck.h", "composecheck_client.h", "composecheck.map", "composecheck_client.map", "xkb_shim.map", "table.c", "files.c", "user_table.c",
-        "user_table.h", "xkb_shim.c")},
+        "composecheck.h", "composecheck_client.h", "composecheck.map", "composecheck_client.map", "xkb_shim.map", "arrays.h", "block.h", "cache.h",
+        "user_table.h", "block.c", "table.c", "files.c", "cache.c", "user_table.c", "xkb_shim.c")},
     "lib/memory.c": "packaging/source/memory.c", "Makefile": "packaging/source/Makefile", "LICENSE": "LICENSE", "CHANGELOG.md": "CHANGELOG.md",
     "LIBRARY.md": "docs/LIBRARY.md",
 }
@@ -69,7 +69,8 @@ def source_files(modules, version):
     for name, number in package.install_library.VERSIONS.items():
         files[f"lib/{name}.pc"] = package.read(f"{TOP}/lib/{name}.pc.in").replace(b"@VERSION@", number.encode())
     with tempfile.TemporaryDirectory() as room:
-        subprocess.run([sys.executable, f"{TOP}/lib/names.py", f"{TOP}/crates/builtin_names/src/lines.rt", f"{room}/names.c"], check=True)
+        sources = [f"{modules}/{MODULES[0]}", *(f"{TOP}/lib/{it}.c" for it in ("block", "table", "files", "cache", "user_table"))]
+        subprocess.run([sys.executable, f"{TOP}/lib/names.py", f"{TOP}/crates/builtin_names/src/lines.rt", f"{room}/names.c", *sources], check=True)
         files["lib/names.c"] = package.read(f"{room}/names.c")
     files["VERSION"] = f"composecheck {version}\n".encode()
     return files

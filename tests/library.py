@@ -349,6 +349,173 @@ def user_tables(results, library):
     os.environ.update(kept)
 
 
+# ---- tables as bytes, and cached tables
+
+
+def blocks(results, library):
+    """The bytes of a table are a table elsewhere, and other bytes are refused."""
+    table = library.Table({"r": RESULTS})
+    block = bytes(table)
+    copy = library.Table.from_bytes(block)
+    results.expect(bytes(copy) == block and copy.is_table() == 1, "a copy of a table has its bytes")
+    results.expect([library.State().feed(copy, ord(key)) for key in "ach"] == ["x", "xyz", "xyz"], "a copy types as its table")
+    results.expect(library.State().result(copy, 0x61) == 0xFFBE, "a copy has the result keysyms")
+    for what, other, code in (("no bytes", b"", 1), ("a cut table", block[:-8], 1), ("a longer one", block + bytes(8), 1), ("other nodes", block[:120] + b"\1" + block[121:], 2)):
+        fault, said = refusal(lambda: library.Table.from_bytes(other))
+        results.expect(fault and (fault.part, fault.code, said) == (11, code, "the bytes are no table"), f"{what}: {said}")
+    results.expect(bytes(library.Table.from_bytes(bytearray(block))) == block, "a table of a buffer")
+
+
+class Cached:
+    """A folder with the files of a user and a cache, in which tables of locales are opened."""
+
+    def __init__(self, library, room):
+        self.library, self.room = library, room
+        self.write("system/compose.dir", "en/Compose: en_US.UTF-8\n")
+        self.write("system/locale.alias", "en: en_US.UTF-8\n")
+        self.write("system/en/Compose", '<a> : "en"\n')
+        os.environ.update(HOME=f"{room}/home", XDG_CACHE_HOME=f"{room}/cache")
+
+    def write(self, name, text):
+        os.makedirs(os.path.dirname(f"{self.room}/{name}"), exist_ok=True)
+        with open(f"{self.room}/{name}", "wb") as file:
+            file.write(text if isinstance(text, bytes) else text.encode())
+
+    def opened(self, locale="en", cached=True, **options):
+        """What the key `a` types on the table."""
+        table = self.library.Table.from_locale(locale, None, f"{self.room}/system", cached=cached, **options)
+        return self.library.State().feed(table, 0x61)
+
+    def files(self, folder="cache/composecheck"):
+        """The files of the cache, with what shows that one was written."""
+        place = f"{self.room}/{folder}"
+        return {it: (os.lstat(f"{place}/{it}").st_ino, os.lstat(f"{place}/{it}").st_mtime_ns) for it in sorted(os.listdir(place))} if os.path.isdir(place) else {}
+
+    def name(self):
+        """The file of the cache for the locale en and this home."""
+        texts = f"\1en\0\1{self.room}/system\0\1{self.room}/home\0\0\0".encode()
+        return next(it for it in self.files() if texts in read(f"{self.room}/cache/composecheck/{it}"))
+
+    def is_taken(self, wanted, **how):
+        """Whether the table is that, and is taken from the cache: nothing is written."""
+        before = self.files()
+        return self.opened(**how) == wanted and self.files() == before
+
+    def is_made(self, wanted, **how):
+        """Whether the table is that, and is made of its files, kept, and then taken from the cache."""
+        before = self.files()
+        return self.opened(**how) == wanted and self.files() != before and self.is_taken(wanted, **how)
+
+    def is_not_kept(self, wanted, **how):
+        """Whether the table is that, and the cache stays as it is, in which it is not."""
+        before = self.files()
+        return self.opened(**how) == wanted and self.files() == before and self.opened(**how) == wanted and self.files() == before
+
+
+def cached_tables(results, library):
+    """Tables are taken from the cache while all files are the same, and no file of the cache does harm."""
+    kept = {it: os.environ.pop(it) for it in (*VARIABLES, "XDG_CACHE_HOME") if it in os.environ}
+    with tempfile.TemporaryDirectory(prefix="library-") as room:
+        user = Cached(library, room)
+        cached_files(results, user)
+        damaged_caches(results, user)
+        places_of_caches(results, user)
+    for it in (*VARIABLES, "XDG_CACHE_HOME"):
+        os.environ.pop(it, None)
+    os.environ.update(kept)
+
+
+def cached_files(results, user):
+    room = user.room
+    results.expect(user.is_not_kept("en", cached=False) and not os.path.exists(f"{room}/cache"), "nothing is kept unasked")
+    results.expect(user.is_made("en") and len(user.files()) == 1, f"a table is kept: {user.files()}")
+    modes = [oct(os.stat(it).st_mode & 0o777) for it in (f"{room}/cache", f"{room}/cache/composecheck", f"{room}/cache/composecheck/{list(user.files())[0]}")]
+    results.expect(modes == ["0o700", "0o700", "0o600"], f"nobody else may read it: {modes}")
+    results.expect(user.is_taken("en", strict=True), "a table without faults is that of strict reading too")
+    for what, name, text, typed in (
+        ("a table that changes within its length", "system/en/Compose", '<a> : "EN"\n', "EN"),
+        ("one that grows", "system/en/Compose", '<a> : "EN"\n<b> : "b"\n', "EN"),
+        ("a file of the user that comes to be", "home/.XCompose", 'include "%L"\n', "EN"),
+        ("an include that changes", "system/en/Compose", '<a> : "in"\n', "in"),
+        ("a file that comes before it", "home/.config/XCompose", 'include "%H/more"\n', None),
+        ("its include that comes to be", "home/more", '<a> : "more"\n', "more"),
+        ("an alias that changes", "system/locale.alias", "en: en_US.UTF-8\nxx: yy\n", "more"),
+        ("a list of locales that changes", "system/compose.dir", "en/Compose: en_US.UTF-8\nde/Compose: de\n", "more"),
+    ):
+        user.write(name, text)
+        if typed is None:
+            results.expect(refusal(user.opened)[0].part == 10 and refusal(user.opened)[0].code == 3, "an include that isn't there is said, though a table is kept")
+        else:
+            results.expect(user.is_made(typed), f"{what}: {user.opened()}")
+    os.remove(f"{room}/home/.config/XCompose")
+    results.expect(user.is_made("in"), "a file that goes away")
+    results.expect(user.is_made("in", locale="C") and len(user.files()) == 2, "another locale has a file of its own")
+    os.environ["HOME"] = f"{room}/other"
+    results.expect(user.is_made("in") and len(user.files()) == 3, "another home has a file of its own")
+    os.environ.update(HOME=f"{room}/home", XCOMPOSEFILE=f"{room}/own")
+    user.write("own", '<a> : "own"\n<nosuch> : "x"\n')
+    results.expect(user.is_not_kept("own"), "a table of which a line is left out isn't kept, so that it is said each time")
+    os.remove(f"{room}/own")
+    os.mkfifo(f"{room}/own")
+    for text in ("one", "two"):
+        writer = subprocess.Popen(["sh", "-c", f"""printf '<a> : "{text}"\n' > '{room}/own'"""])
+        results.expect(user.opened() == text and writer.wait(10) == 0, "a pipe has its bytes once")
+    os.environ.pop("XCOMPOSEFILE")
+    results.expect(not [it for it in user.files() if "." in it], f"no other file is left: {user.files()}")
+
+
+def damaged_caches(results, user):
+    """Whatever the cache's file holds, the table is that of its files, and the file is a right one after that."""
+    results.expect(user.opened() == "in", "a table before its cache is damaged")
+    place = f"cache/composecheck/{user.name()}"
+    path = f"{user.room}/{place}"
+    good, wrong = read(path), []
+    for at in range(len(good)):
+        user.write(place, good[:at] + bytes([good[at] ^ (1 << at % 8)]) + good[at + 1 :])
+        wrong += [at] if user.opened() != "in" or read(path) != good else []
+    results.expect(not wrong, f"a byte of the cache's file that is another one, at {wrong[:5]}")
+    for length in range(0, len(good), 7):
+        user.write(place, good[:length])
+        wrong += [length] if user.opened() != "in" or read(path) != good else []
+    user.write(place, good + bytes(8))
+    results.expect(not wrong and user.opened() == "in" and read(path) == good, f"a file of the cache that is cut, at {wrong[:5]}, or longer")
+    other = bytes(user.library.Table({"r": '<a> : "no"\n'}))
+    at = good.index(b"compose\0")
+    user.write(place, good[:at] + other + good[at + len(other) :])
+    results.expect(len(other) == len(good) - at and user.opened() == "in", "another table in the cache's file")
+
+
+def read(path):
+    with open(path, "rb") as file:
+        return file.read()
+
+
+def places_of_caches(results, user):
+    """Files and folders that are not the user's own are not used, and where there is no place nothing is kept."""
+    room, folder = user.room, f"{user.room}/cache/composecheck"
+    results.expect(user.is_taken("in"), "a table before its cache is another one's")
+    name = user.name()
+    os.chmod(f"{folder}/{name}", 0o666)
+    results.expect(user.is_made("in") and os.stat(f"{folder}/{name}").st_mode & 0o777 == 0o600, "a file that others may write is not used")
+    os.rename(f"{folder}/{name}", f"{room}/moved")
+    os.symlink(f"{room}/moved", f"{folder}/{name}")
+    results.expect(user.is_made("in") and not os.path.islink(f"{folder}/{name}"), "a link is not followed")
+    if os.geteuid() == 0:
+        os.chown(f"{folder}/{name}", 65534, 65534)
+        results.expect(user.is_made("in") and os.stat(f"{folder}/{name}").st_uid == 0, "a file of another user is not used")
+    shutil.rmtree(folder)
+    os.mkdir(folder, 0o777)
+    os.chmod(folder, 0o777)
+    results.expect(user.is_not_kept("in") and not user.files(), "nothing is kept in a folder that others may write")
+    shutil.rmtree(f"{room}/cache")
+    user.write("cache", "a file")
+    results.expect(user.opened() == "in" and user.opened() == "in", "no folder can be made")
+    os.environ["XDG_CACHE_HOME"] = "relative"
+    results.expect(user.opened() == "in" and len(user.files("home/.cache/composecheck")) == 1, "a relative folder is no place for caches, and the one of home is")
+    os.environ.pop("HOME")
+    results.expect(user.opened() == "in" and not os.path.exists("relative"), "without a home nothing is kept")
+
+
 # ---- beside libxkbcommon
 
 
@@ -449,7 +616,7 @@ def ran_well(results, what, *command):
 
 def c_programs(results, folder):
     """Programs in C, with the C of the library and of the shim compiled to find what is read or written outside; two of them under valgrind too."""
-    names = [it for it in ("hostile", "threads", "clauses", "memory", "shim") if is_chosen(it)]
+    names = [it for it in ("hostile", "threads", "blocks", "clauses", "memory", "shim") if is_chosen(it)]
     if names:
         build_library.build(f"{folder}/checked", CHECKED)
         os.mkdir(f"{folder}/files")
@@ -463,7 +630,7 @@ def c_programs(results, folder):
     if not shutil.which("valgrind"):
         print("library.py: without valgrind nothing is run under it")
         return
-    for name in set(names) & {"clauses", "shim"} if is_chosen("valgrind") else ():
+    for name in set(names) & {"blocks", "clauses", "shim"} if is_chosen("valgrind") else ():
         words = [f"{folder}/plain/xkb_shim.o"] if name == "shim" else []
         program = compiled(f"{folder}/plain", f"{TOP}/tests/library/{name}.c", "-g", *words, f"{folder}/plain/libcomposecheck.a")
         ran_well(results, f"{name} under valgrind", "valgrind", "--quiet", "--leak-check=full", "--error-exitcode=9", program, f"{folder}/files")
@@ -669,7 +836,7 @@ def main():
 
         if is_chosen("secure") or is_chosen("valgrind"):
             build_library.build(f"{folder}/plain")
-        for test in (refusals, loads, result_keysyms, key_texts, searches, user_tables, random_keys):
+        for test in (refusals, loads, result_keysyms, key_texts, searches, user_tables, blocks, cached_tables, random_keys):
             if is_chosen(test.__name__):
                 test(results, library)
         if is_chosen("beside"):

@@ -44,12 +44,12 @@ const Library *library() {
 }
 
 // Types keys from rest. Nothing: they aren't pending then, since no sequence goes on after them.
-std::optional<composecheck_state> typed(const composecheck_table *table, const std::vector<uint32_t> &keysyms) {
+std::optional<composecheck_state> typed(const Table &table, const std::vector<uint32_t> &keysyms) {
     composecheck_state state{};
     uint8_t text[COMPOSECHECK_MOST_TEXT];
     uint32_t length, pending[COMPOSECHECK_MOST_PENDING];
     for (auto it : keysyms) {
-        library()->feed(table, &state, it, text, &length);
+        library()->feed(table.block, table.length, &state, it, text, &length);
     }
     bool isPending = std::equal(keysyms.begin(), keysyms.end(), pending, pending + library()->pending(&state, pending));
     return isPending ? std::optional(state) : std::nullopt;
@@ -134,11 +134,12 @@ std::vector<Row> Following::rows(const std::vector<uint32_t> &pending) {
         seen_ = seen;
         table_ = read();
     }
-    auto state = table_ ? typed(table_.get(), pending) : std::nullopt;
+    auto state = table_ ? typed(*table_, pending) : std::nullopt;
     Ranks ranks;
     uint8_t text[COMPOSECHECK_MOST_TEXT];
     uint32_t keysym, status, length;
-    for (uint32_t at = 0; state && at < Most && library()->following(table_.get(), &*state, at, &keysym, &status, text, &length); at++) {
+    auto next = [&](uint32_t at) { return library()->following(table_->block, table_->length, &*state, at, &keysym, &status, text, &length); };
+    for (uint32_t at = 0; state && at < Most && next(at); at++) {
         std::string shown = sign(keysym), given(text, text + length);
         std::string gives = status == COMPOSECHECK_COMPOSING ? GoesOn : isPrinted(given) ? given : Other;
         size_t rank = shown >= "a" && shown <= "z" ? 0 : shown.empty() ? 2 : 1;
@@ -147,7 +148,7 @@ std::vector<Row> Following::rows(const std::vector<uint32_t> &pending) {
     return distinct(ranks);
 }
 
-std::shared_ptr<composecheck_table> Following::read() const {
+std::shared_ptr<const Table> Following::read() const {
     if (!library()) {
         tell(std::string("there is no ") + LibraryName);
         return nullptr;
@@ -164,11 +165,13 @@ std::shared_ptr<composecheck_table> Following::read() const {
     input.bundle_length = stored.payload.size();
     input.longest = stored.isLongest;
     composecheck_fault fault{};
-    std::shared_ptr<composecheck_table> table(library()->newTable(&input, &fault), library()->freeTable);
-    if (!table) {
+    size_t length = 0;
+    void *block = library()->newTable(&input, &length, &fault);
+    if (!block) {
         tell("there is no table in " + path_);
+        return nullptr;
     }
-    return table;
+    return std::make_shared<const Table>(block, length, library()->freeTable);
 }
 
 // What is shown for a key, or nothing where that can't be told apart.

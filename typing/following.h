@@ -19,6 +19,20 @@ std::string storedPath();
 // The keys that turn the page.
 constexpr uint32_t PageUp = 0xff55, PageDown = 0xff56;
 
+// A table of the library, one block of bytes, which is freed with this.
+struct Table {
+    Table(void *givenBlock, size_t givenLength, void (*givenFree)(void *)) : block(givenBlock), length(givenLength), free_(givenFree) {}
+    Table(const Table &) = delete;
+    Table &operator=(const Table &) = delete;
+    ~Table() { free_(block); }
+
+    void *const block;
+    const size_t length;
+
+private:
+    void (*const free_)(void *);
+};
+
 // What can follow, in all places where somebody types. libcomposecheck.so.1 reads the table, and again once that has changed.
 class Following {
 public:
@@ -30,7 +44,7 @@ public:
     std::vector<Row> rows(const std::vector<uint32_t> &pending);
 
 private:
-    std::shared_ptr<composecheck_table> read() const;
+    std::shared_ptr<const Table> read() const;
     void tell(const std::string &why) const { log_(true, "the keys that can follow are not listed: " + why); }
     std::string sign(uint32_t keysym) const;
 
@@ -39,7 +53,7 @@ private:
     Log log_;
     // What changes with the file, as it was when the table was read.
     std::optional<std::array<int64_t, 3>> seen_;
-    std::shared_ptr<composecheck_table> table_;
+    std::shared_ptr<const Table> table_;
 };
 
 // What can follow in a place where somebody types, a page of it at a time.

@@ -11,7 +11,8 @@ int main(int count, char **arguments)
     struct composecheck_places places = { "/usr/share/X11/locale", arguments[2], getenv("HOME"), NULL };
     struct composecheck_fault fault;
     char line[512];
-    struct composecheck_table *table = composecheck_table_from_file(arguments[1], &places, true, &fault, line, sizeof line);
+    size_t size;
+    void *table = composecheck_table_from_file(arguments[1], &places, true, &size, &fault, line, sizeof line);
     if (!table) {
         fprintf(stderr, "%s\n", line);
         return 1;
@@ -20,7 +21,7 @@ int main(int count, char **arguments)
     for (int i = 3; i < count; i++) {
         uint8_t text[COMPOSECHECK_MOST_TEXT];
         uint32_t length;
-        composecheck_table_feed(table, &state, (uint32_t) strtoul(arguments[i], NULL, 0), text, &length);
+        composecheck_table_feed(table, size, &state, (uint32_t) strtoul(arguments[i], NULL, 0), text, &length);
         printf("%u \"%.*s\"\n", composecheck_status(&state), (int) length, (const char *) text);
     }
     composecheck_table_free(table);

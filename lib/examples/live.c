@@ -26,15 +26,20 @@ int main(int count, char **arguments)
     struct composecheck_state state = { 0 };
     uint8_t text[COMPOSECHECK_MOST_TEXT];
     uint32_t length;
-    struct composecheck_table *table = composecheck_table_new(&old, &fault);
+    size_t size, next_size;
+    void *table = composecheck_table_new(&old, &size, &fault);
     if (!table)
         return 1;
-    composecheck_table_feed(table, &state, 'a', text, &length);
-    struct composecheck_table *next = composecheck_table_load(table, &new, &fault);
+    composecheck_table_feed(table, size, &state, 'a', text, &length);
+    void *next = composecheck_table_load(table, size, &new, &next_size, &fault);
     printf("%s: part %u, code %u\n", next ? "loaded" : "refused", fault.part, fault.code);
-    composecheck_table_refeed(next ? next : table, &state);
-    composecheck_table_feed(next ? next : table, &state, 'b', text, &length);
+    if (next) {
+        composecheck_table_free(table);
+        table = next;
+        size = next_size;
+        composecheck_table_refeed(table, size, &state);
+    }
+    composecheck_table_feed(table, size, &state, 'b', text, &length);
     printf("%.*s\n", (int) length, (const char *) text);
-    composecheck_table_free(next);
     composecheck_table_free(table);
 }

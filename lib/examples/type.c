@@ -14,7 +14,8 @@ int main(int count, char **arguments)
 
     struct composecheck_input input = { .sources = &source, .source_count = 1, .longest = true };
     struct composecheck_fault fault;
-    struct composecheck_table *table = composecheck_table_new(&input, &fault);
+    size_t size;
+    void *table = composecheck_table_new(&input, &size, &fault);
     if (!table) {
         char said[256];
         composecheck_table_explain(&input, said, sizeof said);
@@ -26,7 +27,7 @@ int main(int count, char **arguments)
         static const char *const words[] = { "nothing", "composing", "composed", "cancelled" };
         uint8_t text[COMPOSECHECK_MOST_TEXT];
         uint32_t length;
-        composecheck_table_feed(table, &state, (uint32_t) strtoul(arguments[i], NULL, 0), text, &length);
+        composecheck_table_feed(table, size, &state, (uint32_t) strtoul(arguments[i], NULL, 0), text, &length);
         printf("%s \"%.*s\"\n", words[composecheck_status(&state)], (int) length, (const char *) text);
     }
     composecheck_table_free(table);

@@ -11,27 +11,17 @@ import os
 
 ABI = 1
 STATUSES = ("nothing", "composing", "composed", "cancelled")
-PARTS = ("", "names", "bundle", "source", "overlap", "nodes", "memory", "repertoire", "certificate", "condition", "search")
+PARTS = ("", "names", "bundle", "source", "overlap", "nodes", "memory", "repertoire", "certificate", "condition", "search", "table")
 DONE, REFUSED, TOO_SMALL, WANTED = range(4)
 SYSTEM = "/usr/share/X11/locale"
 LIBRARY = "libcomposecheck.so.1"
 MOST_TEXT, MOST_PENDING = 255, 31
 
 
-class _Sizes(ctypes.Structure):
-    _fields_ = [(it, ctypes.c_size_t) for it in ("nodes", "edges", "texts", "long_texts", "hints")] + [("reserved", ctypes.c_size_t * 3)]
-
-
 class _State(ctypes.Structure):
     _fields_ = [
         ("pending", ctypes.c_uint32 * MOST_PENDING), ("hints", ctypes.c_uint32 * MOST_PENDING),
         ("count", ctypes.c_uint32), ("status", ctypes.c_uint32), ("reserved", ctypes.c_uint32 * 4),
-    ]  # fmt: skip
-
-
-class _Table(ctypes.Structure):
-    _fields_ = [("sizes", _Sizes)] + [(it, ctypes.c_void_p) for it in ("nodes", "edges", "texts", "long_texts", "hints", "results")] + [
-        ("result_count", ctypes.c_size_t)
     ]  # fmt: skip
 
 
@@ -57,7 +47,7 @@ class Fault(ctypes.Structure):
 
 
 class _Options(ctypes.Structure):
-    _fields_ = [("system", ctypes.c_char_p), ("is_strict", ctypes.c_bool), ("context", ctypes.c_void_p), ("reserved", ctypes.c_void_p * 5)]
+    _fields_ = [("system", ctypes.c_char_p), ("is_strict", ctypes.c_bool), ("is_cached", ctypes.c_bool), ("context", ctypes.c_void_p), ("reserved", ctypes.c_void_p * 5)]
 
 
 class _Message(ctypes.Structure):
@@ -77,24 +67,26 @@ class Refused(Exception):
 
 def _load(path):
     library = ctypes.CDLL(path)
-    table, state, words = ctypes.POINTER(_Table), ctypes.POINTER(_State), ctypes.POINTER(ctypes.c_uint32)
+    block, table, length = ctypes.c_void_p, (ctypes.c_void_p, ctypes.c_size_t), ctypes.POINTER(ctypes.c_size_t)
+    state, words = ctypes.POINTER(_State), ctypes.POINTER(ctypes.c_uint32)
     text, given, fault = ctypes.c_char * MOST_TEXT, ctypes.POINTER(_Input), ctypes.POINTER(Fault)
     for name, result, arguments in (
-        ("table_new", table, (given, fault)),
-        ("table_load", table, (table, given, fault)),
-        ("table_free", None, (table,)),
-        ("table_from_locale", table, (ctypes.c_char_p, ctypes.POINTER(_Options), _Report)),
+        ("table_new", block, (given, length, fault)),
+        ("table_load", block, (*table, given, length, fault)),
+        ("table_copy", block, (*table, fault)),
+        ("table_free", None, (block,)),
+        ("table_from_locale", block, (ctypes.c_char_p, ctypes.POINTER(_Options), _Report, length)),
         ("table_explain", ctypes.c_size_t, (given, ctypes.c_char_p, ctypes.c_size_t)),
-        ("table_check", ctypes.c_bool, (table, table, given, fault)),
-        ("table_is_table", ctypes.c_uint32, (table,)),
-        ("table_feed", ctypes.c_uint32, (table, state, ctypes.c_uint32, text, words)),
-        ("table_refeed", None, (table, state)),
-        ("table_following", ctypes.c_bool, (table, state, ctypes.c_uint32, words, words, text, words)),
+        ("table_check", ctypes.c_bool, (*table, *table, given, fault)),
+        ("table_is_table", ctypes.c_uint32, table),
+        ("table_feed", ctypes.c_uint32, (*table, state, ctypes.c_uint32, text, words)),
+        ("table_refeed", None, (*table, state)),
+        ("table_following", ctypes.c_bool, (*table, state, ctypes.c_uint32, words, words, text, words)),
         ("characters", ctypes.c_uint32, (ctypes.c_char_p, ctypes.c_size_t, words, ctypes.c_size_t, words, ctypes.c_size_t, fault)),
-        ("find", ctypes.c_uint32, (ctypes.c_char_p, ctypes.c_size_t) * 8 + (ctypes.POINTER(ctypes.c_size_t), fault)),
-        ("locale_file", ctypes.c_uint32, (ctypes.c_char_p, ctypes.c_size_t) * 5 + (ctypes.POINTER(ctypes.c_size_t),)),
-        ("builtin_names", ctypes.c_void_p, (ctypes.POINTER(ctypes.c_size_t),)),
-        ("table_result", ctypes.c_uint32, (table, state, ctypes.c_uint32)),
+        ("find", ctypes.c_uint32, (ctypes.c_char_p, ctypes.c_size_t) * 8 + (length, fault)),
+        ("locale_file", ctypes.c_uint32, (ctypes.c_char_p, ctypes.c_size_t) * 5 + (length,)),
+        ("builtin_names", ctypes.c_void_p, (length,)),
+        ("table_result", ctypes.c_uint32, (*table, state, ctypes.c_uint32)),
         ("reset", None, (state,)),
         ("status", ctypes.c_uint32, (state,)),
         ("pending", ctypes.c_uint32, (state, ctypes.c_uint32 * MOST_PENDING)),
@@ -202,16 +194,32 @@ def find(root, system=SYSTEM, locale="", home="", sysroot="", certificate="", lo
 
 
 class Table:
-    """A table, read from sources: a dict of names and contents, the root first. Refused says why there is none."""
+    """A table, read from sources: a dict of names and contents, the root first. Refused says why there is none. `bytes` of it is its block."""
 
     def __init__(self, sources, header=None, longest=True, certificate=None, repertoire=None, in_use=None, bundle=None):
-        given, fault = _input(sources, header, longest, certificate, repertoire, bundle), Fault()
+        given, fault, length = _input(sources, header, longest, certificate, repertoire, bundle), Fault(), ctypes.c_size_t()
         if in_use is None:
-            self._table = _library.composecheck_table_new(given, fault)
+            self._own(_library.composecheck_table_new(given, length, fault), length)
         else:
-            self._table = _library.composecheck_table_load(in_use._table, given, fault)
-        if not self._table:
+            self._own(_library.composecheck_table_load(*in_use._table, given, length, fault), length)
+        if not self._block:
             raise Refused(fault, _explain(given))
+
+    def _own(self, block, length):
+        """Keeps a block of the library, and what calls have for it: its address and its length."""
+        self._block, self._table = block, (block, length.value)
+
+    @classmethod
+    def from_bytes(cls, block):
+        """Returns the table of a block, a copy of these bytes, which may be any: from a file, a cache or another process. Refused if they are none."""
+        table, fault, kept = cls.__new__(cls), Fault(), bytes(block)
+        table._own(_library.composecheck_table_copy(kept, len(kept), fault), ctypes.c_size_t(len(kept)))
+        if not table._block:
+            raise Refused(fault, "the bytes are no table" if PARTS[fault.part] == "table" else "")
+        return table
+
+    def __bytes__(self):
+        return ctypes.string_at(*self._table)
 
     @classmethod
     def from_file(cls, path, header=None, longest=True, **places):
@@ -219,10 +227,11 @@ class Table:
         return cls({}, header, longest, bundle=find(path, **places))
 
     @classmethod
-    def from_locale(cls, locale=None, report=None, system=None, strict=False):
+    def from_locale(cls, locale=None, report=None, system=None, strict=False, cached=False):
         """Returns the table of the user, as composecheck_table_from_locale finds it; without a locale that of the environment.
 
-        Up to ten faulty lines are left out, unless `strict`: `report` is called for each, with its fault and a line FILE:LINE:COLUMN: SENTENCE."""
+        Up to ten faulty lines are left out, unless `strict`: `report` is called for each, with its fault and a line FILE:LINE:COLUMN: SENTENCE. With
+        `cached` the table is kept in the user's cache, and taken from there while its files are the same."""
         messages = []
 
         def keep(_, message):
@@ -230,8 +239,8 @@ class Table:
             messages.append((bool(message.is_left_out), Fault.from_buffer_copy(message.fault), message.text.decode(errors="replace")))
 
         table = cls.__new__(cls)
-        options = _Options(_bytes(system), strict)
-        table._table = _library.composecheck_table_from_locale(_bytes(locale), options, _Report(keep))
+        options, length = _Options(_bytes(system), strict, cached), ctypes.c_size_t()
+        table._own(_library.composecheck_table_from_locale(_bytes(locale), options, _Report(keep), length), length)
         for is_left_out, fault, said in messages:
             if not is_left_out:
                 raise Refused(fault, said)
@@ -240,8 +249,8 @@ class Table:
         return table
 
     def __del__(self):
-        if getattr(self, "_table", None):
-            _library.composecheck_table_free(self._table)
+        if getattr(self, "_block", None):
+            _library.composecheck_table_free(self._block)
 
     def load(self, sources, certificate, repertoire, header=None, longest=True):
         """Returns the table of these sources where the certificate is valid for a move to it from this one, or raises Refused."""
@@ -250,7 +259,7 @@ class Table:
     def check(self, new, certificate, repertoire, header=None):
         """Raises Refused unless the certificate is valid for a move from this table to the new one."""
         fault = Fault()
-        if not _library.composecheck_table_check(self._table, new._table, _input({}, header, True, certificate, repertoire), fault):
+        if not _library.composecheck_table_check(*self._table, *new._table, _input({}, header, True, certificate, repertoire), fault):
             raise Refused(fault, "")
 
     def following(self, keysyms):
@@ -262,8 +271,8 @@ class Table:
             yield from state.following(self)
 
     def is_table(self):
-        """Returns whether the arrays are a table still: 1, 0, or 2 where memory is wanting."""
-        return _library.composecheck_table_is_table(self._table)
+        """Returns whether the block is a table still: 1, 0, or 2 where memory is wanting."""
+        return _library.composecheck_table_is_table(*self._table)
 
 
 class State:
@@ -275,18 +284,18 @@ class State:
     def feed(self, table, keysym):
         """Feeds a keysym, and returns the text that a sequence commits which it completes; None where the keysym is ignored."""
         text, length = ctypes.create_string_buffer(MOST_TEXT), ctypes.c_uint32()
-        fed = _library.composecheck_table_feed(table._table, self._state, keysym, text, length)
+        fed = _library.composecheck_table_feed(*table._table, self._state, keysym, text, length)
         if fed == 2:
             raise ValueError("no keysym")
         return text.raw[: length.value].decode() if fed == 1 else None
 
     def result(self, table, keysym):
         """Returns the result keysym of the sequence that feeding the keysym would complete: 0 where it completes none, or has none."""
-        return _library.composecheck_table_result(table._table, self._state, keysym)
+        return _library.composecheck_table_result(*table._table, self._state, keysym)
 
     def refeed(self, table):
         """Goes over to another table, also in the middle of a sequence."""
-        _library.composecheck_table_refeed(table._table, self._state)
+        _library.composecheck_table_refeed(*table._table, self._state)
 
     def reset(self):
         _library.composecheck_reset(self._state)
@@ -304,6 +313,6 @@ class State:
         """Yields each keysym that may follow, the status that it would give, and the text that it would commit."""
         keysym, status, length, text = ctypes.c_uint32(), ctypes.c_uint32(), ctypes.c_uint32(), ctypes.create_string_buffer(MOST_TEXT)
         index = 0
-        while _library.composecheck_table_following(table._table, self._state, index, keysym, status, text, length):
+        while _library.composecheck_table_following(*table._table, self._state, index, keysym, status, text, length):
             yield keysym.value, STATUSES[status.value], text.raw[: length.value].decode()
             index += 1

@@ -46,12 +46,17 @@ static size_t bundle_of(uint8_t bundle[512], const char *text, const char *certi
     return (size_t) (at - bundle) + strlen(certificate);
 }
 
-static struct composecheck_table *table_of(const char *text)
+/* A block, and its length. */
+struct table { void *block; size_t size; };
+
+static struct table table_of(const char *text)
 {
     struct composecheck_source source = { "r", text, strlen(text) };
     struct composecheck_input input = { .sources = &source, .source_count = 1 };
     struct composecheck_fault fault;
-    return composecheck_table_new(&input, &fault);
+    struct table table;
+    table.block = composecheck_table_new(&input, &table.size, &fault);
+    return table;
 }
 
 /* ---- loads */
@@ -61,7 +66,7 @@ static bool loads(const char *text, const char *certificate, const char *reperto
 {
     uint8_t bundle[512];
     bool holds = true;
-    struct composecheck_table *in_use = table_of(old_text);
+    struct table in_use = table_of(old_text);
     struct composecheck_source source = { "r", text, strlen(text) };
     struct composecheck_input inputs[2] = { { .sources = &source, .source_count = 1, .certificate = certificate, .certificate_length = strlen(certificate) },
                                             { .bundle = bundle, .bundle_length = bundle_of(bundle, text, certificate) } };
@@ -69,11 +74,12 @@ static bool loads(const char *text, const char *certificate, const char *reperto
         struct composecheck_fault fault = { .part = 77 };
         inputs[i].repertoire = repertoire;
         inputs[i].repertoire_length = strlen(repertoire);
-        struct composecheck_table *table = composecheck_table_load(in_use, &inputs[i], &fault);
-        holds = holds && fault.part == part && (part == 0) == (table != NULL);
+        size_t size;
+        void *table = composecheck_table_load(in_use.block, in_use.size, &inputs[i], &size, &fault);
+        holds = holds && fault.part == part && (part == 0) == (table != NULL) && (size > 0) == (table != NULL);
         composecheck_table_free(table);
     }
-    composecheck_table_free(in_use);
+    composecheck_table_free(in_use.block);
     return holds;
 }
 
@@ -88,27 +94,27 @@ static void all_loads(void)
     expect(loads("<a\n", valid, "", COMPOSECHECK_SOURCE), "a load of a table with a fault is refused");
 }
 
-static bool checks(const struct composecheck_table *new_table, const char *certificate, const char *repertoire, uint32_t part)
+static bool checks(struct table new_table, const char *certificate, const char *repertoire, uint32_t part)
 {
     struct composecheck_input input = { .certificate = certificate, .certificate_length = strlen(certificate), .repertoire = repertoire,
                                         .repertoire_length = strlen(repertoire) };
     struct composecheck_fault fault = { 0 };
-    struct composecheck_table *old_table = table_of(old_text);
-    bool is_valid = composecheck_table_check(old_table, new_table, &input, &fault);
-    composecheck_table_free(old_table);
+    struct table old_table = table_of(old_text);
+    bool is_valid = composecheck_table_check(old_table.block, old_table.size, new_table.block, new_table.size, &input, &fault);
+    composecheck_table_free(old_table.block);
     return is_valid == (part == 0) && fault.part == part;
 }
 
 static void all_checks(void)
 {
-    struct composecheck_table *new_table = table_of(new_text), *other = table_of(other_text);
+    struct table new_table = table_of(new_text), other = table_of(other_text);
     expect(checks(new_table, valid, "", 0), "a valid certificate");
     expect(checks(other, valid, "", COMPOSECHECK_CONDITION), "a certificate of another move");
     expect(checks(new_table, "", "", COMPOSECHECK_CERTIFICATE), "no certificate");
     expect(checks(new_table, valid, "U+0078\n", COMPOSECHECK_CONDITION), "a character of the repertoire that no typing has");
     expect(checks(new_table, valid, "x\n", COMPOSECHECK_REPERTOIRE), "a repertoire of another form");
-    composecheck_table_free(new_table);
-    composecheck_table_free(other);
+    composecheck_table_free(new_table.block);
+    composecheck_table_free(other.block);
 }
 
 /* ---- what is needed */
@@ -217,10 +223,11 @@ static bool is_refused(const char *folder, const char *line)
     struct composecheck_places places = { folder, NULL, NULL, NULL };
     snprintf(path, sizeof path, "%s/root", folder);
     snprintf(wanted, sizeof wanted, "%s%s", line[0] == '/' ? folder : "", line);
-    bool is_read = composecheck_table_from_file(path, &places, true, &fault, text, sizeof text) != NULL, holds = !is_read && strcmp(text, wanted) == 0;
+    size_t size;
+    bool is_read = composecheck_table_from_file(path, &places, true, &size, &fault, text, sizeof text) != NULL, holds = !is_read && strcmp(text, wanted) == 0;
     if (composecheck_files_find(&files, path, NULL, 0, &places, &fault)) {
         struct composecheck_input input = { .bundle = files.bundle, .bundle_length = files.bundle_length, .longest = true };
-        holds = holds && !composecheck_table_new(&input, &fault);
+        holds = holds && !composecheck_table_new(&input, &size, &fault) && size == 0;
     }
     for (size_t room = 0; room < strlen(wanted) + 2; room++) {
         char *cut = block_of(room);
@@ -256,13 +263,14 @@ static bool is_unread(const char *folder, const char *name, uint32_t value, cons
     struct composecheck_places places = { folder, NULL, NULL, NULL };
     snprintf(path, sizeof path, "%s/%s", folder, name);
     snprintf(wanted, sizeof wanted, "%s: the file %s", path, words);
-    bool holds = !composecheck_table_from_file(path, &places, true, &fault, text, sizeof text) && strcmp(text, wanted) == 0;
+    size_t size;
+    bool holds = !composecheck_table_from_file(path, &places, true, &size, &fault, text, sizeof text) && strcmp(text, wanted) == 0;
     holds = holds && fault.part == COMPOSECHECK_SEARCH && fault.code == 2 && fault.value == value;
     snprintf(line, sizeof line, "\ninclude \"%%S/%s\"\n", name);
     write_file(folder, "root", line);
     snprintf(path, sizeof path, "%s/root", folder);
     snprintf(wanted, sizeof wanted, "%s:2:9: the file of the include %s", path, words);
-    holds = holds && !composecheck_table_from_file(path, &places, true, &fault, text, sizeof text) && strcmp(text, wanted) == 0;
+    holds = holds && !composecheck_table_from_file(path, &places, true, &size, &fault, text, sizeof text) && strcmp(text, wanted) == 0;
     return holds && fault.part == COMPOSECHECK_SEARCH && fault.code == 3 && fault.value == value;
 }
 
@@ -292,22 +300,26 @@ static void without_faults(const char *folder)
     struct composecheck_input input = { .sources = &good, .source_count = 1, .certificate = valid, .certificate_length = strlen(valid) };
     struct composecheck_input refused = { .sources = &faulty, .source_count = 1 }, changed = input;
     changed.sources = &other;
-    struct composecheck_table *table = composecheck_table_new(&input, NULL), *loaded = composecheck_table_load(table, &input, NULL);
-    struct composecheck_table *another = composecheck_table_new(&changed, NULL);
-    expect(table && loaded && another, "tables are made without a fault");
-    expect(!composecheck_table_new(&refused, NULL) && !composecheck_table_load(table, &changed, NULL), "tables are refused without a fault");
-    expect(composecheck_table_check(table, loaded, &input, NULL) && !composecheck_table_check(table, another, &input, NULL), "checks without a fault");
+    size_t size, loaded_size, another_size, read_size;
+    void *table = composecheck_table_new(&input, &size, NULL), *loaded = composecheck_table_load(table, size, &input, &loaded_size, NULL);
+    void *another = composecheck_table_new(&changed, &another_size, NULL), *copy = composecheck_table_copy(loaded, loaded_size, NULL);
+    expect(table && loaded && another && copy && !composecheck_table_copy(loaded, loaded_size - 1, NULL), "tables are made without a fault");
+    expect(!composecheck_table_new(&refused, &read_size, NULL) && !composecheck_table_load(table, size, &changed, &read_size, NULL),
+           "tables are refused without a fault");
+    expect(composecheck_table_check(table, size, loaded, loaded_size, &input, NULL), "a check without a fault");
+    expect(!composecheck_table_check(table, size, another, another_size, &input, NULL), "a check that refuses without a fault");
     snprintf(path, sizeof path, "%s/first", folder);
-    struct composecheck_table *read = composecheck_table_from_file(path, NULL, true, NULL, NULL, 0);
+    void *read = composecheck_table_from_file(path, NULL, true, &read_size, NULL, NULL, 0);
     expect(read && composecheck_files_find(&files, path, NULL, 0, NULL, NULL), "files are read without a fault");
     composecheck_files_free(&files);
     expect(!composecheck_files_find(&files, "", NULL, 0, NULL, NULL), "no file is found without a fault");
     composecheck_files_free(&files);
-    expect(!composecheck_table_from_file("/nowhere", NULL, true, NULL, text, sizeof text) && strcmp(text, "/nowhere: the file isn't there") == 0,
+    expect(!composecheck_table_from_file("/nowhere", NULL, true, &another_size, NULL, text, sizeof text) && strcmp(text, "/nowhere: the file isn't there") == 0,
            "the words of a fault that isn't asked for");
     composecheck_table_free(table);
     composecheck_table_free(loaded);
     composecheck_table_free(another);
+    composecheck_table_free(copy);
     composecheck_table_free(read);
 }
 

@@ -1,6 +1,6 @@
-/* States of any numbers, arrays of any numbers, rooms of any size and lines of any bytes: nothing may be read or written outside, and what the header says
+/* States of any numbers, tables of any bytes, rooms of any size and lines of any bytes: nothing may be read or written outside, and what the header says
  * of each has to hold. Compiled with -fsanitize=address,undefined. */
-#include <composecheck.h>
+#include "block.h"
 #include <stdio.h>
 #include <stdlib.h>
 #include <string.h>
@@ -39,7 +39,7 @@ static void *copied(const void *entries, size_t size)
     return copy;
 }
 
-static void states(const struct composecheck_table *table, int rounds)
+static void states(const void *table, size_t size, int rounds)
 {
     for (int round = 0; round < rounds; round++) {
         struct composecheck_state state, before;
@@ -49,99 +49,75 @@ static void states(const struct composecheck_table *table, int rounds)
         for (size_t i = 0; i < sizeof state / sizeof *words; i++)
             words[i] = number();
         before = state;
-        uint32_t fed = composecheck_table_feed(table, &state, chance() % 3 ? number() : 0xff20, text, &length);
+        uint32_t fed = composecheck_table_feed(table, size, &state, chance() % 3 ? number() : 0xff20, text, &length);
         expect(fed <= 2 && length <= COMPOSECHECK_MOST_TEXT, "what a feed answers");
         expect(fed != 2 || memcmp(&state, &before, sizeof state) == 0, "no keysym changes nothing");
         expect(memcmp(state.reserved, before.reserved, sizeof state.reserved) == 0, "what is reserved stays");
         expect(composecheck_status(&state) <= 3 && composecheck_pending(&state, pending) <= 31, "status and pending");
-        uint32_t result = composecheck_table_result(table, &state, chance() % 3 ? number() : 0x78);
-        expect(result == 0 || result == 0xe9 || result == 0x79, "a result keysym of the table");
-        composecheck_table_following(table, &state, index, &keysym, &status, text, &length);
-        composecheck_table_refeed(table, &state);
+        uint32_t result = composecheck_table_result(table, size, &state, chance() % 3 ? number() : 0x78);
+        expect(result <= COMPOSECHECK_GREATEST_KEYSYM, "a result keysym");
+        composecheck_table_following(table, size, &state, index, &keysym, &status, text, &length);
+        composecheck_table_refeed(table, size, &state);
         expect((composecheck_pending(&state, pending) > 0) == (composecheck_status(&state) == COMPOSECHECK_COMPOSING), "composing where something is pending");
         composecheck_reset(&state);
         expect(composecheck_status(&state) == 0 && composecheck_pending(&state, pending) == 0, "at rest");
     }
 }
 
-/* Changes one number of one array, or cuts an array, and returns whether the arrays differ from the table's then. */
-static bool damage(struct composecheck_table *t, const struct composecheck_table *table, uint32_t *numbers, size_t count)
-{
-    size_t *sizes[] = { &t->sizes.nodes, &t->sizes.edges, &t->sizes.texts, &t->sizes.long_texts };
-    if (chance() % 4 == 0) {
-        size_t *size = sizes[chance() % 4];
-        *size -= *size && chance() % 2 ? 1 : *size;
-    } else {
-        numbers[chance() % count] = number();
-    }
-    return memcmp(&t->sizes, &table->sizes, sizeof t->sizes) != 0 || memcmp(t->nodes, table->nodes, table->sizes.nodes * sizeof *table->nodes) != 0
-           || memcmp(t->edges, table->edges, table->sizes.edges * sizeof *table->edges) != 0
-           || memcmp(t->texts, table->texts, table->sizes.texts) != 0 || memcmp(t->long_texts, table->long_texts, table->sizes.long_texts) != 0;
-}
-
-static void arrays(const struct composecheck_table *table)
+/* Numbers of a table that are changed: what is a table then is typed with. */
+static void other_tables(const void *table, size_t size)
 {
     int tables = 0;
-    expect(composecheck_table_is_table(table) == 1, "what was compiled is a table");
-    for (int round = 0; round < 3000; round++) {
-        struct composecheck_table t = *table;
-        void *blocks[] = { copied(t.nodes, t.sizes.nodes * sizeof *t.nodes), copied(t.edges, t.sizes.edges * sizeof *t.edges),
-                           copied(t.texts, t.sizes.texts), copied(t.long_texts, t.sizes.long_texts) };
-        size_t counts[] = { t.sizes.nodes * 2, t.sizes.edges * 2, t.sizes.texts / 4, t.sizes.long_texts / 4 }, which = chance() % 4;
-        t.nodes = blocks[0];
-        t.edges = blocks[1];
-        t.texts = blocks[2];
-        t.long_texts = blocks[3];
-        bool differs = damage(&t, table, blocks[which], counts[which]);
-        uint32_t is = composecheck_table_is_table(&t);
-        expect(differs || is == 1, "the same arrays are a table");
+    expect(composecheck_table_is_table(table, size) == 1, "what was compiled is a table");
+    for (int round = 0; round < 5000; round++) {
+        uint32_t *copy = copied(table, size);
+        for (uint32_t changes = chance() % 3; changes > 0; changes--)
+            copy[chance() % (size / sizeof *copy)] = number();
+        bool differs = memcmp(copy, table, size) != 0;
+        uint32_t is = composecheck_table_is_table(copy, size);
+        expect(differs || is == 1, "the same bytes are a table");
         tables += differs && is == 1;
         if (is == 1)
-            states(&t, 100);
-        for (int i = 0; i < 4; i++)
-            free(blocks[i]);
+            states(copy, size, 100);
+        free(copy);
     }
-    printf("%d other tables among the damaged ones\n", tables);
+    printf("%d other tables among the changed ones\n", tables);
+    expect(tables > 100, "results and hints may be others");
 }
 
 /* Arrays of which one depth or one target is another number are the arrays of no table. */
-static void other_numbers(const struct composecheck_table *table)
+static void other_numbers(const void *table, size_t size)
 {
-    struct composecheck_table t = *table;
-    struct composecheck_node *nodes = copied(t.nodes, t.sizes.nodes * sizeof *nodes);
-    struct composecheck_edge *edges = copied(t.edges, t.sizes.edges * sizeof *edges);
-    t.nodes = nodes;
-    t.edges = edges;
-    for (size_t i = 0; i < t.sizes.nodes; i++) {
+    void *copy = copied(table, size);
+    struct composecheck_node *nodes = array_of(copy, NODES);
+    struct composecheck_edge *edges = array_of(copy, EDGES);
+    for (size_t i = 0; i < count_of(copy, NODES); i++) {
         nodes[i].depth++;
-        expect(composecheck_table_is_table(&t) == 0, "another depth");
+        expect(composecheck_table_is_table(copy, size) == 0, "another depth");
         nodes[i].depth--;
     }
-    for (size_t i = 0; i < t.sizes.edges; i++) {
+    for (size_t i = 0; i < count_of(copy, EDGES); i++) {
         edges[i].target++;
-        expect(composecheck_table_is_table(&t) == 0, "another target");
+        expect(composecheck_table_is_table(copy, size) == 0, "another target");
         edges[i].target--;
     }
-    expect(composecheck_table_is_table(&t) == 1, "the numbers of the table");
-    expect(t.sizes.hints == 2 * t.sizes.edges, "two hints for each edge");
-    free(nodes);
-    free(edges);
+    expect(composecheck_table_is_table(copy, size) == 1, "the numbers of the table");
+    free(copy);
 }
 
 /* A text of more than three bytes is kept once, and its entries may lead to any place where it is. */
-static void other_places(const struct composecheck_table *table)
+static void other_places(const void *table, size_t size)
 {
-    struct composecheck_table t = *table;
-    uint8_t *texts = copied(t.texts, t.sizes.texts), *entry = texts;
-    expect(t.sizes.long_texts == 14 && memcmp(t.long_texts, "abcdefxxabcdef", 14) == 0, "two equal texts are kept once");
-    t.texts = texts;
+    void *copy = copied(table, size);
+    uint8_t *entry = array_of(copy, TEXTS);
+    expect(count_of(copy, LONG_TEXTS) == 14 && memcmp(array_of(copy, LONG_TEXTS), "abcdefxxabcdef", 14) == 0, "two equal texts are kept once");
     while (entry[3] != 6)
         entry += 4;
     for (uint8_t half = 0; half < 8; half++) {
         entry[0] = half;
-        expect(composecheck_table_is_table(&t) == (half == 0 || half == 4), "a text is where its entry says");
+        expect(composecheck_table_is_table(copy, size) == (half == 0 || half == 4), "a text is where its entry says");
     }
-    free(texts);
+    free(copy);
 }
 
 static void rooms(const struct composecheck_input *input)
@@ -151,10 +127,13 @@ static void rooms(const struct composecheck_input *input)
     uint8_t bundle[1024] = { 0, 1, 0, 1, 'r', 0, 0, 0, (uint8_t) (sizeof table_text - 1) };
     memcpy(bundle + 9, table_text, sizeof table_text - 1);
     length = 9 + sizeof table_text - 1 + 4;
-    struct composecheck_table *table = composecheck_table_new(input, &(struct composecheck_fault) { 0 });
+    size_t size;
+    void *table = composecheck_table_new(input, &size, NULL);
     for (int round = 0; round < 500 && table; round++) {
         size_t room[5];
-        const size_t *needed = &table->sizes.nodes;
+        const struct composecheck_sizes wanted = { count_of(table, NODES), count_of(table, EDGES), count_of(table, TEXTS), count_of(table, LONG_TEXTS),
+                                                   count_of(table, HINTS), { 0 } };
+        const size_t *needed = &wanted.nodes;
         bool fits = true;
         for (int i = 0; i < 5; i++) {
             room[i] = needed[i] + chance() % 3 - 1;
@@ -163,20 +142,20 @@ static void rooms(const struct composecheck_input *input)
         struct composecheck_node *nodes = malloc(room[0] * sizeof *nodes);
         struct composecheck_edge *edges = calloc(room[1], sizeof *edges);
         uint8_t *texts = malloc(room[2]), *long_texts = malloc(room[3]), *hints = malloc(room[4]);
-        size_t count = 999, result_room = table->result_count + chance() % 3 - 1;
+        size_t count = 999, result_room = count_of(table, RESULTS) + chance() % 3 - 1;
         uint32_t *results = malloc(result_room * sizeof *results);
         struct composecheck_sizes sizes;
         struct composecheck_fault fault = { .part = 77 };
         uint32_t done = composecheck_compile(names, header, bundle, length, true, nodes, room[0], edges, room[1], texts, room[2], long_texts, room[3], hints,
                                              room[4], &sizes, &fault);
         expect(done == (fits ? COMPOSECHECK_DONE : COMPOSECHECK_TOO_SMALL) && fault.part == 77, "rooms");
-        expect(memcmp(&sizes, &table->sizes, sizeof sizes) == 0, "what is needed");
+        expect(memcmp(&sizes, &wanted, sizeof sizes) == 0, "what is needed");
         done = composecheck_compile_with_results(names, header, bundle, length, true, nodes, room[0], edges, room[1], texts, room[2], long_texts, room[3],
                                                  hints, room[4], results, result_room, &sizes, &count, &fault);
-        fits = fits && result_room >= table->result_count;
+        fits = fits && result_room >= count_of(table, RESULTS);
         expect(done == (fits ? COMPOSECHECK_DONE : COMPOSECHECK_TOO_SMALL) && fault.part == 77, "rooms with results");
-        expect(count == table->result_count && 4 * count == sizes.texts && memcmp(&sizes, &table->sizes, sizeof sizes) == 0, "what is needed with results");
-        expect(!fits || memcmp(results, table->results, count * sizeof *results) == 0, "the same results");
+        expect(count == count_of(table, RESULTS) && 4 * count == sizes.texts && memcmp(&sizes, &wanted, sizeof sizes) == 0, "what is needed with results");
+        expect(!fits || memcmp(results, array_of(table, RESULTS), count * sizeof *results) == 0, "the same results");
         free(results);
         free(nodes);
         free(edges);
@@ -197,10 +176,11 @@ static void short_lines(void)
     struct composecheck_source source = { "root", text, COUNT * LINE };
     struct composecheck_input input = { .sources = &source, .source_count = 1, .longest = true };
     struct composecheck_fault fault;
-    struct composecheck_table *table = composecheck_table_new(&input, &fault);
-    expect(table && fault.part == 0 && table->sizes.edges == COUNT && table->result_count == COUNT, "a table of short lines");
-    expect(table && composecheck_table_is_table(table) == 1, "short lines make a table");
-    struct composecheck_table *same = table ? composecheck_table_load(table, &input, &fault) : NULL;
+    size_t size, same_size;
+    void *table = composecheck_table_new(&input, &size, &fault);
+    expect(table && fault.part == 0 && count_of(table, EDGES) == COUNT && count_of(table, RESULTS) == COUNT, "a table of short lines");
+    expect(table && composecheck_table_is_table(table, size) == 1, "short lines make a table");
+    void *same = table ? composecheck_table_load(table, size, &input, &same_size, &fault) : NULL;
     expect(!same && fault.part != 0, "without a certificate it is no load");
     composecheck_table_free(table);
 }
@@ -270,22 +250,23 @@ static void files(const char *folder)
     char root[256], other[256], text[256];
     struct composecheck_fault fault;
     struct composecheck_places places = { folder, NULL, NULL, NULL };
-    expect(!composecheck_table_from_file(folder, NULL, true, &fault, NULL, 0) && fault.part == COMPOSECHECK_SEARCH && fault.code == 2, "a folder is no file");
+    size_t size;
+    expect(!composecheck_table_from_file(folder, NULL, true, &size, &fault, NULL, 0) && fault.part == COMPOSECHECK_SEARCH && fault.code == 2, "a folder is no file");
     snprintf(root, sizeof root, "%s/root", folder);
     snprintf(other, sizeof other, "%s/other", folder);
-    expect(!composecheck_table_from_file(root, NULL, true, &fault, text, sizeof text) && fault.code == 2 && strstr(text, "/root: the file isn't there"), "no root");
+    expect(!composecheck_table_from_file(root, NULL, true, &size, &fault, text, sizeof text) && fault.code == 2 && strstr(text, "/root: the file isn't there"), "no root");
     expect(written(root, "include \"%S/other\"\n<b> : \"y\"\n"), "a file that is written");
-    expect(!composecheck_table_from_file(root, &places, true, &fault, text, sizeof text) && fault.code == 3 && strstr(text, "/root:1:9: "), "no file of an include");
+    expect(!composecheck_table_from_file(root, &places, true, &size, &fault, text, sizeof text) && fault.code == 3 && strstr(text, "/root:1:9: "), "no file of an include");
     expect(written(other, ""), "a file that is written");
-    struct composecheck_table *table = composecheck_table_from_file(root, &places, true, &fault, text, sizeof text);
-    expect(table && fault.part == 0 && composecheck_table_is_table(table) == 1, "a table with an empty include");
+    void *table = composecheck_table_from_file(root, &places, true, &size, &fault, text, sizeof text);
+    expect(table && fault.part == 0 && composecheck_table_is_table(table, size) == 1, "a table with an empty include");
     composecheck_table_free(table);
     expect(written(other, "<a> : \"x\"\n <nosuch> : \"x\"\n"), "a file that is written");
-    expect(!composecheck_table_from_file(root, &places, true, &fault, text, sizeof text) && fault.part == COMPOSECHECK_SOURCE && fault.source == 1
+    expect(!composecheck_table_from_file(root, &places, true, &size, &fault, text, sizeof text) && fault.part == COMPOSECHECK_SOURCE && fault.source == 1
            && strcmp(text, "%S/other:2:2: no keysym has the name \"nosuch\"") == 0, "a fault of an include");
-    expect(!composecheck_table_from_file(root, &places, true, &fault, text, 9) && strcmp(text, "%S/other") == 0, "a line that is cut");
+    expect(!composecheck_table_from_file(root, &places, true, &size, &fault, text, 9) && strcmp(text, "%S/other") == 0, "a line that is cut");
     expect(written(other, "include \"root\"\n"), "a file that is written");
-    expect(!composecheck_table_from_file(root, &places, true, &fault, text, sizeof text) && fault.part == COMPOSECHECK_SOURCE && fault.code == 7, "a circle");
+    expect(!composecheck_table_from_file(root, &places, true, &size, &fault, text, sizeof text) && fault.part == COMPOSECHECK_SOURCE && fault.code == 7, "a circle");
     remove(root);
     remove(other);
 }
@@ -295,13 +276,14 @@ int main(int count, char **arguments)
     struct composecheck_source source = { "root", table_text, sizeof table_text - 1 };
     struct composecheck_input input = { .sources = &source, .source_count = 1, .longest = true };
     struct composecheck_fault fault;
-    struct composecheck_table *table = composecheck_table_new(&input, &fault);
+    size_t size;
+    void *table = composecheck_table_new(&input, &size, &fault);
     if (!table)
         return 1;
-    states(table, 20000);
-    arrays(table);
-    other_numbers(table);
-    other_places(table);
+    states(table, size, 20000);
+    other_tables(table, size);
+    other_numbers(table, size);
+    other_places(table, size);
     rooms(&input);
     short_lines();
     lines();

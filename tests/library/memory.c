@@ -61,14 +61,14 @@ void __wrap_free(void *block)
     __real_free(block);
 }
 
-static struct composecheck_table *table_of(const char *text, struct composecheck_fault *fault)
+static void *table_of(const char *text, size_t *size, struct composecheck_fault *fault)
 {
     struct composecheck_source source = { "r", text, strlen(text) };
     struct composecheck_input input = { .sources = &source, .source_count = 1 };
-    return composecheck_table_new(&input, fault);
+    return composecheck_table_new(&input, size, fault);
 }
 
-static bool ends(struct composecheck_table *table, const struct composecheck_fault *fault)
+static bool ends(void *table, const struct composecheck_fault *fault)
 {
     bool is_done = table && fault->part == 0, is_out_of_memory = !table && fault->part == COMPOSECHECK_MEMORY;
     expect(is_done || is_out_of_memory, "a table, or the fault that says that there is no memory");
@@ -81,7 +81,8 @@ static bool ends(struct composecheck_table *table, const struct composecheck_fau
 static bool reads(void)
 {
     struct composecheck_fault fault = { 0 };
-    return ends(table_of(new_text, &fault), &fault);
+    size_t size;
+    return ends(table_of(new_text, &size, &fault), &fault);
 }
 
 static bool loads(void)
@@ -91,10 +92,24 @@ static bool loads(void)
     struct composecheck_source source = { "r", new_text, strlen(new_text) };
     struct composecheck_input input = { .sources = &source, .source_count = 1, .certificate = certificate, .certificate_length = strlen(certificate) };
     left = 0;
-    struct composecheck_table *in_use = table_of(old_text, &fault);
+    size_t size, new_size;
+    void *in_use = table_of(old_text, &size, &fault);
     left = refused;
-    bool is_done = ends(composecheck_table_load(in_use, &input, &fault), &fault);
+    bool is_done = ends(composecheck_table_load(in_use, size, &input, &new_size, &fault), &fault);
     composecheck_table_free(in_use);
+    return is_done;
+}
+
+static bool copies(void)
+{
+    long refused = left;
+    struct composecheck_fault fault = { 0 };
+    size_t size;
+    left = 0;
+    void *table = table_of(new_text, &size, &fault);
+    left = refused;
+    bool is_done = ends(composecheck_table_copy(table, size, &fault), &fault);
+    composecheck_table_free(table);
     return is_done;
 }
 
@@ -102,7 +117,8 @@ static bool reads_files(void)
 {
     struct composecheck_fault fault = { 0 };
     char text[256] = "";
-    bool is_done = ends(composecheck_table_from_file(root, NULL, true, &fault, text, sizeof text), &fault);
+    size_t size;
+    bool is_done = ends(composecheck_table_from_file(root, NULL, true, &size, &fault, text, sizeof text), &fault);
     expect(is_done || strstr(text, "out of memory"), "a line that says that there is no memory");
     return is_done;
 }
@@ -146,13 +162,14 @@ static bool reads_user(void)
 {
     bool is_told = false;
     struct composecheck_options options = { .system = "/nowhere", .context = &is_told };
-    struct composecheck_table *table = composecheck_table_from_locale("xx", &options, tell);
+    size_t size;
+    void *table = composecheck_table_from_locale("xx", &options, tell, &size);
     struct composecheck_state state = { 0 };
     uint8_t text[COMPOSECHECK_MOST_TEXT];
     uint32_t length = 0;
     if (table) {
-        composecheck_table_feed(table, &state, 'a', text, &length);
-        composecheck_table_feed(table, &state, 'b', text, &length);
+        composecheck_table_feed(table, size, &state, 'a', text, &length);
+        composecheck_table_feed(table, size, &state, 'b', text, &length);
     }
     expect(table || is_told, "no table without a message");
     composecheck_table_free(table);
@@ -189,6 +206,7 @@ int main(int count, char **arguments)
         return 1;
     sweep(reads, "a table of sources");
     sweep(loads, "a load");
+    sweep(copies, "a copy");
     sweep(reads_files, "a table of files");
     sweep(explains, "a sentence");
     sweep(finds_locale, "a locale");

@@ -24,12 +24,13 @@ static void type_by_shim(void)
 
 static void type_by_library(void)
 {
-    struct composecheck_table *table = composecheck_table_from_locale("en_US.UTF-8", NULL, NULL);
+    size_t size;
+    void *table = composecheck_table_from_locale("en_US.UTF-8", NULL, NULL, &size);
     struct composecheck_state state = { 0 };
     uint8_t text[COMPOSECHECK_MOST_TEXT];
     uint32_t length = 0;
     for (int i = 0; table && i < 3; i++)
-        composecheck_table_feed(table, &state, keys[i], text, &length);
+        composecheck_table_feed(table, size, &state, keys[i], text, &length);
     printf(" \"%.*s\"\n", (int) length, (const char *) text);
     composecheck_table_free(table);
 }

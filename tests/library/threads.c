@@ -6,14 +6,15 @@
 
 static const char first[] = "<Multi_key> <apostrophe> <e> : \"\xc3\xa9\"\n", second[] = "<Multi_key> <apostrophe> <e> : \"E\"\n<Multi_key> <a> : \"a\"\n";
 static const uint32_t keys[] = { 0xff20, 0x27, 0x65 };
-static struct composecheck_table *shared;
+static void *shared;
+static size_t shared_size;
 
-static struct composecheck_table *read_text(const char *text)
+static void *read_text(const char *text, size_t *size)
 {
     struct composecheck_source source = { "root", text, strlen(text) };
     struct composecheck_input input = { .sources = &source, .source_count = 1 };
     struct composecheck_fault fault;
-    return composecheck_table_new(&input, &fault);
+    return composecheck_table_new(&input, size, &fault);
 }
 
 static void *type(void *wrong)
@@ -22,7 +23,7 @@ static void *type(void *wrong)
     for (int i = 0; i < 300000; i++) {
         uint8_t text[COMPOSECHECK_MOST_TEXT];
         uint32_t length;
-        composecheck_table_feed(shared, &state, keys[i % 3], text, &length);
+        composecheck_table_feed(shared, shared_size, &state, keys[i % 3], text, &length);
         if (length != (i % 3 == 2 ? 2 : 0) || (length && memcmp(text, "\xc3\xa9", 2)))
             ++*(int *) wrong;
     }
@@ -33,15 +34,16 @@ static void *change(void *wrong)
 {
     for (int i = 0; i < 200; i++) {
         struct composecheck_state state = { 0 };
-        struct composecheck_table *table = read_text(second);
+        size_t size;
+        void *table = read_text(second, &size);
         uint8_t text[COMPOSECHECK_MOST_TEXT];
         uint32_t length = 0;
         if (!table)
             return ++*(int *) wrong, NULL;
-        composecheck_table_feed(shared, &state, keys[0], text, &length);
-        composecheck_table_feed(shared, &state, keys[1], text, &length);
-        composecheck_table_refeed(table, &state);
-        composecheck_table_feed(table, &state, keys[2], text, &length);
+        composecheck_table_feed(shared, shared_size, &state, keys[0], text, &length);
+        composecheck_table_feed(shared, shared_size, &state, keys[1], text, &length);
+        composecheck_table_refeed(table, size, &state);
+        composecheck_table_feed(table, size, &state, keys[2], text, &length);
         *(int *) wrong += length != 1 || text[0] != 'E';
         composecheck_table_free(table);
     }
@@ -52,7 +54,7 @@ int main(void)
 {
     pthread_t threads[9];
     int wrong[9] = { 0 }, all = 0;
-    if (!(shared = read_text(first)))
+    if (!(shared = read_text(first, &shared_size)))
         return 1;
     for (int i = 0; i < 9; i++)
         if (pthread_create(&threads[i], NULL, i < 8 ? type : change, &wrong[i]))

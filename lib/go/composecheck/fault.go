@@ -19,6 +19,7 @@ const (
 	Certificate Part = C.COMPOSECHECK_CERTIFICATE
 	Condition   Part = C.COMPOSECHECK_CONDITION
 	Search      Part = C.COMPOSECHECK_SEARCH
+	InTable     Part = C.COMPOSECHECK_TABLE
 )
 
 // A Fault is the error of what is refused: where and why. Sources count from 0, lines and columns (in characters) from 1; what a fault doesn't have

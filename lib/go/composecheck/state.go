@@ -55,8 +55,8 @@ func (state *State) Feed(keysym uint32) FeedResult {
 	}
 	var text [C.COMPOSECHECK_MOST_TEXT]C.uint8_t
 	var length C.uint32_t
-	result := C.composecheck_table_result(state.table.table, &state.state, C.uint32_t(keysym))
-	if C.composecheck_table_feed(state.table.table, &state.state, C.uint32_t(keysym), &text[0], &length) == C.COMPOSECHECK_IGNORED {
+	result := C.composecheck_table_result(state.table.block, state.table.length, &state.state, C.uint32_t(keysym))
+	if C.composecheck_table_feed(state.table.block, state.table.length, &state.state, C.uint32_t(keysym), &text[0], &length) == C.COMPOSECHECK_IGNORED {
 		return Ignored
 	}
 	state.text, state.keysym = textOf(&text, length), uint32(result)
@@ -109,7 +109,7 @@ func (state *State) Table() *Table {
 // Refeed goes over to another table, also in the middle of a sequence: what is pending is typed anew there, and nothing is committed.
 func (state *State) Refeed(table *Table) {
 	defer runtime.KeepAlive(table)
-	C.composecheck_table_refeed(table.table, &state.state)
+	C.composecheck_table_refeed(table.block, table.length, &state.state)
 	state.table = table
 }
 
@@ -129,7 +129,8 @@ func (state *State) Following() []Following {
 	var found []Following
 	var keysym, status, length C.uint32_t
 	var text [C.COMPOSECHECK_MOST_TEXT]C.uint8_t
-	for index := C.uint32_t(0); C.composecheck_table_following(state.table.table, &state.state, index, &keysym, &status, &text[0], &length); index++ {
+	block, size := state.table.block, state.table.length
+	for index := C.uint32_t(0); C.composecheck_table_following(block, size, &state.state, index, &keysym, &status, &text[0], &length); index++ {
 		found = append(found, Following{uint32(keysym), Status(status), textOf(&text, length)})
 	}
 	return found

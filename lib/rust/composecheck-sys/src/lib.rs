@@ -29,12 +29,7 @@ pub const COMPOSECHECK_REPERTOIRE: u32 = 7;
 pub const COMPOSECHECK_CERTIFICATE: u32 = 8;
 pub const COMPOSECHECK_CONDITION: u32 = 9;
 pub const COMPOSECHECK_SEARCH: u32 = 10;
-
-/// A table; its members are the library's own.
-#[repr(C)]
-pub struct composecheck_table {
-    _private: [u8; 0],
-}
+pub const COMPOSECHECK_TABLE: u32 = 11;
 
 /// A state. Zeros are at rest.
 #[repr(C)]
@@ -96,6 +91,7 @@ pub struct composecheck_places {
 pub struct composecheck_options {
     pub system: *const c_char,
     pub is_strict: bool,
+    pub is_cached: bool,
     pub context: *mut c_void,
     pub reserved: [*mut c_void; 5],
 }
@@ -110,31 +106,38 @@ pub struct composecheck_message {
 pub type composecheck_report = unsafe extern "C" fn(context: *mut c_void, message: *const composecheck_message);
 
 extern "C" {
-    pub fn composecheck_table_new(input: *const composecheck_input, fault: *mut composecheck_fault) -> *mut composecheck_table;
+    pub fn composecheck_table_new(input: *const composecheck_input, length: *mut usize, fault: *mut composecheck_fault) -> *mut c_void;
     pub fn composecheck_table_load(
-        in_use: *const composecheck_table,
+        in_use: *const c_void,
+        in_use_length: usize,
         input: *const composecheck_input,
+        length: *mut usize,
         fault: *mut composecheck_fault,
-    ) -> *mut composecheck_table;
-    pub fn composecheck_table_free(table: *mut composecheck_table);
+    ) -> *mut c_void;
+    pub fn composecheck_table_copy(bytes: *const c_void, length: usize, fault: *mut composecheck_fault) -> *mut c_void;
+    pub fn composecheck_table_free(table: *mut c_void);
     pub fn composecheck_table_explain(input: *const composecheck_input, text: *mut c_char, room: usize) -> usize;
     pub fn composecheck_table_check(
-        old_table: *const composecheck_table,
-        new_table: *const composecheck_table,
+        old_table: *const c_void,
+        old_length: usize,
+        new_table: *const c_void,
+        new_length: usize,
         input: *const composecheck_input,
         fault: *mut composecheck_fault,
     ) -> bool;
-    pub fn composecheck_table_is_table(table: *const composecheck_table) -> u32;
+    pub fn composecheck_table_is_table(bytes: *const c_void, length: usize) -> u32;
     pub fn composecheck_table_feed(
-        table: *const composecheck_table,
+        table: *const c_void,
+        length: usize,
         state: *mut composecheck_state,
         keysym: u32,
         text: *mut u8,
         text_length: *mut u32,
     ) -> u32;
-    pub fn composecheck_table_refeed(table: *const composecheck_table, state: *mut composecheck_state);
+    pub fn composecheck_table_refeed(table: *const c_void, length: usize, state: *mut composecheck_state);
     pub fn composecheck_table_following(
-        table: *const composecheck_table,
+        table: *const c_void,
+        length: usize,
         state: *const composecheck_state,
         index: u32,
         keysym: *mut u32,
@@ -142,20 +145,22 @@ extern "C" {
         text: *mut u8,
         text_length: *mut u32,
     ) -> bool;
-    pub fn composecheck_table_result(table: *const composecheck_table, state: *const composecheck_state, keysym: u32) -> u32;
+    pub fn composecheck_table_result(table: *const c_void, length: usize, state: *const composecheck_state, keysym: u32) -> u32;
     pub fn composecheck_table_from_file(
         path: *const c_char,
         places: *const composecheck_places,
         longest: bool,
+        length: *mut usize,
         fault: *mut composecheck_fault,
         text: *mut c_char,
         room: usize,
-    ) -> *mut composecheck_table;
+    ) -> *mut c_void;
     pub fn composecheck_table_from_locale(
         locale: *const c_char,
         options: *const composecheck_options,
         report: Option<composecheck_report>,
-    ) -> *mut composecheck_table;
+        length: *mut usize,
+    ) -> *mut c_void;
     pub fn composecheck_reset(state: *mut composecheck_state);
     pub fn composecheck_status(state: *const composecheck_state) -> u32;
     pub fn composecheck_pending(state: *const composecheck_state, keysyms: *mut u32) -> u32;

@@ -26,6 +26,8 @@ pub enum Part {
     Condition,
     /// The files of a table.
     Search,
+    /// The bytes of a table.
+    Table,
     /// A part that a later library has.
     Other(u32),
 }
@@ -43,6 +45,7 @@ impl Part {
             sys::COMPOSECHECK_CERTIFICATE => Part::Certificate,
             sys::COMPOSECHECK_CONDITION => Part::Condition,
             sys::COMPOSECHECK_SEARCH => Part::Search,
+            sys::COMPOSECHECK_TABLE => Part::Table,
             other => Part::Other(other),
         }
     }

@@ -50,10 +50,11 @@ impl State {
             return self.cancel();
         }
         let (mut text, mut length) = ([0u8; sys::COMPOSECHECK_MOST_TEXT], 0);
+        let (block, size) = self.table.block();
         // SAFETY: the table is one, the state may hold anything, and the text has the room that the call asks for.
         let (result, fed) = unsafe {
-            let result = sys::composecheck_table_result(self.table.as_ptr(), &self.state, keysym);
-            (result, sys::composecheck_table_feed(self.table.as_ptr(), &mut self.state, keysym, text.as_mut_ptr(), &mut length))
+            let result = sys::composecheck_table_result(block, size, &self.state, keysym);
+            (result, sys::composecheck_table_feed(block, size, &mut self.state, keysym, text.as_mut_ptr(), &mut length))
         };
         if fed == sys::COMPOSECHECK_IGNORED {
             return FeedResult::Ignored;
@@ -106,8 +107,9 @@ impl State {
 
     /// Goes over to another table, also in the middle of a sequence: what is pending is typed anew there, and nothing is committed.
     pub fn refeed(&mut self, table: &Table) {
+        let (block, size) = table.block();
         // SAFETY: the table is one, and a state may hold anything.
-        unsafe { sys::composecheck_table_refeed(table.as_ptr(), &mut self.state) }
+        unsafe { sys::composecheck_table_refeed(block, size, &mut self.state) }
         self.table = table.clone();
     }
 
@@ -126,9 +128,10 @@ impl State {
 
     fn following_at(&self, index: u32) -> Option<Following> {
         let (mut keysym, mut status, mut length, mut text) = (0, 0, 0, [0u8; sys::COMPOSECHECK_MOST_TEXT]);
+        let (block, size) = self.table.block();
         // SAFETY: the table is one, a state may hold anything, and the text has the room that the call asks for.
         let is_there = unsafe {
-            sys::composecheck_table_following(self.table.as_ptr(), &self.state, index, &mut keysym, &mut status, text.as_mut_ptr(), &mut length)
+            sys::composecheck_table_following(block, size, &self.state, index, &mut keysym, &mut status, text.as_mut_ptr(), &mut length)
         };
         let text = String::from_utf8_lossy(&text[..length as usize]).into_owned();
         is_there.then_some(Following { keysym, status: status_of(status), text })

@@ -13,8 +13,9 @@ use std::sync::Arc;
 #[derive(Clone, Debug)]
 pub struct Table(Arc<Owned>);
 
+/// A block of the library, and its length.
 #[derive(Debug)]
-struct Owned(NonNull<sys::composecheck_table>);
+struct Owned(NonNull<c_void>, usize);
 
 // SAFETY: nothing changes a table once it is made, the calls only read it, and the library has no memory and no lock of its own; free may be called by
 // any thread.
@@ -35,6 +36,8 @@ pub struct Options<'a> {
     pub system: Option<&'a Path>,
     /// A faulty line refuses the table; else up to ten of them are left out.
     pub is_strict: bool,
+    /// The table is kept in the user's cache, and taken from there while its files are the same.
+    pub is_cached: bool,
 }
 
 /// What the includes of a file lead to.
@@ -69,14 +72,16 @@ impl Table {
         let system = path_of(options.system)?;
         let mut messages: Vec<(sys::composecheck_fault, String, bool)> = Vec::new();
         let context = ptr::addr_of_mut!(messages).cast::<c_void>();
-        let given = sys::composecheck_options { system: start(&system), is_strict: options.is_strict, context, reserved: [ptr::null_mut(); 5] };
+        let Options { is_strict, is_cached, .. } = *options;
+        let given = sys::composecheck_options { system: start(&system), is_strict, is_cached, context, reserved: [ptr::null_mut(); 5] };
+        let mut length = 0;
         // SAFETY: the texts have end marks and outlive the call, and `keep` takes the context for what it is.
-        let made = unsafe { sys::composecheck_table_from_locale(start(&locale), &given, Some(keep)) };
+        let made = unsafe { sys::composecheck_table_from_locale(start(&locale), &given, Some(keep), &mut length) };
         for (fault, text, _) in messages.iter().filter(|it| it.2) {
             report(&Fault::of(fault, text.clone()));
         }
         let end = messages.pop().unwrap_or_default();
-        Table::owning(made, || Error::of(&end.0, end.1))
+        Table::owning(made, length, || Error::of(&end.0, end.1))
     }
 
     /// The table of the file at this path, with every file that it includes.
@@ -84,34 +89,37 @@ impl Table {
         let path = CString::new(path.as_os_str().as_bytes())?;
         let [system, locale, home, sysroot] = [path_of(places.system)?, path_of(places.locale)?, path_of(places.home)?, path_of(places.sysroot)?];
         let given = sys::composecheck_places { system: start(&system), locale: start(&locale), home: start(&home), sysroot: start(&sysroot) };
-        let (mut fault, mut text) = (sys::composecheck_fault::default(), [0u8; 1024]);
+        let (mut length, mut fault, mut text) = (0, sys::composecheck_fault::default(), [0u8; 1024]);
+        let (target, room) = (text.as_mut_ptr().cast(), text.len());
         // SAFETY: the texts have end marks and outlive the call, and the text has the room.
-        let made = unsafe { sys::composecheck_table_from_file(path.as_ptr(), &given, true, &mut fault, text.as_mut_ptr().cast(), text.len()) };
-        Table::owning(made, || Error::of(&fault, until_end_mark(&text)))
+        let made = unsafe { sys::composecheck_table_from_file(path.as_ptr(), &given, true, &mut length, &mut fault, target, room) };
+        Table::owning(made, length, || Error::of(&fault, until_end_mark(&text)))
     }
 
     /// The table of sources, the root first: each a name, as the including line has it between its quotes, and its content. The longer of two
     /// sequences counts of which one is a prefix of the other.
     pub fn new(sources: &[(&str, &[u8])]) -> Result<Table, Error> {
-        let (input, mut fault) = (Input::new(sources)?, sys::composecheck_fault::default());
+        let (input, mut length, mut fault) = (Input::new(sources)?, 0, sys::composecheck_fault::default());
         // SAFETY: the input's pointers hold while the call runs.
-        let made = input.lend(|it| unsafe { sys::composecheck_table_new(it, &mut fault) });
-        Table::owning(made, || Error::of(&fault, input.sentence()))
+        let made = input.lend(|it| unsafe { sys::composecheck_table_new(it, &mut length, &mut fault) });
+        Table::owning(made, length, || Error::of(&fault, input.sentence()))
     }
 
     /// The table of sources if the certificate is valid for a move to it from this one, so that nobody who types sees a difference that it doesn't say.
     pub fn load(&self, sources: &[(&str, &[u8])], shown: Move) -> Result<Table, Error> {
-        let (input, mut fault) = (Input::new(sources)?.with(shown.certificate, shown.repertoire), sys::composecheck_fault::default());
+        let input = Input::new(sources)?.with(shown.certificate, shown.repertoire);
+        let ((block, size), mut length, mut fault) = (self.block(), 0, sys::composecheck_fault::default());
         // SAFETY: the input's pointers hold while the call runs, and this is a table.
-        let made = input.lend(|it| unsafe { sys::composecheck_table_load(self.as_ptr(), it, &mut fault) });
-        Table::owning(made, || Error::of(&fault, input.sentence()))
+        let made = input.lend(|it| unsafe { sys::composecheck_table_load(block, size, it, &mut length, &mut fault) });
+        Table::owning(made, length, || Error::of(&fault, input.sentence()))
     }
 
     /// Whether the certificate is valid for a move from this table to the new one.
     pub fn check(&self, new: &Table, shown: Move) -> Result<(), Error> {
         let (input, mut fault) = (Input::new(&[])?.with(shown.certificate, shown.repertoire), sys::composecheck_fault::default());
+        let ((old_block, old_size), (new_block, new_size)) = (self.block(), new.block());
         // SAFETY: both are tables, and the input's pointers hold while the call runs.
-        let is_valid = input.lend(|it| unsafe { sys::composecheck_table_check(self.as_ptr(), new.as_ptr(), it, &mut fault) });
+        let is_valid = input.lend(|it| unsafe { sys::composecheck_table_check(old_block, old_size, new_block, new_size, it, &mut fault) });
         if is_valid {
             Ok(())
         } else {
@@ -119,13 +127,27 @@ impl Table {
         }
     }
 
-    pub(crate) fn as_ptr(&self) -> *const sys::composecheck_table {
-        self.0 .0.as_ptr()
+    /// The table of a block, a copy of these bytes, which may be any: from a file, a cache or another process. An error if they are none.
+    pub fn from_bytes(bytes: &[u8]) -> Result<Table, Error> {
+        let mut fault = sys::composecheck_fault::default();
+        // SAFETY: the call copies the bytes, and takes any.
+        let made = unsafe { sys::composecheck_table_copy(bytes.as_ptr().cast(), bytes.len(), &mut fault) };
+        Table::owning(made, bytes.len(), || Error::of(&fault, "the bytes are no table".to_string()))
+    }
+
+    /// The block of the table: bytes that may be kept in a file, and sent.
+    pub fn as_bytes(&self) -> &[u8] {
+        // SAFETY: the block has that length, and nothing changes it while the table is there.
+        unsafe { std::slice::from_raw_parts(self.0 .0.as_ptr().cast(), self.0 .1) }
+    }
+
+    pub(crate) fn block(&self) -> (*const c_void, usize) {
+        (self.0 .0.as_ptr(), self.0 .1)
     }
 
     /// What a call returned: a table of the caller's own, or null.
-    fn owning(made: *mut sys::composecheck_table, error: impl FnOnce() -> Error) -> Result<Table, Error> {
-        NonNull::new(made).map(|it| Table(Arc::new(Owned(it)))).ok_or_else(error)
+    fn owning(made: *mut c_void, length: usize, error: impl FnOnce() -> Error) -> Result<Table, Error> {
+        NonNull::new(made).map(|it| Table(Arc::new(Owned(it, length)))).ok_or_else(error)
     }
 }
 
