@@ -650,16 +650,17 @@ def secure(results, folder):
     program = compiled(folder, f"{TOP}/tests/library/secure.c", f"{folder}/plain/xkb_shim.o", f"{folder}/plain/libcomposecheck.a")
     with open(f"{folder}/own", "w", encoding="utf-8") as file:
         file.write('<Multi_key> <apostrophe> <e> : "own"\n')
-    env = {**os.environ, "XCOMPOSEFILE": f"{folder}/own", "HOME": folder}
+    env = {**os.environ, "XCOMPOSEFILE": f"{folder}/own", "HOME": folder, "XDG_CACHE_HOME": f"{folder}/caches"}
     os.chmod(folder, 0o755)
     wanted = 'plain "own" "own"\n'
     said = subprocess.run([program], env=env, stdout=subprocess.PIPE, text=True).stdout
-    results.expect(said == wanted, f"a program with its user's rights prints {said!r}")
+    results.expect(said == wanted and os.path.exists(f"{folder}/caches"), f"a program with its user's rights prints {said!r}, and caches its table")
+    shutil.rmtree(f"{folder}/caches", ignore_errors=True)
     os.chown(program, 65534, 65534)
     os.chmod(program, 0o6755)
     said = subprocess.run([program], env=env, stdout=subprocess.PIPE, text=True).stdout
     typed = "é" if os.path.exists(f"{LOCALES}/en_US.UTF-8/Compose") else ""
-    results.expect(said == f'secure "{typed}" "{typed}"\n', f"a program with more rights prints {said!r}")
+    results.expect(said == f'secure "{typed}" "{typed}"\n' and not os.path.exists(f"{folder}/caches"), f"a program with more rights prints {said!r}, and caches nothing")
 
 
 def all_keysyms(results, folder):

@@ -157,7 +157,8 @@ static void other_lengths(const uint8_t *table, size_t size)
     }
 }
 
-/* The length in the header too; each number of entries that is much too large, as one whose bytes don't fit into a number; and each offset. */
+/* Each number of the header as some other ones, and with more entries than a number can count the bytes of; and the length as another one with the bytes
+ * that it says. */
 static void other_headers(const uint8_t *table, size_t size)
 {
     static const uint64_t numbers[] = { UINT64_MAX, (uint64_t) 1 << 61, (uint64_t) 1 << 62, (uint64_t) 1 << 63, ((uint64_t) 1 << 61) + 1, 1 << 20, 0 };
@@ -170,6 +171,12 @@ static void other_headers(const uint8_t *table, size_t size)
             expect(composecheck_table_is_table(copy, size) == (word_at(table + at) == numbers[i]), "another number in the header");
             memcpy(copy + at, table + at, 8);
         }
+    for (int array = 0; array < ARRAYS; array++) {
+        uint64_t count = count_of(table, array) + UINT64_MAX / widths[array] + 1;
+        memcpy(copy + 24 + 16 * array, &count, 8);
+        expect(widths[array] == 1 || composecheck_table_is_table(copy, size) == 0, "a number of entries whose bytes are too many for a number");
+        memcpy(copy + 24 + 16 * array, table + 24 + 16 * array, 8);
+    }
     uint64_t longer = size + 8;
     memcpy(copy + 16, &longer, 8);
     expect(composecheck_table_is_table(copy, size + 8) == 0, "a longer table with zeros at its end");

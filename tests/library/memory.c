@@ -158,10 +158,11 @@ static void tell(void *context, const struct composecheck_message *message)
     *(bool *) context = message->fault.part == COMPOSECHECK_MEMORY || strstr(message->text, "out of memory") != NULL;
 }
 
-static bool reads_user(void)
+/* Whether the table of the user types; from the cache it does so too if what fails is the cache. */
+static bool reads_user_with(bool is_cached)
 {
     bool is_told = false;
-    struct composecheck_options options = { .system = "/nowhere", .context = &is_told };
+    struct composecheck_options options = { .system = "/nowhere", .is_cached = is_cached, .context = &is_told };
     size_t size;
     void *table = composecheck_table_from_locale("xx", &options, tell, &size);
     struct composecheck_state state = { 0 };
@@ -174,6 +175,29 @@ static bool reads_user(void)
     expect(table || is_told, "no table without a message");
     composecheck_table_free(table);
     return length == 1;
+}
+
+static bool reads_user(void)
+{
+    return reads_user_with(false);
+}
+
+static bool reads_cached(void)
+{
+    return reads_user_with(true);
+}
+
+/* The table is made anew, since its file is another one each time. */
+static bool caches(void)
+{
+    static int number;
+    long refused = left;
+    left = 0;
+    FILE *file = fopen(root, "wb");
+    if (!file || fprintf(file, "%s# %d\n", new_text, number++) < 0 || fclose(file) != 0)
+        return false;
+    left = refused;
+    return reads_user_with(true);
 }
 
 /* ---- each with each allocation refused */
@@ -204,6 +228,8 @@ int main(int count, char **arguments)
     FILE *file = fopen(root, "wb");
     if (!file || fputs(new_text, file) < 0 || fclose(file) != 0 || setenv("XCOMPOSEFILE", root, 1) != 0)
         return 1;
+    if (count < 2 || arguments[1][0] != '/' || setenv("XDG_CACHE_HOME", arguments[1], 1) != 0)
+        return 1;
     sweep(reads, "a table of sources");
     sweep(loads, "a load");
     sweep(copies, "a copy");
@@ -212,6 +238,8 @@ int main(int count, char **arguments)
     sweep(finds_locale, "a locale");
     sweep(tells_key, "the text of a key");
     sweep(reads_user, "the table of the user");
+    sweep(caches, "a table that is cached");
+    sweep(reads_cached, "the table of the cache");
     remove(root);
     return failed ? 1 : 0;
 }

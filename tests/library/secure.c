@@ -1,5 +1,5 @@
 /* Prints whether the program has more rights than its user, and what the shim's table and the library's type for Multi_key, apostrophe, e: by the
- * user's own file, if variables are read, else by the locale's. */
+ * user's own file, if variables are read, else by the locale's. The library's is cached, if it may be. */
 #define _GNU_SOURCE
 #include <composecheck.h>
 #include <stdio.h>
@@ -25,7 +25,8 @@ static void type_by_shim(void)
 static void type_by_library(void)
 {
     size_t size;
-    void *table = composecheck_table_from_locale("en_US.UTF-8", NULL, NULL, &size);
+    struct composecheck_options options = { .is_cached = true };
+    void *table = composecheck_table_from_locale("en_US.UTF-8", &options, NULL, &size);
     struct composecheck_state state = { 0 };
     uint8_t text[COMPOSECHECK_MOST_TEXT];
     uint32_t length = 0;

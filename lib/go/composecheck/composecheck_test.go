@@ -121,6 +121,46 @@ func TestTableOfUser(t *testing.T) {
 	}
 }
 
+func TestCachedTable(t *testing.T) {
+	system, caches := t.TempDir(), t.TempDir()
+	for name, text := range map[string]string{"compose.dir": "Compose: en_US.UTF-8\n", "Compose": "<a> : \"é\"\n"} {
+		if err := os.WriteFile(filepath.Join(system, name), []byte(text), 0o644); err != nil {
+			t.Fatal(err)
+		}
+	}
+	for _, name := range []string{"XCOMPOSEFILE", "XDG_CONFIG_HOME", "HOME"} {
+		t.Setenv(name, "")
+	}
+	t.Setenv("XDG_CACHE_HOME", caches)
+	for count := 0; count < 2; count++ {
+		made, err := FromLocaleWith("C", Options{System: system, IsCached: true})
+		if err != nil {
+			t.Fatal(err)
+		}
+		expect(t, "a table of the cache", made.Bytes(), table(t, "<a> : \"é\"\n").Bytes())
+		found, err := os.ReadDir(filepath.Join(caches, "composecheck"))
+		expect(t, "the files of the cache", []any{len(found), err}, []any{1, nil})
+	}
+}
+
+func TestBytes(t *testing.T) {
+	made := table(t, "<a> <b> : \"é\"\n<c> : \"xyz\" F1\n")
+	block := made.Bytes()
+	copied, err := FromBytes(block)
+	if err != nil {
+		t.Fatal(err)
+	}
+	expect(t, "the bytes of a copy", copied.Bytes(), block)
+	state := NewState(copied)
+	expect(t, "a key on a copy", step{state.Feed(0x63), state.Status(), state.UTF8(), state.Keysym()}, step{Accepted, Composed, "xyz", 0xffbe})
+	var fault *Fault
+	for _, other := range [][]byte{nil, block[1:], block[:len(block)-8], append(block[:len(block):len(block)], 0)} {
+		if _, err = FromBytes(other); !errors.As(err, &fault) || fault.Part != InTable || fault.Code != 1 || err.Error() != "the bytes are no table" {
+			t.Errorf("bytes that are no table: %v", err)
+		}
+	}
+}
+
 func TestGoroutines(t *testing.T) {
 	shared := table(t, "<a> <b> : \"é\"\n")
 	var group sync.WaitGroup

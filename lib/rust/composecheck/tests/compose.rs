@@ -87,17 +87,38 @@ fn the_table_of_a_user() {
     }
     let system = room.join("system");
     let mut left_out = Vec::new();
-    let table =
-        Table::from_locale_with(Some("C"), &Options { system: Some(&system), is_strict: false }, |it| left_out.push((it.line, it.code))).unwrap();
+    let options = Options { system: Some(&system), ..Options::default() };
+    let table = Table::from_locale_with(Some("C"), &options, |it| left_out.push((it.line, it.code))).unwrap();
     assert_eq!(left_out, [(1, 4)]);
     let mut state = State::new(&table);
     state.feed(0x61);
     assert_eq!(state.utf8(), Some("é"));
-    let strict = Table::from_locale_with(Some("C"), &Options { system: Some(&system), is_strict: true }, |_| panic!("a line is left out"));
+    let strict = Table::from_locale_with(Some("C"), &Options { is_strict: true, ..options }, |_| panic!("a line is left out"));
     assert!(matches!(strict, Err(Error::Refused(it)) if it.line == 1 && it.text.ends_with("no keysym has the name \"nosuch\"")));
-    let none = Table::from_locale_with(Some("xx"), &Options { system: Some(&system), is_strict: false }, |_| ());
+    let none = Table::from_locale_with(Some("xx"), &options, |_| ());
     assert_eq!(none.unwrap_err().to_string(), "there is no Compose file for the locale xx");
+    std::fs::write(room.join("system/Compose"), "<a> : \"é\"\n").unwrap();
+    std::env::set_var("XDG_CACHE_HOME", room.join("caches"));
+    for _ in 0..2 {
+        let cached = Table::from_locale_with(Some("C"), &Options { is_cached: true, ..options }, |_| ()).unwrap();
+        assert_eq!(cached.as_bytes(), Table::from_locale_with(Some("C"), &options, |_| ()).unwrap().as_bytes());
+        assert_eq!(std::fs::read_dir(room.join("caches/composecheck")).unwrap().count(), 1);
+    }
     std::fs::remove_dir_all(room).unwrap();
+}
+
+#[test]
+fn bytes() {
+    let table = table("<a> <b> : \"é\"\n<c> : \"xyz\" F1\n").unwrap();
+    let mut moved = vec![0];
+    moved.extend_from_slice(table.as_bytes());
+    let copy = Table::from_bytes(&moved[1..]).unwrap();
+    assert_eq!(copy.as_bytes(), table.as_bytes());
+    let mut state = State::new(&copy);
+    assert_eq!(typed(&mut state, 0x63), (FeedResult::Accepted, Status::Composed, Some("xyz".into()), Some(0xffbe)));
+    assert_eq!(fault_of(Table::from_bytes(&moved)).part, Part::Table);
+    let fault = fault_of(Table::from_bytes(&[]));
+    assert_eq!((fault.part, fault.code, fault.to_string().as_str()), (Part::Table, 1, "the bytes are no table"));
 }
 
 #[test]
