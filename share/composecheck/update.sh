@@ -1,7 +1,5 @@
 #!/bin/sh
 # update.sh FILE [OPTION..]: runs `composecheck update`, and shows what it doesn't take as a notification too, where `notify-send` is installed.
-# A file of the system, below /usr/share/X11/locale or the folder of --system, and the machine's table (machine.sh) are merged into the table in use
-# (--merge): an upgrade then takes no sequence away. A person's own file is not: a line that they delete would come back.
 # The machine's table is for people who have taken no other file: for others it is judged, and neither taken nor shown.
 # What was shown is in the file `shown` of the folder of the table. It is not shown again, until an update has gone through.
 # The status is that of `composecheck update`. $COMPOSECHECK is the program, where it isn't `composecheck` on the path.
@@ -59,7 +57,6 @@ $left
 To have it: $accept" ;;
 1*) show "Your Compose table stays as it was" "$file would change how you type:
 $printed
-To have what is new and type on as before: composecheck update --merge $file
 To have all of it: $accept" ;;
 *) show "Your Compose table stays as it was" "$file was not taken into use:
 $printed" ;;
