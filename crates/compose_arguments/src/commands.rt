@@ -348,18 +348,6 @@ static MERGE: CommandRow = CommandRow {
         VERBOSE,
         NAMES,
         FRESH,
-        OptionRow {
-            name: "accept",
-            letter: None,
-            takes: Takes::Value("FILE"),
-            help: "Take the changes that FILE lists from NEW, as diff --accept reads it; refuse a line of it that lists none",
-        },
-        OptionRow {
-            name: "patch",
-            letter: None,
-            takes: Takes::Nothing,
-            help: "Print what makes the merged table of NEW's files, as a unified diff for patch -p0, in place of the table",
-        },
         OVERLAP,
         SKIP_FAULTY,
         SYSTEM,
