@@ -34,8 +34,9 @@ class Package(NamedTuple):
     libraries: str
     description: str
     recommends: str = ""
-    # The files that dpkg runs, in packaging/.
+    # The files that dpkg runs, in packaging/, and what else has it run them.
     scripts: tuple = ()
+    triggers: str = ""
 
 
 def architecture():
@@ -103,7 +104,10 @@ def documents(package, version, time):
 
 
 def declared(package, files, version):
-    """The control files of a package with shared libraries: what a program needs that is linked with one, and that the linker's cache is made anew."""
+    """More control files: what has dpkg run the scripts; and of shared libraries what a program needs that is linked with one, and that the linker's
+    cache is made anew."""
+    if package.triggers:
+        return {"triggers": package.triggers}
     shared = [SHARED.fullmatch(place) for place, content in files.items() if isinstance(content, bytes)]
     rows = [f"{it[1]} {it[2]} {package.name} (>= {version})\n" for it in shared if it]
     return {"shlibs": "".join(rows), "triggers": "activate-noawait ldconfig\n"} if rows else {}

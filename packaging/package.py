@@ -55,7 +55,11 @@ THE_PROGRAM = Package("composecheck", "x11", "", "libc6", """checks migrations b
  composecheck lists what a new Compose table changes for people who type with
  the old one, shows the shortest keys on which two tables differ, and serves
  typing sessions over a Unix socket. Its promises are proved.
-""", scripts=("postinst", "prerm"))  # for the services of users: after an upgrade, and before a removal
+""", scripts=("postinst", "postrm", "prerm"), triggers="""\
+# Compose files of the system, and of packages that activate the second one
+interest-noawait /usr/share/X11/locale
+interest-noawait composecheck-table
+""")
 LIBRARY = Package("libcomposecheck1", "libs", "", "libc6", """Compose tables and compose states for programs
  libcomposecheck reads Compose tables, types with them, and takes a new table
  in the middle of a sequence. libcomposecheck-xkb.so has the functions of
@@ -112,7 +116,7 @@ def files_of(program, prefix):
         files[f"lib/systemd/user/{name}"] = named(f"share/composecheck/{name}")
     for name, place in COMPLETIONS.items():
         files[place] = read(f"{TOP}/share/completions/{name}")
-    for name in ("FORMATS.md", "OUTPUT.md", "PROTOCOL.md"):
+    for name in ("FORMATS.md", "MACHINES.md", "OUTPUT.md", "PROTOCOL.md"):
         files[f"share/doc/composecheck/{name}"] = read(f"{TOP}/docs/{name}")
     files["share/doc/composecheck/LICENSE"] = read(f"{TOP}/LICENSE")
     return files

@@ -158,7 +158,7 @@ def check_deb(program, version, listed, folder, results):
     results.expect("deb is unpacked", run("dpkg-deb", "-x", path, place).returncode, 0)
     results.expect("deb: its control files are unpacked", run("dpkg-deb", "-e", path, control).returncode, 0)
     scripts = [it for it in sorted(os.listdir(control)) if os.access(os.path.join(control, it), os.X_OK)]
-    results.expect("deb: what dpkg runs", scripts, ["postinst", "prerm"])
+    results.expect("deb: what dpkg runs", scripts, ["postinst", "postrm", "prerm"])
     prefix = os.path.join(place, "usr")
     wanted = [in_debian(it) for it in listed if not it.endswith("/LICENSE")] + [f"share/doc/composecheck/{it}" for it in OF_DEBIAN]
     results.expect("deb: the files of the archive, and Debian's own", files_below(prefix), sorted(wanted))

@@ -2,6 +2,7 @@
 come from the places that the system's own apt is set up with."""
 import os
 import platform
+import re
 import subprocess
 import tarfile
 
@@ -21,14 +22,25 @@ def places():
     return "".join(f"{line}\n" for line in lines)
 
 
-class SourcePackages:
-    """The source packages of the release, in a folder that is there. The lists are fetched once, before the first package."""
+def places_of(*releases):
+    """The same for packages of these releases, from where the system's apt takes those of its own, also before it has fetched any list."""
+    own = platform.freedesktop_os_release()["VERSION_CODENAME"]
+    ran = subprocess.run(["apt-get", "update", "--print-uris"], check=True, capture_output=True, text=True, timeout=60)
+    found = re.search(rf"^'(\S+)/dists/{own}/InRelease'", ran.stdout, re.M)
+    if not found:
+        raise Unfetched(f"apt has no place for {own}")
+    return "".join(f"deb {found[1]} {it} main\n" for it in releases)
 
-    def __init__(self, folder):
-        self.folder, self.has_lists = folder, False
-        places = {"Dir::Etc::sourcelist": "sources.list", "Dir::State::lists": "lists", "Dir::Cache": "cache"}
+
+class SourcePackages:
+    """The source packages of the release, in a folder that is there, or packages from other places. The lists are fetched once, before the first
+    package."""
+
+    def __init__(self, folder, lines=places):
+        self.folder, self.lines, self.has_lists = folder, lines, False
+        own = {"Dir::Etc::sourcelist": "sources.list", "Dir::State::lists": "lists", "Dir::Cache": "cache"}
         settings = {"Dir::Etc::sourceparts": "-", "APT::Update::Error-Mode": "any", "Acquire::http::Timeout": "20"}
-        settings |= {key: os.path.join(folder, name) for key, name in places.items()}
+        settings |= {key: os.path.join(folder, name) for key, name in own.items()}
         self.words = [it for key, value in settings.items() for it in ("-o", f"{key}={value}")]
 
     def run(self, *words, where):
@@ -40,7 +52,7 @@ class SourcePackages:
         for name in ("lists/partial", "cache/archives/partial"):
             os.makedirs(os.path.join(self.folder, name), exist_ok=True)
         with open(os.path.join(self.folder, "sources.list"), "w", encoding="utf-8") as file:
-            file.write(places())
+            file.write(self.lines())
         self.run("update", where=self.folder)
         self.has_lists = True
 

@@ -70,9 +70,13 @@ class TypingService:
         self.run("make", "--names", "builtin", "-o", f"{old}-{new}", f"{old}.manifest", f"{new}.manifest", "repertoire")
 
     def store(self, name, *options):
-        """Has `update` store the table of a Compose file, which the service takes if it runs, and returns what is printed."""
+        """Has `update` store the table of one of the Compose files here, which the service takes if it runs, and returns what is printed."""
+        return self.store_file(f"{name}.compose", *options)
+
+    def store_file(self, path, *options):
+        """The same of any Compose file."""
         running = ["--socket", self.socket] if self.process else []
-        return self.run("update", "--state", os.path.join(self.states, "composecheck"), *running, *options, f"{name}.compose")
+        return self.run("update", "--state", os.path.join(self.states, "composecheck"), *running, *options, path)
 
     def store_anew(self, name, *options):
         """Has `update` store a table in the place of any other, and returns the path of what it stored. The service ends."""

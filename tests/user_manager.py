@@ -241,30 +241,6 @@ def check_use(user, results):
     os.remove(user.path(".XCompose"))
 
 
-def check_machine(user, results):
-    """What docs/MACHINES.md has an administrator give to all users of a machine, but for one user: who types with the table of the machine from the
-    first key on, and takes its changes."""
-    with open(os.path.join(TOP, "docs", "MACHINES.md"), encoding="utf-8") as file:
-        settings = re.search(r"^\[Service\]\nExecStartPre=.*\n", file.read(), re.M)[0]
-    user.write("tables/Compose", FIRST)
-    given = settings.replace("/usr/share/example-compose/Compose", user.path("tables/Compose")).replace(" composecheck update", f" {user.program} update")
-    user.write(f".config/systemd/user/{SERVICE}.d/table.conf", given)
-    user.systemctl("daemon-reload")
-    updated = lambda: user.shown(user.unit("service"), "InactiveEnterTimestampMonotonic")
-    before = updated()
-    results.expect("the machine's units", user.systemctl("enable", "--now", SOCKET, user.unit("path"))[0], 0)
-    results.expect("a new user types with the machine's table", user.types("apostrophe", "e"), "ⓔ")
-    until(lambda: updated() != before, True)
-    user.write("tables/Compose", SECOND)
-    results.expect("an upgrade of the machine's table", until(lambda: user.types("apostrophe", "a"), "ⓐ"), "ⓐ")
-    user.systemctl("stop", SERVICE, user.unit("path"))
-    os.rename(user.path("tables/Compose"), user.path("tables/gone"))
-    results.expect("a table that is stored is enough", user.types("apostrophe", "a"), "ⓐ")
-    shutil.rmtree(user.path(f".config/systemd/user/{SERVICE}.d"))
-    user.systemctl("daemon-reload")
-    results.expect("all is taken back again", user.script("unuse.sh"), TAKEN_BACK)
-
-
 def check_other_file(user, watch, results):
     """Without a file it is the user's own, which is watched in the place of the other one."""
     user.write(".XCompose", SECOND)
@@ -390,7 +366,7 @@ def check_login(user, results):
     results.expect("a file that is included has changed overnight", until(lambda: user.types("equal"), "≡"), "≡")
 
 
-LOGINS = {"first": (check_refused, check_use, check_machine, check_service, check_socket, check_update, check_state_home, check_package, prepare_a_night), "second": (check_login,)}
+LOGINS = {"first": (check_refused, check_use, check_service, check_socket, check_update, check_state_home, check_package, prepare_a_night), "second": (check_login,)}
 
 
 def run_beside(program, folder, login):

@@ -4,15 +4,28 @@
 # It has to run as root, and so does COMMAND: $MANAGED is the number of the manager's user, and FOLDER/home is the home, $HOME. What the manager
 # and its services print is in FOLDER/log. All places are those after a login, as /run/user/$MANAGED: systemd looks for some of them by name, and in
 # others no service can be confined. They are made in namespaces of their own, and all processes are in one, too: no process goes on and nothing is
-# left, however this ends, but an empty control group after a SIGKILL.
+# left, however this ends, but an empty control group after a SIGKILL. COMMAND may change the folders that $CHANGED names, as `/usr /var`: they are
+# overlaid there, and nobody else sees it.
 #
-# The status is that of COMMAND; 77 where there is no systemd, or namespaces or control groups are refused; and 70 if the manager doesn't start
+# The status is that of COMMAND; 77 where there is no systemd, or namespaces, control groups or overlays are refused; and 70 if the manager doesn't start
 # within 30 seconds. On a machine without controllers of control groups, a unit's limits of memory and of tasks have no effect.
 set -e
 user=54321 name=typist home=/home/typist runtime=/run/user/54321 groups=/sys/fs/cgroup
 
+# Has changes of folders go into a place of their own.
+overlay() {
+    [ -n "$CHANGED" ] || return 0
+    mkdir "$folder/changed"
+    mount -t tmpfs tmpfs "$folder/changed"
+    for it in $CHANGED; do
+        mkdir -p "$folder/changed$it" "$folder/changed/work$it"
+        mount -t overlay -o "lowerdir=$it,upperdir=$folder/changed$it,workdir=$folder/changed/work$it" overlay "$it" 2> /dev/null || exit 77
+    done
+}
+
 # Makes what a boot and a login would have made.
 prepare() {
+    overlay
     mount -t cgroup2 cgroup2 "$groups" 2> /dev/null && group=$(mktemp -d "$groups/user-manager-XXXXXX") || exit 77
     for it in /home /run; do mount -t tmpfs -o mode=755 tmpfs "$it"; done
     mkdir -p "$folder/home/.config/systemd" "$home" "$runtime" /run/systemd/system

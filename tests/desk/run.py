@@ -20,7 +20,7 @@ NEEDED = (
 SHOWN = ("--pictures", PICTURES)
 TRIALS = (
     ("trial.py", *SHOWN), ("trial.py", "--fcitx5", *SHOWN), ("trial.py", "--sway", *SHOWN), ("trial.py", "--fcitx5", "--sway", *SHOWN),
-    ("gnome.py",), ("kde.py",), ("browsers.py",), ("measure.py",),
+    ("gnome.py",), ("kde.py",), ("browsers.py",), ("measure.py",), ("upgrade.py",),
 )
 
 
