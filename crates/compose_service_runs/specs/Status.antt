@@ -66,8 +66,12 @@ abbrev pub json_names : Option ℕ → List ℕ
 json_names None = codes "null"
 json_names (Some count) = decimal count
 
+-- the name of a member, with what comes before and behind it, and its text
+abbrev pub json_named : List ℕ → List ℕ → List ℕ
+json_named name text = name ++ json_string text
+
 abbrev pub json_origin : StoredSummary → List ℕ
-json_origin s = codes "{\"origin\":" ++ (json_string (string_bytes s.origin) ++ (codes ",\"stored\":" ++ json_string (string_bytes s.stored)))
+json_origin s = json_named (codes "{\"origin\":") (string_bytes s.origin) ++ json_named (codes ",\"stored\":") (string_bytes s.stored)
 
 abbrev pub json_numbers : StoredSummary → List ℕ
 json_numbers s =

@@ -68,10 +68,17 @@ fn push_origin(text: &mut String, stored: &StoredSummary) -> Result<(), AllocErr
     ensures { OnOk result
         (string_bytes text.new ≡ string_bytes text.old ++ spec.json_origin stored.now) }
 {
-    text.push_str("{\"origin\":")?;
-    push_json_string(text, &stored.origin)?;
-    text.push_str(",\"stored\":")?;
-    push_json_string(text, &stored.stored)
+    push_named(text, "{\"origin\":", &stored.origin)?;
+    push_named(text, ",\"stored\":", &stored.stored)
+}
+
+/// Adds the name of a member, as it is given, and its text.
+fn push_named(text: &mut String, name: &str, inside: &str) -> Result<(), AllocError>
+    ensures { OnOk result
+        (string_bytes text.new ≡ string_bytes text.old ++ spec.json_named name.now inside.now) }
+{
+    text.push_str(name)?;
+    push_json_string(text, inside)
 }
 
 /// Adds the numbers of a stored table.
