@@ -130,9 +130,8 @@ impl State {
         let (mut keysym, mut status, mut length, mut text) = (0, 0, 0, [0u8; sys::COMPOSECHECK_MOST_TEXT]);
         let (block, size) = self.table.block();
         // SAFETY: the table is one, a state may hold anything, and the text has the room that the call asks for.
-        let is_there = unsafe {
-            sys::composecheck_table_following(block, size, &self.state, index, &mut keysym, &mut status, text.as_mut_ptr(), &mut length)
-        };
+        let is_there =
+            unsafe { sys::composecheck_table_following(block, size, &self.state, index, &mut keysym, &mut status, text.as_mut_ptr(), &mut length) };
         let text = String::from_utf8_lossy(&text[..length as usize]).into_owned();
         is_there.then_some(Following { keysym, status: status_of(status), text })
     }
