@@ -161,6 +161,24 @@ static void our_check(void)
         exit(2);
 }
 
+static void our_locale(void)
+{
+    size_t size;
+    composecheck_table_free(composecheck_table_from_locale("en_US.UTF-8", NULL, NULL, &size));
+}
+
+static void our_cached_locale(void)
+{
+    size_t size;
+    struct composecheck_options options = { .is_cached = true };
+    composecheck_table_free(composecheck_table_from_locale("en_US.UTF-8", &options, NULL, &size));
+}
+
+static void their_locale(void)
+{
+    xkb_compose_table_unref(xkb_compose_table_new_from_locale(context, "en_US.UTF-8", XKB_COMPOSE_COMPILE_NO_FLAGS));
+}
+
 static void their_reading(void)
 {
     xkb_compose_table_unref(their_table());
@@ -187,8 +205,10 @@ int main(int count, char **words)
         (words[1][0] == 'o' ? ours : theirs)();
         return 0;
     }
-    static void (*const parts[])(void) = { ours, theirs, our_feed, their_feed, our_compiling, our_reading, our_check, their_reading };
-    static const char *const names[] = { "ours", "theirs", "our feed", "their feed", "our compiling", "our table", "our check", "their table" };
+    static void (*const parts[])(void) = { ours, theirs, our_feed, their_feed, our_compiling, our_reading, our_check, their_reading,
+                                           our_locale, our_cached_locale, their_locale };
+    static const char *const names[] = { "ours", "theirs", "our feed", "their feed", "our compiling", "our table", "our check", "their table",
+                                         "our locale", "our cached locale", "their locale" };
     /* (several turns in a row: after a million keys the first one has nothing in the caches) */
     enum { PARTS = sizeof parts / sizeof *parts, TURNS = 3 };
     uint64_t least[PARTS];

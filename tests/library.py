@@ -442,7 +442,10 @@ def cached_files(results, user):
         ("an alias that changes", "system/locale.alias", "en: en_US.UTF-8\nxx: yy\n", "more"),
         ("a list of locales that changes", "system/compose.dir", "en/Compose: en_US.UTF-8\nde/Compose: de\n", "more"),
     ):
+        times = os.stat(f"{room}/{name}") if os.path.exists(f"{room}/{name}") else None
         user.write(name, text)
+        if times:
+            os.utime(f"{room}/{name}", ns=(times.st_atime_ns, times.st_mtime_ns))
         if typed is None:
             results.expect(refusal(user.opened)[0].part == 10 and refusal(user.opened)[0].code == 3, "an include that isn't there is said, though a table is kept")
         else:
@@ -462,6 +465,15 @@ def cached_files(results, user):
         results.expect(user.opened() == text and writer.wait(10) == 0, "a pipe has its bytes once")
     os.environ.pop("XCOMPOSEFILE")
     results.expect(not [it for it in user.files() if "." in it], f"no other file is left: {user.files()}")
+    shim = compose_calls(f"{os.path.dirname(os.environ['COMPOSECHECK_LIBRARY'])}/libcomposecheck-xkb.so")
+    for variable, count in ((None, 0), ("COMPOSECHECK_SHIM_CACHE", 1)):
+        os.environ.update({"XLOCALEDIR": f"{room}/system", "XDG_CACHE_HOME": f"{room}/shim", **({variable: "1"} if variable else {})})
+        table = shim.xkb_compose_table_new_from_locale(None, b"en", 0)
+        results.expect(table and len(user.files("shim/composecheck")) == count, f"the shim caches tables if {variable} is set")
+        shim.xkb_compose_table_unref(table)
+    os.environ.pop("COMPOSECHECK_SHIM_CACHE")
+    os.environ.pop("XLOCALEDIR")
+    os.environ["XDG_CACHE_HOME"] = f"{room}/cache"
 
 
 def damaged_caches(results, user):
@@ -470,11 +482,11 @@ def damaged_caches(results, user):
     place = f"cache/composecheck/{user.name()}"
     path = f"{user.room}/{place}"
     good, wrong = read(path), []
-    for at in range(len(good)):
+    for at in range(0, len(good), 3):
         user.write(place, good[:at] + bytes([good[at] ^ (1 << at % 8)]) + good[at + 1 :])
         wrong += [at] if user.opened() != "in" or read(path) != good else []
     results.expect(not wrong, f"a byte of the cache's file that is another one, at {wrong[:5]}")
-    for length in range(0, len(good), 7):
+    for length in range(0, len(good), 23):
         user.write(place, good[:length])
         wrong += [length] if user.opened() != "in" or read(path) != good else []
     user.write(place, good + bytes(8))
