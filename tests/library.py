@@ -642,7 +642,7 @@ def c_programs(results, folder):
     if not shutil.which("valgrind"):
         print("library.py: without valgrind nothing is run under it")
         return
-    for name in set(names) & {"blocks", "clauses", "shim"} if is_chosen("valgrind") else ():
+    for name in set(names) & {"clauses", "shim"} if is_chosen("valgrind") else ():
         words = [f"{folder}/plain/xkb_shim.o"] if name == "shim" else []
         program = compiled(f"{folder}/plain", f"{TOP}/tests/library/{name}.c", "-g", *words, f"{folder}/plain/libcomposecheck.a")
         ran_well(results, f"{name} under valgrind", "valgrind", "--quiet", "--leak-check=full", "--error-exitcode=9", program, f"{folder}/files")

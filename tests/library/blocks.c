@@ -157,8 +157,7 @@ static void other_lengths(const uint8_t *table, size_t size)
     }
 }
 
-/* Each number of the header as some other ones, and with more entries than a number can count the bytes of; and the length as another one with the bytes
- * that it says. */
+/* Each number of the header as some other ones; and the length as another one with the bytes that it says. */
 static void other_headers(const uint8_t *table, size_t size)
 {
     static const uint64_t numbers[] = { UINT64_MAX, (uint64_t) 1 << 61, (uint64_t) 1 << 62, (uint64_t) 1 << 63, ((uint64_t) 1 << 61) + 1, 1 << 20, 0 };
@@ -171,15 +170,23 @@ static void other_headers(const uint8_t *table, size_t size)
             expect(composecheck_table_is_table(copy, size) == (word_at(table + at) == numbers[i]), "another number in the header");
             memcpy(copy + at, table + at, 8);
         }
+    uint64_t longer = size + 8;
+    memcpy(copy + 16, &longer, 8);
+    expect(composecheck_table_is_table(copy, size + 8) == 0, "a longer table with zeros at its end");
+    free(copy);
+}
+
+/* Each array with more entries, of which a number of 64 bits can't count the bytes. */
+static void many_entries(const uint8_t *table, size_t size)
+{
+    uint8_t *copy = block_of(size);
+    memcpy(copy, table, size);
     for (int array = 0; array < ARRAYS; array++) {
         uint64_t count = count_of(table, array) + UINT64_MAX / widths[array] + 1;
         memcpy(copy + 24 + 16 * array, &count, 8);
         expect(widths[array] == 1 || composecheck_table_is_table(copy, size) == 0, "a number of entries whose bytes are too many for a number");
         memcpy(copy + 24 + 16 * array, table + 24 + 16 * array, 8);
     }
-    uint64_t longer = size + 8;
-    memcpy(copy + 16, &longer, 8);
-    expect(composecheck_table_is_table(copy, size + 8) == 0, "a longer table with zeros at its end");
     free(copy);
 }
 
@@ -224,6 +231,7 @@ static void same_tables(const void *table, size_t size)
     expect(!table_of("<a", &zeros_size) && zeros_size == 0, "a table that is refused has no length");
     zeros = table_of("", &zeros_size);
     expect(zeros && composecheck_table_is_table(zeros, zeros_size) == 1 && type_all(zeros, zeros_size) == 0, "a table without sequences");
+    many_entries(zeros, zeros_size);
     composecheck_table_free(same);
     composecheck_table_free(copy);
     composecheck_table_free(zeros);
@@ -251,13 +259,15 @@ int main(int count, char **arguments)
 {
     size_t size;
     void *table = table_of(text, &size);
-    if (!table)
+    /* (what is printed is seen also if the program is ended) */
+    if (!table || setvbuf(stdout, NULL, _IOLBF, 0) != 0)
         return 1;
     layout(table, size);
     expect(type_all(table, size) == 3, "the sequences of a table");
     other_bytes(table, size);
     other_lengths(table, size);
     other_headers(table, size);
+    many_entries(table, size);
     other_addresses(table, size);
     copies(table, size);
     same_tables(table, size);
