@@ -46,7 +46,7 @@ struct composecheck_state { uint32_t pending[31], hints[31], count, status; uint
 /* The numbers of a status, those of enum xkb_compose_status. */
 enum composecheck_status { COMPOSECHECK_NOTHING, COMPOSECHECK_COMPOSING, COMPOSECHECK_COMPOSED, COMPOSECHECK_CANCELLED };
 
-/* What composecheck_feed answers; the first two are those of enum xkb_compose_feed_result. */
+/* What composecheck_table_feed answers; the first two are those of enum xkb_compose_feed_result. */
 enum composecheck_fed { COMPOSECHECK_IGNORED, COMPOSECHECK_ACCEPTED, COMPOSECHECK_NO_KEYSYM };
 
 /* What composecheck_find returns. */
