@@ -1,14 +1,13 @@
 #!/usr/bin/env python3
-"""upgrade.py PROGRAM: libx11-data is upgraded by dpkg, from the one of Debian 12 to that of Debian 13, while people stand in the middle of sequences.
+"""upgrade.py PROGRAM [OLD NEW]: libx11-data is upgraded by dpkg, from the one of Debian 12 to that of Debian 13, while people stand in the middle of sequences.
 
-Both packages are fetched as apt is set up, and unpacked by dpkg below a folder of their own. The service and the update are those of the shipped units.
+Both packages are fetched as apt is set up, unless others are given, and unpacked by dpkg below a folder of their own. The service and the update are those of the shipped units.
 Each session stands in the middle of a sequence that the new table changes or hasn't any more, and types its text after the upgrade. One notification
 says what the new table would change and how to take it; then what is new is taken, and after that all of it. Where the packages can't be fetched
 nothing is tried. The last line is `N passed, M failed`."""
 import glob
 import json
 import os
-import re
 import subprocess
 import sys
 import tempfile
@@ -117,7 +116,7 @@ def check_upgrade(machine, client, packages, results):
     wrong = [(row["keys"], text) for number, row in enumerate(chosen) if (text := typed(client, number, keysyms(row, values))) != row["old"]]
     results.expect("and type them again", wrong, [])
     notified = machine.notified()
-    results.expect("one notification", (notified.count("notified\n"), bool(re.search(r'"≮"|Multi_key', notified)), machine.table in notified), (1, True, True))
+    results.expect("one notification", (notified.count("notified\n"), machine.table in notified, "would change how you type:\n" in notified), (1, True, True))
     results.expect("it says how to take all of it", f"composecheck update --accept LIST {machine.table}" in notified, True)
     if status == 1:
         results.expect("and how to take what is new", f"composecheck update --merge {machine.table}\n" in notified, True)
@@ -149,7 +148,7 @@ def main():
     program, results = os.path.abspath(sys.argv[1]), Results()
     with tempfile.TemporaryDirectory(prefix="upgrade-") as folder:
         try:
-            packages = fetched(folder)
+            packages = [os.path.abspath(it) for it in sys.argv[2:]] or fetched(folder)
         except (Unfetched, OSError, subprocess.SubprocessError) as error:
             print(f"libx11-data is skipped: {error}")
             return results.end()
