@@ -29,7 +29,7 @@ diff_at paths files i =
     let path = get_or paths i [] in
     if is_among (take i paths) path then [] else diff_text path (get_or files i [])
 
--- those of the first so many files
+-- those of the first n files
 abbrev pub diffs_of : List (List ℕ) → List (List LineEdit) → ℕ → List ℕ
 diffs_of paths files zero = []
 diffs_of paths files (suc n) = diffs_of paths files n ++ diff_at paths files n

@@ -37,7 +37,7 @@ file_edits names wanted bytes = map (checked_line names wanted) (kept_lines byte
 abbrev pub is_missing : List Definition → List Definition → LeafId → Bool
 is_missing old new leaf = not (has_text new (record { sequence = sequence_at old leaf; text = text_of old leaf }))
 
--- a line of the sources, as it stands there
+-- a line of the sources, as it is there
 abbrev pub standing_line : List Source → Option WrittenLine → List ℕ
 standing_line sources None = []
 standing_line sources (Some line) = unwrap_or (line_at sources line.place) []
@@ -63,7 +63,7 @@ end_last [] = []
 end_last (e ∷ []) = ended e
 end_last (e ∷ f ∷ edits) = e ∷ end_last (f ∷ edits)
 
--- these lines come behind all others
+-- these lines come after all others
 abbrev pub with_lines : List LineEdit → List (List ℕ) → List LineEdit
 with_lines edits [] = edits
 with_lines edits (line ∷ lines) = end_last edits ++ map added_line (line ∷ lines)

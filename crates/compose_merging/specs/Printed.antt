@@ -1,6 +1,7 @@
 -- The merged table as a Compose file without includes (Compose(5), "FILE DESCRIPTION"), and the
 -- reading of it.
-use Rattle.std.specs.Prelude.{◌≡◌, ◌<◌, ℕ, List, [], ◌∷◌, ◌++◌, codes, filter, flat_map, map, length, Ok}
+use Rattle.std.specs.Prelude.{◌≡◌, ◌<◌, ℕ, List, [], ◌∷◌, ◌++◌, codes, filter, flat_map, map, length, slice_get, Some, Ok}
+use Rattle.std.specs.Option.{option_map}
 use Rattle.keysym_core.specs.Names.{KeysymNames}
 use Rattle.compose_model.specs.Table.{Definition}
 use Rattle.compose_model.specs.Nodes.{leaves, nodes}
@@ -66,14 +67,13 @@ pub record ReadsFrom (names : KeysymNames) (definitions : List Definition) (sour
 abbrev pub ReadsBack : KeysymNames → List Definition → List ℕ → Type 0
 ReadsBack names definitions text = ReadsFrom names definitions (source_of text)
 
--- the name of the first source
-abbrev pub root_name : List Source → List ℕ
-root_name [] = []
-root_name (s ∷ sources) = s.name
+-- the definitions that are read of the sources from this root are settled to these rows
+abbrev pub ReadsRows : KeysymNames → List Source → List ℕ → List Definition → Type 0
+ReadsRows names sources root rows = rows_of names sources root Refuse ≡ Ok rows
 
--- the definitions that are read of the sources are settled to these rows
-abbrev pub ReadsRows : KeysymNames → List Source → List Definition → Type 0
-ReadsRows names sources rows = rows_of names sources (root_name sources) Refuse ≡ Ok rows
+-- the first source has this name
+abbrev pub IsRoot : List Source → List ℕ → Type 0
+IsRoot sources root = Some root ≡ option_map (λ (s : Source). s.name) (slice_get sources 0)
 
 -- why the sources are not read to the rows of these definitions
 abbrev pub FailsFrom : KeysymNames → List Definition → List Source → MergingFault → Type 0

@@ -130,7 +130,7 @@ pub(crate) fn missing_lines<'a, T: ComposeTable>(
     Ok(lines)
 }
 
-/// Returns the line that counts for a row, as it stands in its file; nothing without one.
+/// Returns the line that counts for a row, as it is in its file; nothing without one.
 fn line_at<'a, T: ComposeTable>(
     files: &[Vec<&'a [u8]>],
     side: &Side<'_, T>,
@@ -176,7 +176,7 @@ fn lines_of(alloc: Global, bytes: &[u8]) -> Result<Vec<&[u8]>, AllocError> {
     Ok(lines)
 }
 
-/// Adds these lines behind all others. If no newline ends the last one of the new form, it gets one.
+/// Adds these lines after all others. If no newline ends the last one of the new form, it gets one.
 /// O(lines).
 pub(crate) fn add_lines<'a>(edits: &mut Vec<Edit<'a>>, lines: &[&'a [u8]]) -> Result<(), AllocError>
     ensures { OnOk result

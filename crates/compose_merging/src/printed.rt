@@ -5,8 +5,9 @@ ghost use Rattle.compose_model.specs.Table.{Definition};
 ghost use Rattle.compose_model.specs.declared.Rule.TheVariants.{Refuse};
 ghost use Rattle.compose_read.specs.Settle.{settled};
 ghost use Rattle.compose_merge.specs.Merged.{listed_keys};
+ghost use Rattle.compose_merging.specs.Faults as faults;
 ghost use Rattle.compose_merging.specs.Printed as words;
-ghost use Rattle.compose_merging.specs.Printed.{FailsBack, FailsFrom, ReadsBack, ReadsFrom, ReadsRows, listed_as, source_of};
+ghost use Rattle.compose_merging.specs.Printed.{FailsBack, FailsFrom, IsRoot, ReadsBack, ReadsFrom, ReadsRows, listed_as, source_of};
 ghost use Rattle.compose_merging.specs.Treatments.{is_taken_leaf};
 
 use crate::asking::MergingFault;
@@ -126,7 +127,7 @@ pub(crate) fn check_sources<T: BuildTable>(
     root: &str,
     rows: &Sequences,
 ) -> Result<T, MergingFault>
-    requires first { words.root_name sources.now ≡ root.now }
+    requires { IsRoot sources.now root.now }
     ensures same { IfOk result (λ table. T.definitions table ≡ rows.now) }
     ensures read { (definitions : List Definition) → settled Refuse definitions ≡ Ok rows.now
         → IfOk result (λ _. ReadsFrom names.now definitions sources.now) }
@@ -151,15 +152,26 @@ fn read_rows(
     sources: &Sources<'_>,
     root: &str,
 ) -> Result<Sequences, MergingFault>
-    requires first { words.root_name sources.now ≡ root.now }
-    ensures read { IfOk result (λ rows. ReadsRows names.now sources.now rows) }
+    requires { IsRoot sources.now root.now }
+    ensures read { IfOk result (λ rows. ReadsRows names.now sources.now root.now rows) }
     ensures fault { (definitions : List Definition)
         → IfErr result (λ fault. FailsFrom names.now definitions sources.now fault) }
 {
     match read_settled(alloc, names, sources, root, Rule::Refuse) {
         Ok(rows) => Ok(rows),
-        Err(TableFault::NoMemory) => Err(MergingFault::Input(Refusal::NoMemory)),
-        Err(_) => Err(MergingFault::NotReadBack),
+        Err(fault) => Err(raised(fault)),
+    }
+}
+
+/// Returns the fault of what is read once more.
+fn raised(fault: TableFault) -> MergingFault
+    ensures { result ≡ faults.raised fault }
+{
+    match fault {
+        TableFault::NoMemory => MergingFault::Input(Refusal::NoMemory),
+        TableFault::Read(_) | TableFault::Settle(_) | TableFault::Build(_) => {
+            MergingFault::NotReadBack
+        }
     }
 }
 

@@ -28,11 +28,11 @@ edit_text e = mark e.change ∷ (e.line ++ (10 ∷ unended e.is_ended))
 
 -- ---- a hunk
 
--- some line is changed, from three lines before this index to three lines behind it
+-- some line is changed, from three lines before this index to three lines after it
 abbrev pub is_shown : List LineEdit → ℕ → Bool
 is_shown edits i = list_any is_change (take ((i + 4) - (i - 3)) (drop (i - 3) edits))
 
--- how many of so many lines from this index on are shown without a gap
+-- of this many lines from this index on, how many are shown without a gap
 abbrev pub run_of : List LineEdit → ℕ → ℕ → ℕ
 run_of edits i zero = zero
 run_of edits i (suc left) = if is_shown edits i then suc (run_of edits (suc i) left) else zero
@@ -41,8 +41,8 @@ run_of edits i (suc left) = if is_shown edits i then suc (run_of edits (suc i) l
 abbrev pub hunk_at : List LineEdit → ℕ → List LineEdit
 hunk_at edits i = take (run_of edits i (length edits - i)) (drop i edits)
 
--- of so many lines behind so many others: the number of the first one, from 1, and how many they
--- are; the number of the line before them if they are none
+-- of `count` lines after `before` others: the number of the first one, from 1, and their number; if
+-- they are none, the number of the line before them
 abbrev pub span : ℕ → ℕ → List ℕ
 span before count = decimal (if count == 0 then before else before + 1) ++ (codes "," ++ decimal count)
 
@@ -71,7 +71,7 @@ shown_text edits i = (if begins_hunk edits i then hunk_head edits i else []) ++ 
 abbrev pub piece : List LineEdit → ℕ → List ℕ
 piece edits i = if is_shown edits i then shown_text edits i else []
 
--- and of the first so many lines
+-- and of the first n lines
 abbrev pub pieces : List LineEdit → ℕ → List ℕ
 pieces edits zero = []
 pieces edits (suc n) = pieces edits n ++ piece edits n
@@ -79,7 +79,7 @@ pieces edits (suc n) = pieces edits n ++ piece edits n
 abbrev pub has_blank : List ℕ → Bool
 has_blank path = list_any (λ b. b == 32) path
 
--- a tab (code 9) behind a path that has a blank, as `patch` reads it
+-- a tab (code 9) after a path that has a blank, as `patch` reads it
 abbrev pub path_text : List ℕ → List ℕ
 path_text path = path ++ (if has_blank path then 9 ∷ [] else [])
 

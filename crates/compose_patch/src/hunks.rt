@@ -6,7 +6,7 @@ use crate::edit::{Edit, has_changes, is_new, is_old};
 use crate::printed::{push_edit, push_names};
 use std::alloc::{AllocError, Global};
 
-/// How many lines before a change and behind it are shown.
+/// How many lines before a change and after it are shown.
 const CONTEXT: usize = 3;
 
 /// Appends the unified diff of a file at this path: nothing if no line is changed. O(bytes + edits ×
@@ -75,7 +75,7 @@ fn push_shown(
     push_edit(text, &edits[index])
 }
 
-/// Whether a line is changed, from three lines before this index to three lines behind it.
+/// Whether a line is changed, from three lines before this index to three lines after it.
 fn is_shown(edits: &[Edit<'_>], index: usize) -> bool
     requires { index < length edits.now }
     ensures { result ≡ words.is_shown edits.now index }
@@ -126,7 +126,7 @@ fn run_of(edits: &[Edit<'_>], index: usize) -> usize
     end - index
 }
 
-/// Appends the number of the first of so many lines behind so many others, and how many they are.
+/// Appends the number of the first of `count` lines after `before` others, and their number.
 fn push_span(
     alloc: Global,
     text: &mut Vec<u8>,
