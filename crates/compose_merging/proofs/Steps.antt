@@ -2,11 +2,7 @@
 use Rattle.std.proofs.Common.{◌≡◌, ◌∙◌, ◌<◌, ℕ, List, ◌⊎◌, length, refl, sym, ap, ap₂, subst, inl, inr}
 use Rattle.std.specs.Prelude.{Result, Ok, Err, IfErr}
 use Rattle.std.specs.Result.{IsErrAnd}
-use Rattle.compose_migration.specs.Refused.{IsRefused}
-use Rattle.compose_migration.specs.declared.refusal.Refusal.{Refusal}
 use Rattle.compose_migration.specs.declared.refusal.Refusal.TheVariants as refusals
-use Rattle.compose_answer.specs.Parts.{Explainable}
-use Rattle.compose_diff_rows.specs.Answers.{compared_parts}
 use Rattle.keysym_core.specs.Names.{KeysymNames}
 use Rattle.compose_model.specs.Nodes.{nodes}
 use Rattle.compose_model.specs.Table.{Definition}
@@ -19,7 +15,7 @@ use Rattle.compose_merge.specs.Merged.{first_keys, kept, merged}
 use Rattle.compose_merge.specs.declared.merging.MergeFault.{MergeFault}
 use Rattle.compose_merge.specs.declared.merging.MergeFault.TheVariants as merge_faults
 use Rattle.compose_merging.specs.Faults.{merge_raised}
-use Rattle.compose_merging.specs.Merges.{Asked, AnswersMerge, FailsMerging, IsList, IsTooLarge, MergesTables, accepted_of, new_of, old_of}
+use Rattle.compose_merging.specs.Merges.{FailsMerging, IsTooLarge, MergesTables}
 use Rattle.compose_merging.specs.Printed.{FailsBack, table_text}
 use Rattle.compose_merging.specs.Treatments.{treated, treatments}
 use Rattle.compose_merging.specs.declared.asking.MergingFault.{MergingFault}
@@ -77,14 +73,3 @@ module _ {T : Type 0} (view : T → List Definition) (names : KeysymNames) (fres
       go (Accept fault) f = absurd f
       go TooLarge f = inl (inr f)
       go NotReadBack f = f
-
--- ---- the whole
-
--- a fault of the merge of what is compared is the answer
-pub fails_answer : (asked : Asked) (e : Explainable) (names : KeysymNames) (fresh : List ℕ) (accepted : List (List ℕ)) (old new : Written) → compared_parts asked.migration ≡ Ok e → IsList asked e
-    → ((x : MergingFault) → FailsMerging names fresh accepted old new x → FailsMerging e.move.names e.fresh (accepted_of asked e) (old_of asked e) (new_of asked e) x)
-    → (fault : MergingFault) → FailsMerging names fresh accepted old new fault → AnswersMerge asked (Err fault)
-fails_answer asked e names fresh accepted old new is list as (Input refusal) h = subst (λ (x : Refusal). IsRefused x (compared_parts asked.migration)) (sym h) tt
-fails_answer asked e names fresh accepted old new is list as (Accept fault) h = absurd h
-fails_answer asked e names fresh accepted old new is list as TooLarge h = (e, is, list, as TooLarge h)
-fails_answer asked e names fresh accepted old new is list as NotReadBack h = (e, is, list, as NotReadBack h)

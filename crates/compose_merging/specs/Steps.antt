@@ -1,5 +1,5 @@
 -- What the steps of a merge return, if memory doesn't run out.
-use Rattle.std.specs.Prelude.{◌≡◌, ℕ, List, filter, length, map, Result, Ok, Err, IsTrue, string_bytes}
+use Rattle.std.specs.Prelude.{◌≡◌, ℕ, List, filter, length, Result, Ok, Err, IsTrue, string_bytes}
 use Rattle.std.specs.declared.vec.Vec.{Vec}
 use Rattle.std.specs.declared.alloc.Global.{Global}
 use Rattle.compose_model.specs.Certificate.{keys_rise}
@@ -13,6 +13,8 @@ use Rattle.compose_places.specs.Placed.{HasLines}
 use Rattle.compose_places.specs.declared.placed.PlacedTable.{PlacedTable}
 use Rattle.compose_diff_rows.specs.Answers.{compared}
 use Rattle.compose_tree.specs.declared.table.LeafId.{LeafId}
+use Rattle.compose_diff_rows.specs.Rows.{Written}
+use Rattle.compose_merging.specs.Printed.{listed_as}
 use Rattle.compose_merging.specs.Treatments.{is_the_taken, is_left_out}
 use Rattle.compose_merging.specs.declared.asking.MergeInput.{MergeInput}
 use Rattle.compose_merging.specs.declared.asking.Merging.{Merging}
@@ -47,9 +49,7 @@ pub record IsTold (kept : List LeafId) (treatments : List Treatment) (text : Lis
   pub taken : merging.taken ≡ length (filter is_the_taken treatments)
   pub left_out : merging.left_out ≡ length (filter is_left_out treatments)
 
--- a table with the lines that count, its rows and these paths
-pub record IsSideOf {T : Type 0} (view : T → List Definition) (placed : PlacedTable T) (paths : List (List ℕ)) (side : Side T) : Type 0 where
-  pub table : side.listed.table.now ≡ placed.table
-  pub lines : side.listed.lines.now ≡ placed.lines.items
-  pub paths : map (λ path. path.now) side.listed.paths.now ≡ paths
+-- the table is listed as it is written so, with its rows
+pub record IsSideOf {T : Type 0} (view : T → List Definition) (written : Written) (side : Side T) : Type 0 where
+  pub listed : listed_as view side.listed ≡ written
   pub rows : AreRows view side

@@ -2,6 +2,8 @@
 ghost use Rattle.std.specs.Prelude.{◌≡◌, IfErr, IfOk, List, Ok, map};
 ghost use Rattle.compose_model.specs.Table.{Definition};
 ghost use Rattle.compose_tree.specs.TableReturns.{first_table};
+ghost use Rattle.compose_places.specs.Placed.{HasLines};
+ghost use Rattle.compose_diff_rows.specs.Answers.{written_in};
 ghost use Rattle.compose_merging.specs.Merges.{AnswersMerge, IsListChecked, asked};
 ghost use Rattle.compose_merging.specs.Reading.{AnswersRead};
 ghost use Rattle.compose_merging.specs.Steps.{IsPlaced, IsSideOf, ReturnsFresh, placed_parts};
@@ -108,9 +110,13 @@ fn side_of<'a, T: ComposeTable>(
     input: TableInput<'_>,
     paths: &'a [&'a str],
 ) -> Result<Side<'a, T>, Refusal>
-    ensures side { first_table names.now input.entry.sources.now input.entry.rule
-        ≡ Ok (T.definitions placed.now.table)
-        → IfOk result (λ side. IsSideOf T.definitions placed.now (map (λ path. path.now) paths.now) side) }
+    requires read { first_table names.now input.entry.sources.now input.entry.rule
+        ≡ Ok (T.definitions placed.now.table) }
+    requires lines { HasLines T.definitions names.now input.entry.sources.now placed.now }
+    ensures side { IfOk result
+        (λ side. IsSideOf T.definitions
+        (written_in names.now input.entry.sources.now (map (λ path. path.now) paths.now)
+        (T.definitions placed.now.table)) side) }
     ensures memory { IfErr result (λ refusal. refusal ≡ Refusal.NoMemory) }
 {
     let rows = rows_of(alloc, names, input)?;

@@ -5,7 +5,7 @@ ghost use Rattle.compose_migration.specs.Values.{given_of};
 ghost use Rattle.compose_merging.specs.Merges.{AnswersMerge};
 ghost use Rattle.compose_merging.specs.Patches.{AnswersPatch};
 ghost use Rattle.compose_merging.specs.Runs as words;
-ghost use Rattle.compose_merging.specs.Runs.{AreBoth, FailsMerge, IsFaultPrinted, IsKeptMerge, IsMergeOf, IsMergeOutcome, IsMergeRun, IsMergingPrinted, IsPatchOf, IsPatchingPrinted, IsRefusalPrinted, IsSkippedMerge, KeepsNoted, Wants, wish_of};
+ghost use Rattle.compose_merging.specs.Runs.{AreBoth, FailsMerge, IsFaultPrinted, IsFilesMerge, IsKeptMerge, IsMergeOf, IsMergeOutcome, IsMergeRun, IsMergingPrinted, IsPatchOf, IsPatchingPrinted, IsRefusalPrinted, IsSkippedMerge, KeepsNoted, Wants, lists_of, wish_of};
 ghost use Rattle.compose_report.specs.Outcomes.{PrintsErrors};
 ghost use Rattle.compose_skipped.specs.Kept.{skipped_faults};
 ghost use Rattle.compose_skipped.specs.Reported.{with_faults};
@@ -53,9 +53,44 @@ pub fn run_merge<T: BuildTable, F: Folder>(
         (λ fault. FailsMerge files.old.holds environment.now (map (λ name. name.now) names.now)
         arguments.now fault) }
 {
-    if arguments.patch && arguments.skip_faulty {
+    if is_no_patch(arguments) {
         return Ok(refused(alloc, PATCH_OF_WHOLE_FILES)?);
     }
+    match arguments.accept {
+        Some(path) => {
+            run_on_files::<T, F>(alloc, files, environment, names, arguments, &[path], fresh)
+        }
+        None => run_on_files::<T, F>(alloc, files, environment, names, arguments, &[], fresh),
+    }
+}
+
+/// Whether a patch is asked for of files whose faulty lines are skipped.
+fn is_no_patch(arguments: &MergeArguments<'_>) -> bool
+    ensures { result ≡ words.is_no_patch arguments.now }
+{
+    arguments.patch && arguments.skip_faulty
+}
+
+/// Returns the outcome of `merge` with the list of changes at this path, if there is one.
+fn run_on_files<T: BuildTable, F: Folder>(
+    alloc: Global,
+    files: &mut ReadOnce<F>,
+    environment: &Environment,
+    names: &[&str],
+    arguments: &MergeArguments<'_>,
+    lists: &[&str],
+    fresh: &[&str],
+) -> Result<Outcome, Fault>
+    requires { map (λ list. list.now) lists.now ≡ lists_of arguments.now }
+    ensures kept { files.new.holds ≡ files.old.holds }
+    ensures outcome { IfOk result
+        (λ outcome. IsFilesMerge files.old.holds environment.now
+        (map (λ name. name.now) names.now) arguments.now (map (λ name. name.now) fresh.now)
+        outcome) }
+    ensures fault { IfErr result
+        (λ fault. FailsMerge files.old.holds environment.now (map (λ name. name.now) names.now)
+        arguments.now fault) }
+{
     let tables = [
         WantedTable {
             part: "old",
@@ -66,12 +101,6 @@ pub fn run_merge<T: BuildTable, F: Folder>(
             table: arguments.new,
         },
     ];
-    let list = [arguments.accept.unwrap_or("")];
-    let lists = if arguments.accept.is_some() {
-        list.as_slice()
-    } else {
-        &[]
-    };
     let wanted = wanted_by(names, &tables, lists);
     let read = read_parts(alloc, files, environment, &wanted)?;
     Ok(merge_read::<T>(alloc, read, arguments, fresh)?)

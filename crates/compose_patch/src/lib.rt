@@ -14,9 +14,18 @@
 //! ```
 #![tactic(auto)]
 
+ghost use Rattle.std.specs.Prelude.{◌≡◌, ℕ, List};
+ghost use Rattle.compose_patch.specs.Edits.{kept_lines, new_form, old_form};
+
 mod edit;
 mod hunks;
 mod printed;
 
 pub use edit::{Edit, LineChange, first_line_kept, has_changes, new_form};
 pub use hunks::push_diff;
+
+/// The lines of a file, all of which are kept, are the file in both forms.
+pub fn law_kept_lines()
+    ensures old { (bytes : List ℕ) → old_form (kept_lines bytes) ≡ bytes }
+    ensures new { (bytes : List ℕ) → new_form (kept_lines bytes) ≡ bytes }
+{}

@@ -1,8 +1,8 @@
-use Rattle.std.proofs.Common.{map, refl, ap}
+use Rattle.std.proofs.Common.{◌∙◌, map, refl, ap}
 use Rattle.std.specs.Prelude.{codes}
 use Rattle.compose_merging.specs.Runs.{AreWanted, part_of}
 use Rattle.compose_merging.proofs.Both.{two}
-use Rattle.compose_merging.proofs.running.run_merge.Goals as goal
+use Rattle.compose_merging.proofs.running.run_on_files.Goals as goal
 
 pub returns-clause-outcome : goal.returns-clause-outcome
 returns-clause-outcome g c =
@@ -14,7 +14,7 @@ returns-clause-outcome g c =
       tables = wanted.tables.now;
       are_tables = asked;
       wanted = wanted;
-      wants = record { names_are = wants.names_are; are_files = wants.are_files; tables_are = refl; no_texts = wants.no_texts };
+      wants = record { names_are = wants.names_are; are_files = wants.are_files; tables_are = refl; texts_are = wants.texts_are ∙ c.requires };
       read = read;
       parts = parts;
       old = both.old;
