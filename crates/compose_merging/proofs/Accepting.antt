@@ -70,11 +70,12 @@ module _ (P : List ℕ → Bool) (ss : List (List ℕ)) (i : ℕ) (s : List ℕ)
       ap (λ r. start ++ r) (filter_more P ss i [] below ∙ ap (λ d. filter P (take i ss) ++ cond (P d) (d ∷ []) []) here)
       ∙ sym (append_assoc start (filter P (take i ss)) (cond (P s) (s ∷ []) [])) ∙ ap (λ r. r ++ cond (P s) (s ∷ []) []) (sym sofar)
 
-  pub named_in : P s ≡ true → before ++ s ∷ [] ≡ start ++ filter P (take (i + 1) ss)
-  named_in h = sym (one_on ∙ ap (λ b. before ++ cond b (s ∷ []) []) h)
+  -- with the sequence at this index, if it passes
+  pub one_more : before ++ cond (P s) (s ∷ []) [] ≡ start ++ filter P (take (i + 1) ss)
+  one_more = sym one_on
 
-  pub named_out : P s ≡ false → before ≡ start ++ filter P (take (i + 1) ss)
-  named_out h = sym (one_on ∙ ap (λ b. before ++ cond b (s ∷ []) []) h ∙ append-nil before)
+  pub one_less : P s ≡ false → before ≡ start ++ filter P (take (i + 1) ss)
+  one_less h = sym (one_on ∙ ap (λ b. before ++ cond b (s ∷ []) []) h ∙ append-nil before)
 
 -- a copy of the sequence that is added
 pub keys_pushed : (xs : List (Vec ℕ Global)) (v : Vec ℕ Global) (s : List ℕ) → v.items ≡ s → listed_keys (xs ++ v ∷ []) ≡ listed_keys xs ++ s ∷ []

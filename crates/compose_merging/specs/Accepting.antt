@@ -1,6 +1,6 @@
 -- The changes that are taken from the new table: the rows of `diff` that a list names (this project's
 -- profile).
-use Rattle.std.specs.Prelude.{◌≡◌, ℕ, Bool, not, ◌&&◌, if◌then◌else◌, List, [], ◌++◌, Option, Some, None, IsTrue, codes}
+use Rattle.std.specs.Prelude.{◌≡◌, ℕ, Bool, not, ◌&&◌, if◌then◌else◌, List, [], ◌∷◌, ◌++◌, Option, Some, None, IsTrue, codes}
 use Rattle.std.specs.List.{filter, list_any}
 use Rattle.keysym_core.specs.Names.{KeysymNames}
 use Rattle.compose_lex.specs.Escape.{quote}
@@ -56,3 +56,7 @@ change names fresh old new s = happens names fresh old new s
 -- it is one of this table's, which is the old one if that has it
 abbrev pub IsWrittenIn : Written → Written → Written → List ℕ → Type 0
 IsWrittenIn of old new s = (of ≡ (if is_sequence old.table s then old else new)) × IsTrue (is_sequence of.table s)
+
+-- the sequence, if one of the lines names its row
+abbrev pub if_named : KeysymNames → List ℕ → Written → Written → List Line → List ℕ → List (List ℕ)
+if_named names fresh old new lines s = if names_row names fresh old new lines s then s ∷ [] else []

@@ -5,8 +5,8 @@ use Rattle.keysym_core.specs.Names.{KeysymNames}
 use Rattle.compose_model.specs.Table.{Definition, is_sequence}
 use Rattle.compose_read.specs.Lines.{Source, without_mark}
 use Rattle.compose_tree.specs.declared.table.LeafId.{LeafId}
-use Rattle.compose_places.specs.Counting.{WrittenLine, defined_sequence}
-use Rattle.compose_places.specs.Events.{line_at}
+use Rattle.compose_places.specs.Counting.{WrittenLine, sequence_named}
+use Rattle.compose_places.specs.Events.{line_at, line_events}
 use Rattle.compose_lookup.specs.TextIndex.{sequence_at, text_of}
 use Rattle.compose_patch.specs.Edits.{kept_lines}
 use Rattle.compose_patch.specs.Lines.{LineEdit}
@@ -17,9 +17,13 @@ use Rattle.compose_merging.specs.Treatments.{has_text}
 
 -- ---- what is deleted
 
--- the line defines a sequence that the wanted table doesn't have
+-- the wanted table has the sequence of the keys with these names
+abbrev pub has_named : KeysymNames → List Definition → List (List ℕ) → Bool
+has_named names wanted keys = option_map_or (is_sequence wanted) (sequence_named names keys) false
+
+-- the line is a definition, and the wanted table doesn't have the sequence of its keys
 abbrev pub is_lacking : KeysymNames → List Definition → List ℕ → Bool
-is_lacking names wanted line = option_map_or (λ s. not (is_sequence wanted s)) (defined_sequence names line) false
+is_lacking names wanted line = option_map_or (λ keys. not (has_named names wanted keys)) (line_events line) false
 
 abbrev pub deleted_line : LineEdit → LineEdit
 deleted_line e = record { change = Deleted; line = e.line; is_ended = e.is_ended }

@@ -126,17 +126,16 @@ fn add_of_old<T: ComposeTable>(
 {
     for index in 0..old.rows.len() {
         let sequence = old.rows.sequence(index);
-        if is_row_named(
+        add_if_named(
             alloc,
+            accepted,
             lines,
             changes[index],
             &old.listed,
             old,
             new,
             sequence,
-        )? {
-            accepted.push(Vec::from_slice(alloc, sequence)?)?;
-        }
+        )?;
     }
     Ok(())
 }
@@ -168,11 +167,51 @@ fn add_of_new<T: ComposeTable>(
 {
     for index in 0..new.rows.len() {
         let sequence = new.rows.sequence(index);
-        if let Some(change) = changes[index]
-            && is_row_named(alloc, lines, change, &new.listed, old, new, sequence)?
-        {
-            accepted.push(Vec::from_slice(alloc, sequence)?)?;
+        if let Some(change) = changes[index] {
+            add_if_named(
+                alloc,
+                accepted,
+                lines,
+                change,
+                &new.listed,
+                old,
+                new,
+                sequence,
+            )?;
         }
+    }
+    Ok(())
+}
+
+/// Adds the sequence, to which this happens and whose keys are written as in this one of both tables,
+/// if one of the lines names its row.
+fn add_if_named<T: ComposeTable>(
+    alloc: Global,
+    accepted: &mut Vec<Vec<Keysym>>,
+    lines: &[ListLine<'_>],
+    change: Change,
+    of: &ListedTable<'_, T>,
+    old: &Side<'_, T>,
+    new: &Side<'_, T>,
+    sequence: &[Keysym],
+) -> Result<(), AllocError>
+    ensures { (names : KeysymNames) (fresh : List ℕ)
+        → change
+        ≡ words.change names fresh (T.definitions old.now.listed.table.now)
+        (T.definitions new.now.listed.table.now) sequence.now
+        → words.IsWrittenIn (listed_as T.definitions of.now)
+        (listed_as T.definitions old.now.listed) (listed_as T.definitions new.now.listed)
+        sequence.now
+        → OnOk result
+        (listed_keys accepted.new.items
+        ≡ listed_keys accepted.old.items
+        ++ words.if_named names fresh (listed_as T.definitions old.now.listed)
+        (listed_as T.definitions new.now.listed) lines.now sequence.now) }
+{
+    let is_named = is_row_named(alloc, lines, change, of, old, new, sequence)?;
+    if is_named {
+        let copied = Vec::from_slice(alloc, sequence)?;
+        accepted.push(copied)?;
     }
     Ok(())
 }

@@ -1,22 +1,22 @@
 //! Which lines of the new table's files a patch deletes and adds.
-ghost use Rattle.std.specs.Prelude.{◌≡◌, ◌≤◌, IfOk, OnOk, length, map};
+ghost use Rattle.std.specs.Prelude.{◌≡◌, IfOk, OnOk, map};
 ghost use Rattle.std.specs.Option.{option_map};
 ghost use Rattle.compose_read.specs.Lines as sources;
-ghost use Rattle.compose_places.specs.Counting as counting;
+ghost use Rattle.compose_places.specs.Events.{line_events};
 ghost use Rattle.compose_merging.specs.Plan as words;
 ghost use Rattle.compose_merging.specs.Printed.{listed_as};
 ghost use Rattle.compose_merging.specs.Steps.{AreRows};
 
 use crate::sides::Side;
-use crate::treatment::{has_text, leaf_of};
+use crate::treatment::has_text;
 use arrayvec::ArrayVec;
 use compose_lex::{LineContent, lex_line_into};
 use compose_patch::{Edit, LineChange, first_line_kept};
-use compose_places::DefinitionPlace;
+use compose_places::{DefinitionPlace, Events, leaf_named};
 use compose_read::Sources;
 use compose_text::first_line;
 use compose_tree::{ComposeTable, LeafId};
-use keysym_core::{Keysym, Names};
+use keysym_core::Names;
 use std::alloc::{AllocError, Global};
 
 /// Returns the lines of a file of the new table: each is kept, unless it defines a sequence that the
@@ -54,46 +54,28 @@ fn checked_line<'a, T: ComposeTable>(names: &Names, merged: &T, line: Edit<'a>) 
     line
 }
 
-/// Whether the line defines a sequence that the table doesn't have.
+/// Whether the line is a definition, and the table has no sequence with its keys.
 fn is_lacking<T: ComposeTable>(names: &Names, table: &T, line: &[u8]) -> bool
     ensures { result ≡ words.is_lacking names.now (T.definitions table.now) line.now }
 {
-    // The contract of this call says that the table is settled.
-    let _ = table.node_count();
-    match defined_sequence(names, line) {
-        Some(sequence) => leaf_of(table, &sequence).is_none(),
+    match line_keys(line) {
+        Some(keys) => leaf_named(names, table, keys.as_slice()).is_none(),
         None => false,
     }
 }
 
-/// Returns the sequence that a line defines, if it is a definition and each of its keys has a keysym.
-fn defined_sequence(names: &Names, line: &[u8]) -> Option<ArrayVec<Keysym, 32>>
-    ensures { option_map (λ s. s.items) result ≡ counting.defined_sequence names.now line.now }
+/// Returns the names of the keys of a line, if it is a definition.
+fn line_keys(line: &[u8]) -> Option<Events<'_>>
+    ensures { option_map (λ keys. map (λ key. key.now) keys.items) result ≡ line_events line.now }
 {
     let Ok(text) = str::from_utf8(line) else {
         return None;
     };
-    let mut keys = ArrayVec::new();
-    match lex_line_into(text, &mut keys) {
-        Ok(LineContent::Production { .. }) => sequence_named(names, keys.as_slice()),
+    let mut events = ArrayVec::new();
+    match lex_line_into(text, &mut events) {
+        Ok(LineContent::Production { .. }) => Some(events),
         _ => None,
     }
-}
-
-/// Returns the keysyms of these keys, if each has one.
-fn sequence_named(names: &Names, keys: &[&str]) -> Option<ArrayVec<Keysym, 32>>
-    requires { length keys.now ≤ 32 }
-    ensures { option_map (λ s. s.items) result
-        ≡ counting.sequence_named names.now (map (λ key. key.now) keys.now) }
-{
-    let mut sequence = ArrayVec::new();
-    for key in keys {
-        let keysym = names.lookup(key)?;
-        if sequence.try_push(keysym).is_err() {
-            return None;
-        }
-    }
-    Some(sequence)
 }
 
 /// Returns the bytes without a UTF-8 byte order mark at their start, as a file may have it.
