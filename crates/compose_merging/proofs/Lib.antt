@@ -2,6 +2,7 @@ pub mod Accepting
 pub mod Rows
 pub mod Back
 pub mod Both
+pub mod Closing
 pub mod Kept
 pub mod Planned
 pub mod Read

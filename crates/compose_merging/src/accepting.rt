@@ -1,7 +1,7 @@
 //! The changes that are taken from the new table: the rows of `diff` that a list names.
-ghost use Rattle.std.specs.Prelude.{◌≡◌, ◌++◌, ℕ, Err, List, [], IfErr, IfOk, IsTrue, OnOk, get_or, map, length};
+ghost use Rattle.std.specs.Prelude.{◌≡◌, ◌<◌, ◌++◌, ℕ, Err, List, [], None, IfErr, IfOk, IsTrue, OnOk, get_or, map, length, option_copied};
 ghost use Rattle.std.specs.List.{filter, list_any};
-ghost use Rattle.std.specs.Option.{option_map};
+ghost use Rattle.std.specs.Option.{option_map, option_map_or};
 ghost use Rattle.keysym_core.specs.Names.{KeysymNames};
 ghost use Rattle.compose_model.specs.Certificate.{keys_rise};
 ghost use Rattle.compose_model.specs.Nodes.{leaves};
@@ -25,8 +25,8 @@ use compose_compare::{Change, compare};
 use compose_diff::{DiffRow, ListLine, TextPlace, accept_text, list_lines};
 use compose_diff_rows::{DiffInput, Form, diff_migration};
 use compose_listing::ListedTable;
-use compose_places::Events;
-use compose_tree::{BuildTable, ComposeTable};
+use compose_places::{CountingLine, Events};
+use compose_tree::{BuildTable, ComposeTable, LeafId};
 use keysym_core::{Keysym, Names};
 use std::alloc::{AllocError, Global};
 
@@ -263,12 +263,22 @@ fn keys_of<'a, T: ComposeTable>(listed: &ListedTable<'a, T>, sequence: &[Keysym]
 {
     // The contract of this call says that the table is settled.
     let _ = listed.table.node_count();
-    if let Some(leaf) = leaf_of(listed.table, sequence)
-        && let Some(Some(line)) = listed.lines.get(leaf.0 as usize)
-    {
-        return line.keys();
+    match leaf_of(listed.table, sequence) {
+        Some(leaf) => keys_at(listed, leaf),
+        None => ArrayVec::new(),
     }
-    ArrayVec::new()
+}
+
+/// Returns the names of the keys of this leaf, as they are written in the line that counts; none
+/// without a line.
+fn keys_at<'a, T: ComposeTable>(listed: &ListedTable<'a, T>, leaf: LeafId) -> Events<'a>
+    ensures { map (λ key. key.now) result.items
+        ≡ option_map_or (λ line. line.keys) (get_or listed.now.lines.now leaf.0 None) [] }
+{
+    match line_at(listed, leaf) {
+        Some(line) => line.keys(),
+        None => ArrayVec::new(),
+    }
 }
 
 /// Returns what a table has for a sequence, if it has it.
@@ -282,9 +292,20 @@ fn entry_of<'a, T: ComposeTable>(
     // The contract of this call says that the table is settled.
     let _ = listed.table.node_count();
     let leaf = leaf_of(listed.table, sequence)?;
-    let Some(Some(line)) = listed.lines.get(leaf.0 as usize) else {
-        return None;
-    };
+    entry_at(listed, leaf)
+}
+
+/// Returns what a table has for the sequence of this leaf.
+fn entry_at<'a, T: ComposeTable>(
+    listed: &ListedTable<'a, T>,
+    leaf: LeafId,
+) -> Option<TextPlace<'a>>
+    requires { leaf.0 < length (leaves (T.definitions listed.now.table.now)) }
+    ensures { option_map reported_entry result
+        ≡ rows.entry_of (listed_as T.definitions listed.now)
+        (get_or (leaves (T.definitions listed.now.table.now)) leaf.0 []) }
+{
+    let line = line_at(listed, leaf)?;
     let place = line.place();
     Some(TextPlace {
         text: listed.table.text(leaf),
@@ -292,6 +313,16 @@ fn entry_of<'a, T: ComposeTable>(
         path: path_at(listed.paths, place.source),
         line: place.line,
     })
+}
+
+/// Returns the line that counts for this leaf, if there is one.
+fn line_at<'a, T: ComposeTable>(
+    listed: &ListedTable<'a, T>,
+    leaf: LeafId,
+) -> Option<&'a CountingLine<'a>>
+    ensures { option_copied result ≡ get_or listed.now.lines.now leaf.0 None }
+{
+    listed.lines.get(leaf.0 as usize)?.as_ref()
 }
 
 /// Returns the path at this index, or an empty one if there is none.

@@ -27,6 +27,3 @@ loop-number-preserved c =
       | then-not-is_listed+in_ok-push w ↦ ap (λ v. v.items) w.leaves-is ∙ w.in_ok-push.ensures.items ∙ taken keeps i sofar c.loop-number.invariant (sym is ∙ w.if-not-is_listed.true)
       | else-not-is_listed w ↦ ap (λ v. v.items) w.leaves-is ∙ passed keeps i sofar c.loop-number.invariant (sym is ∙ w.if-not-is_listed.false)
     ]
-
-pub returns : goal.returns
-returns c = ?
