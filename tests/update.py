@@ -9,6 +9,7 @@ these are tried. The last line is `N passed, M failed`."""
 import concurrent.futures
 import contextlib
 import fcntl
+import json
 import os
 import re
 import shutil
@@ -151,10 +152,10 @@ class Room:
         running = ["--socket", "socket"] if self.process else []
         return self.run("update", "--state", "state", *running, *words, **environment)
 
-    def status(self, folder=None):
+    def status(self, folder=None, *words):
         """The same of `status`, which runs in this folder."""
         running = ["--socket", self.path("socket")] if self.process and folder else ["--socket", "socket"] if self.process else []
-        return self.run("status", "--state", self.path("state") if folder else "state", *running, folder=folder)
+        return self.run("status", "--state", self.path("state") if folder else "state", *running, *words, folder=folder)
 
     # ---- tables, one after another
 
@@ -951,6 +952,19 @@ def try_two(program, tell):
                 tell.expect(f"{name}: what is kept", (room.kept(), room.kept("next"), room.complained() if is_served else ""), ([written], None, ""))
 
 
+def lines_of_status(status):
+    """The lines that `status` prints for people, of what it prints as JSON (names of files that are no text for a terminal are none here)."""
+    lines, used, before = ["in use: none"], status["in_use"], status["before"]
+    if used:
+        names = "built in" if used["names"] is None else f"{used['names']}, of files"
+        lines = [f"in use: {used['origin']}", f"stored: {used['stored']}", f"sequences: {used['sequences']}", f"files: {used['files']}", f"names: {names}"]
+    lines += [f"{'gone' if it['gone'] else 'changed'} since: {it['path']}" for it in status["changes"]]
+    lines += [f"before it: {before['origin']}, stored {before['stored']}"] if before else []
+    lines += ["next: a table waits for the service"] if status["next"] else []
+    service = {"none": "none runs", "serves": f"serves it on {status['socket']}", "unreached": "runs, and can't be reached"}[status["service"]]
+    return "\n".join([*lines, f"service: {service}", ""])
+
+
 def try_status(program, tell):
     """What `status` prints in each situation."""
     with Room(program) as room:
@@ -964,6 +978,8 @@ def try_status(program, tell):
         def is_said(what, wanted, folder=None):
             status, out, err = room.status(folder)
             tell.expect(what, (status, bool(re.fullmatch(wanted, out)) or out, err), (0, True, ""))
+            status, told, err = room.status(folder, "--format", "json")
+            tell.expect(f"{what}, as JSON", (status, lines_of_status(json.loads(told)), told.count("\n"), err), (0, out, 1, ""))
 
         is_said("a table", first + "service: none runs\n")
         is_said("a table, from another folder", first + "service: none runs\n", "/")

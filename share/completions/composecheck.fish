@@ -47,7 +47,7 @@ complete -c composecheck -n "__fish_seen_subcommand_from diff" -l write-accept -
 complete -c composecheck -n "__fish_seen_subcommand_from lint" -l accept -r -F -d "The findings that are accepted"
 complete -c composecheck -n "__fish_seen_subcommand_from lint" -l write-accept -d "Print the list that accepts the findings"
 complete -c composecheck -n "__fish_seen_subcommand_from diff" -l no-fold -d "A line for each sequence"
-complete -c composecheck -n "__fish_seen_subcommand_from how list lint" -l format -x -a "text json" -d "Form of what is printed"
+complete -c composecheck -n "__fish_seen_subcommand_from how list lint status" -l format -x -a "text json" -d "Form of what is printed"
 complete -c composecheck -n "__fish_seen_subcommand_from diff" -l format -x -a "text json markdown html" -d "Form of what is printed"
 complete -c composecheck -n "__fish_seen_subcommand_from diff" -l color -x -a "auto always never" -d "When lines are coloured"
 complete -c composecheck -n "__fish_seen_subcommand_from serve" -l mode -x -a "600 660 666" -d "Mode of the socket file"

@@ -714,7 +714,20 @@ static STATUS: CommandRow = CommandRow {
     name: "status",
     about: "Print which table is in use, the one before it, and whether a service serves it",
     after_help: "Exit status: 0 a table is in use, 1 none is, 2 input refused, 3 out of memory\nExample: composecheck status",
-    options: &[STATE, SERVICE_SOCKET],
+    options: &[
+        STATE,
+        SERVICE_SOCKET,
+        OptionRow {
+            name: "format",
+            letter: None,
+            takes: Takes::OneOf {
+                name: "FORMAT",
+                values: &["text", "json"],
+                default: "text",
+            },
+            help: "Lines for people, or json: an object",
+        },
+    ],
     options_of_files: &[],
     arguments: &[],
 };

@@ -43,6 +43,6 @@ pub use merge_arguments::MergeArguments;
 pub use question::Question;
 pub use request::{CommandLine, CommandRequest, read_command_line};
 pub use serve_arguments::{ServeArguments, Served, ServedFiles};
-pub use status_arguments::StatusArguments;
+pub use status_arguments::{StatusArguments, StatusForm};
 pub use table_arguments::TableArguments;
 pub use update_arguments::{TakingArguments, UpdateArguments};

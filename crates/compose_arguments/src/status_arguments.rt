@@ -9,6 +9,17 @@ pub struct StatusArguments<'a> {
     pub state: Option<&'a str>,
     /// The path of the running service's socket, if it is given; otherwise the environment decides.
     pub socket: Option<&'a str>,
+    /// The form of what is printed.
+    pub form: StatusForm,
+}
+
+/// The form of what `status` prints.
+#[derive(Clone, Copy, Debug, PartialEq, Eq, Drop)]
+pub enum StatusForm {
+    /// Lines for people.
+    Lines,
+    /// A JSON object on one line.
+    Json,
 }
 
 /// Returns the arguments of `status`.
@@ -16,5 +27,9 @@ pub fn status_arguments<'a>(given: &ArgMatches<'a>) -> StatusArguments<'a> {
     StatusArguments {
         state: given.get_str("state"),
         socket: given.get_str("socket"),
+        form: match given.get_str("format") {
+            Some("json") => StatusForm::Json,
+            _ => StatusForm::Lines,
+        },
     }
 }

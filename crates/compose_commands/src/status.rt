@@ -41,7 +41,7 @@ pub fn status<T: BuildTable>(
         is_next_there: is_there(rt, &folder.next),
         service: service_state(rt, &folder, socket)?,
     };
-    Ok(status_outcome(alloc, &status)?)
+    Ok(status_outcome(alloc, &status, arguments.form)?)
 }
 
 /// Returns what is stored in the file at this path, if it is there, and adds which of the files that

@@ -2,6 +2,9 @@
 use Rattle.std.specs.Prelude.{◌≡◌, ℕ, Bool, true, false, List, [], ◌∷◌, ◌++◌, flat_map, Option, Some, None, if◌then◌else◌, string_bytes, codes}
 use Rattle.std.specs.Fmt.{decimal}
 use Rattle.compose_shown.specs.Shown.{shown_text}
+use Rattle.compose_diff.specs.Json.{json_string}
+use Rattle.compose_arguments.specs.declared.status_arguments.StatusForm.{StatusForm}
+use Rattle.compose_arguments.specs.declared.status_arguments.StatusForm.TheVariants.{Lines, Json}
 use Rattle.compose_answer.specs.declared.answer.Ended.{Ended}
 use Rattle.compose_answer.specs.declared.answer.Ended.TheVariants.{Yes, No}
 use Rattle.compose_report.specs.Outcomes.{PrintsOutput}
@@ -56,6 +59,68 @@ abbrev pub end_of : Option StoredSummary → Ended
 end_of None = No
 end_of (Some s) = Yes
 
-abbrev pub IsStatusOutcome : Status → Outcome → Type 0
-IsStatusOutcome s outcome =
-    PrintsOutput (table_lines s.in_use ++ change_lines s.changes.items ++ before_line s.before ++ next_line s.is_next_there ++ service_line s.service) (end_of s.in_use) outcome
+-- ---- as JSON
+
+-- the number of names of files, or null for those that are built in
+abbrev pub json_names : Option ℕ → List ℕ
+json_names None = codes "null"
+json_names (Some count) = decimal count
+
+abbrev pub json_origin : StoredSummary → List ℕ
+json_origin s = codes "{\"origin\":" ++ (json_string (string_bytes s.origin) ++ (codes ",\"stored\":" ++ json_string (string_bytes s.stored)))
+
+abbrev pub json_numbers : StoredSummary → List ℕ
+json_numbers s =
+    codes ",\"sequences\":" ++ (decimal s.sequences ++ (codes ",\"files\":" ++ (decimal s.files
+    ++ (codes ",\"names\":" ++ (json_names s.names ++ codes "}")))))
+
+-- a stored table, or null
+abbrev pub json_stored : Option StoredSummary → List ℕ
+json_stored None = codes "null"
+json_stored (Some s) = json_origin s ++ json_numbers s
+
+abbrev pub json_truth : Bool → List ℕ
+json_truth is = if is then codes "true" else codes "false"
+
+abbrev pub json_change : Change → List ℕ
+json_change change = codes "{\"path\":" ++ (json_string (string_bytes change.path) ++ (codes ",\"gone\":" ++ (json_truth change.is_gone ++ codes "}")))
+
+-- each after a comma
+abbrev pub other_changes : List Change → List ℕ
+other_changes changes = flat_map (λ change. codes "," ++ json_change change) changes
+
+-- with commas between them, in brackets
+abbrev pub json_changes : List Change → List ℕ
+json_changes [] = codes "[]"
+json_changes (change ∷ changes) = codes "[" ++ (json_change change ++ (other_changes changes ++ codes "]"))
+
+-- the word of a service, and its socket or null
+abbrev pub json_service : ServiceState → List ℕ
+json_service services.None = codes "\"none\",\"socket\":null"
+json_service (services.Serves path) = codes "\"serves\",\"socket\":" ++ json_string (string_bytes path)
+json_service services.Unreached = codes "\"unreached\",\"socket\":null"
+
+abbrev pub json_tables : Status → List ℕ
+json_tables s =
+    codes "{\"in_use\":" ++ (json_stored s.in_use ++ (codes ",\"changes\":" ++ (json_changes s.changes.items
+    ++ (codes ",\"before\":" ++ json_stored s.before))))
+
+abbrev pub json_rest : Status → List ℕ
+json_rest s = codes ",\"next\":" ++ (json_truth s.is_next_there ++ (codes ",\"service\":" ++ (json_service s.service ++ codes "}\n")))
+
+-- an object on one line
+abbrev pub status_json : Status → List ℕ
+status_json s = json_tables s ++ json_rest s
+
+-- ---- the outcome
+
+-- the lines for people
+abbrev pub status_lines : Status → List ℕ
+status_lines s = table_lines s.in_use ++ change_lines s.changes.items ++ before_line s.before ++ next_line s.is_next_there ++ service_line s.service
+
+abbrev pub status_text : StatusForm → Status → List ℕ
+status_text Lines s = status_lines s
+status_text Json s = status_json s
+
+abbrev pub IsStatusOutcome : StatusForm → Status → Outcome → Type 0
+IsStatusOutcome form s outcome = PrintsOutput (status_text form s) (end_of s.in_use) outcome

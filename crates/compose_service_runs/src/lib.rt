@@ -14,6 +14,7 @@ mod client;
 mod peer;
 mod serving;
 mod status;
+mod status_json;
 mod taking;
 
 pub use client::{ClientRequests, load_requests, run_exchange, run_load, run_session};

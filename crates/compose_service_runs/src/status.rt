@@ -3,7 +3,9 @@ ghost use Rattle.std.specs.Prelude.{◌≡◌, ◌++◌, IfOk, OnOk, string_byte
 ghost use Rattle.compose_service_runs.specs.Status as spec;
 ghost use Rattle.compose_service_runs.specs.Status.{IsStatusOutcome};
 
+use crate::status_json::push_status_json;
 use compose_answer::Ended;
+use compose_arguments::StatusForm;
 use compose_report::Outcome;
 use compose_shown::Shown;
 use std::alloc::{AllocError, Global};
@@ -59,22 +61,37 @@ pub struct Status {
     pub service: ServiceState,
 }
 
-/// Returns what is printed: status 0 if a table is in use, and otherwise 1. O(bytes).
+/// Returns what is printed in this form: status 0 if a table is in use, and otherwise 1. O(bytes).
 /// Errors: `AllocError` if memory runs out.
-pub fn status_outcome(alloc: Global, status: &Status) -> Result<Outcome, AllocError>
-    ensures { IfOk result (λ outcome. IsStatusOutcome status.now outcome) }
+pub fn status_outcome(
+    alloc: Global,
+    status: &Status,
+    form: StatusForm,
+) -> Result<Outcome, AllocError>
+    ensures { IfOk result (λ outcome. IsStatusOutcome form status.now outcome) }
 {
     let mut text = String::new(alloc);
-    push_table(&mut text, &status.in_use)?;
-    push_changes(&mut text, &status.changes)?;
-    push_before(&mut text, &status.before)?;
-    push_next(&mut text, status.is_next_there)?;
-    push_service(&mut text, &status.service)?;
+    match form {
+        StatusForm::Lines => push_lines(&mut text, status)?,
+        StatusForm::Json => push_status_json(&mut text, status)?,
+    }
     let ended = match status.in_use {
         Some(_) => Ended::Yes,
         None => Ended::No,
     };
     Ok(Outcome::of_output(alloc, text, ended))
+}
+
+/// Adds the lines for people.
+fn push_lines(text: &mut String, status: &Status) -> Result<(), AllocError>
+    ensures { OnOk result
+        (string_bytes text.new ≡ string_bytes text.old ++ spec.status_lines status.now) }
+{
+    push_table(text, &status.in_use)?;
+    push_changes(text, &status.changes)?;
+    push_before(text, &status.before)?;
+    push_next(text, status.is_next_there)?;
+    push_service(text, &status.service)
 }
 
 /// Adds the lines about the table in use.
