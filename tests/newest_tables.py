@@ -4,8 +4,9 @@ the gate).
 
 TABLES is a folder with LOCALE.UTF-8/Compose, such as a source tree of libX11 has once the preprocessor made its tables. Without it the package libx11-data is
 fetched as apt-get is set up, into a folder of its own. The old tables are those of the system. Each new table has to be read with the built-in names,
-without a faulty line: `list`, `how`, `lint` and `type -f` answer for each of its sequences, and `diff` and `ci.sh` compare it with the old one of its locale.
-Where the package can't be fetched nothing is tested. The last line is `N passed, M failed`, and what was skipped."""
+without a faulty line: `list`, `how`, `lint` and `type -f` answer for each of its sequences, and `diff` and `ci.sh` compare it with the old one of its locale, and `merge` makes
+one table of both. The merged table has each old sequence and those new ones that a second reading takes; `make` and `check` say that it follows, a service takes it
+while sessions stand in the middle of sequences, and libxkbcommon and libX11 type each of its sequences, if they are there. Where the package can't be fetched nothing is tested. The last line is `N passed, M failed`, and what was skipped."""
 import glob
 import json
 import os
@@ -15,14 +16,18 @@ import sys
 import tempfile
 
 import findings
+import readers
 import real
 import reference
 from harness import Results, TOP
+from service import Serving
 
 SYSTEM = "/usr/share/X11/locale"
 SCRIPT = os.path.join(TOP, "share", "composecheck", "ci.sh")
 READERS = ("libX11", "libxkbcommon")
 TEXTS_A_RUN = 500
+# What a reader says of a key that ends a sequence.
+ENDS = {"libX11": b"committed", "libxkbcommon": b"composed"}
 
 
 class Reading:
@@ -158,6 +163,78 @@ def check_diff(program, locale, old, new, results):
     print(f"{locale}: {counted[0]} kept, {counted[1]} changed, {counted[2]} waiting, {counted[3]} removed, {counted[4]} new starts, {counted[5]} added", flush=True)
 
 
+def is_taken(old, new, sequence):
+    """Whether a merge takes a sequence of the new table: it changes nothing for people who type with the old one."""
+    if any(sequence[:count] in old.counting for count in range(1, len(sequence) + 1)) or sequence in old.begun:
+        return False
+    types_itself = len(sequence) == 1 and new.counting[sequence]["text"] == real.own_text(sequence[0], new.given)
+    return sequence[0] in old.starts or types_itself
+
+
+def texts_of(rows):
+    return {keys: row["text"] for keys, row in rows.items()}
+
+
+def check_merge(program, room, locale, old, new, values, others, results):
+    """`merge` of the old table and the new one, and what follows of it."""
+    ran = run(program, "merge", old.path, new.path)
+    path = os.path.join(room, f"{locale}.merged")
+    with open(path, "w", encoding="utf-8") as file:
+        file.write(ran.stdout)
+    merged = Reading(path, values, new.given)
+    taken = {keys: row for keys, row in new.counting.items() if is_taken(old, new, keys)}
+    results.expect(f"merge of {locale}", (ran.returncode, texts_of(merged.rows)), (0, texts_of({**old.counting, **taken})))
+    results.expect(f"diff of {locale} and the merged table", run(program, "diff", old.path, path).returncode, 0)
+    print(f"{locale}: {ran.stderr.splitlines()[-1]}", flush=True)
+    check_promise(program, room, locale, old, merged, results)
+    check_load(program, room, locale, old, merged, results)
+    for name in ENDS.keys() & others.built.keys():
+        check_reader(others, name, locale, merged, results)
+
+
+def check_reader(others, name, locale, merged, results):
+    """Another reader types each sequence of the merged table from rest: its text at the last key, and none before it."""
+    steps = [it for keys in merged.counting for it in (*readers.press(keys), "-")]
+    answers = iter(others.type(name, [f"table {merged.path}", *steps]))
+    typed = {keys: [next(answers) for _ in keys] for keys in merged.counting}
+    texts = {keys: [text for word, text in them if word == ENDS[name]] for keys, them in typed.items()}
+    wanted = {keys: [reference.quote(row["text"].encode())] for keys, row in merged.counting.items()}
+    results.expect(f"{name} on the merged table of {locale}", [it for it in wanted if texts[it] != wanted[it]][:3], [])
+
+
+def check_promise(program, room, locale, old, merged, results):
+    """`make` makes a certificate for the merged table, and `check` says yes to it."""
+    repertoire, certificate = os.path.join(room, "repertoire"), os.path.join(room, f"{locale}.certificate")
+    open(repertoire, "w", encoding="ascii").close()
+    made = run(program, "make", "-f", "--overlap", "longest", "-o", certificate, old.path, merged.path, repertoire)
+    checked = run(program, "check", "-f", "--overlap", "longest", old.path, merged.path, repertoire, certificate)
+    results.expect(f"make and check of {locale} and the merged table", (made.returncode, made.stderr, checked.stdout, checked.returncode), (0, "", "yes\n", 0))
+
+
+def check_load(program, room, locale, old, merged, results):
+    """A service over the old table takes the merged one while each session stands in the middle of a sequence, whose old text is typed; and types what is new."""
+    itself, repertoire = os.path.join(room, "itself"), os.path.join(room, "repertoire")
+    run(program, "make", "-f", "--overlap", "longest", "-o", itself, old.path, old.path, repertoire)
+    with open(itself, "rb") as file:
+        options = {"certificate": file.read(), "options": ["-f", "--overlap", "longest"], "given": old.path}
+    with open(os.path.join(room, f"{locale}.certificate"), "rb") as file:
+        certificate = file.read()
+    with open(merged.path, "rb") as file:
+        sources = [("merged", file.read())]
+    middle = [keys for keys in old.counting if len(keys) > 1][:: max(1, len(old.counting) // 1000)]
+    more = [keys for keys in merged.counting if keys not in old.counting]
+    with Serving(program, **options) as service, service.client() as client:
+        for session, keys in enumerate(middle):
+            client.open(session)
+            for key in keys[:-1]:
+                client.key(session, key)
+        results.expect(f"a load of the merged table of {locale}", client.load(sources, certificate, True), 1)
+        typed = [client.key(session, keys[-1]).text for session, keys in enumerate(middle)]
+        results.expect(f"sequences that a load came between, of {locale}", typed, [old.counting[keys]["text"] for keys in middle])
+        typed = ["".join(client.key(0, key).text for key in keys) for keys in more]
+        results.expect(f"what is new in {locale}", typed, [merged.counting[keys]["text"] for keys in more])
+
+
 def check_package(program, paths, folder, results):
     """`ci.sh` compares the tables of all locales that there are in both."""
     ran = run("sh", SCRIPT, SYSTEM, folder, env={**os.environ, "COMPOSECHECK": program})
@@ -170,11 +247,11 @@ def main():
     program, results = os.path.abspath(sys.argv[1]), Results()
     values = reference.header_values() | reference.header_values(real.SHORT_NAMES)
     given = real.header_characters()
-    with tempfile.TemporaryDirectory(prefix="newest-") as room:
+    with tempfile.TemporaryDirectory(prefix="newest-") as room, readers.display() as display:
         tables = sys.argv[2] if len(sys.argv) > 2 else fetched(room)
         if tables is None:
             return results.end("skipped: libx11-data")
-        folder = os.path.join(room, "locale")
+        folder, others = os.path.join(room, "locale"), readers.Readers(room, display)
         paths = laid_out(tables, folder)
         results.expect("there are tables", bool(paths), True)
         for locale, path in paths.items():
@@ -184,7 +261,9 @@ def main():
             check_type(program, locale, reading, results)
             check_lint(program, folder, locale, reading, values, given, results)
             if os.path.exists(old):
-                check_diff(program, locale, Reading(old, values, given), reading, results)
+                earlier = Reading(old, values, given)
+                check_diff(program, locale, earlier, reading, results)
+                check_merge(program, room, locale, earlier, reading, values, others, results)
         check_package(program, paths, folder, results)
     return results.end()
 
