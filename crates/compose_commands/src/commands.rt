@@ -3,6 +3,7 @@
 //! printed here but the lines of a service.
 use crate::client::{load_files, session_files};
 use crate::environment::read_environment;
+use crate::folders::check_folders;
 use crate::serving::serve;
 use crate::status::status;
 use crate::updating::{take_back, update_files};
@@ -42,6 +43,7 @@ pub fn answer<T: BuildTable, F: Folder>(
         names: &asked.names,
         verbose: asked.verbose,
     };
+    check_folders(rt.alloc(), files, &asked.request)?;
     let environment = read_environment(rt, is_terminal)?;
     let outcome = match &asked.request {
         CommandRequest::Answer(question) => {

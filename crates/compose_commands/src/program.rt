@@ -4,6 +4,7 @@ ghost use Rattle.std.specs.Process.{exit_status};
 
 use crate::commands::{Answered, answer};
 use crate::output::write_whole;
+use crate::settling::settled_command;
 use compose_answer::Ended;
 use compose_arguments::{CommandLine, read_command_line};
 use compose_folder::{Disk, ReadOnce};
@@ -58,7 +59,7 @@ fn answer_arguments<T: BuildTable>(
     arguments: &[String],
 ) -> Ended {
     match read_command_line(rt.alloc(), arguments) {
-        Ok(expected) => answer_command::<T>(rt, process_id, is_terminal, &expected),
+        Ok(expected) => answer_command::<T>(rt, process_id, is_terminal, expected),
         Err(error) => report_error(rt, &error),
     }
 }
@@ -68,11 +69,15 @@ fn answer_command<T: BuildTable>(
     rt: &(impl Clock + Env + Files<File = File> + Input + Net + Print + Eprint + AllocGlobal),
     process_id: u32,
     is_terminal: bool,
-    asked: &CommandLine<'_>,
+    given: CommandLine<'_>,
 ) -> Ended {
     let mut files = ReadOnce::new(rt.alloc(), Disk::new(rt));
+    let asked = match settled_command(rt.alloc(), &mut files, given) {
+        Ok(asked) => asked,
+        Err(fault) => return put_fault(rt, Form::Line, &fault),
+    };
     let form = fault_form(asked.verbose, &asked.request);
-    match answer::<T, _>(rt, &mut files, process_id, is_terminal, form, asked) {
+    match answer::<T, _>(rt, &mut files, process_id, is_terminal, form, &asked) {
         Ok(Answered::Outcome(outcome)) => put_outcome(rt, form, &outcome),
         Ok(Answered::Served(ended)) => ended,
         Err(fault) => put_fault(rt, form, &fault),
