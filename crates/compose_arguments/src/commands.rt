@@ -108,6 +108,14 @@ const SYSTEM: OptionRow = OptionRow {
     help: "The folder for %S in place of $XLOCALEDIR or /usr/share/X11/locale",
 };
 
+/// `--system` of a command with two tables, which may have different folders.
+const SYSTEMS: OptionRow = OptionRow {
+    name: "system",
+    letter: None,
+    takes: Takes::Values("DIR"),
+    help: "The folder for %S in place of $XLOCALEDIR or /usr/share/X11/locale; given twice, the first is OLD's and the last NEW's",
+};
+
 /// `--locale`: the name of a locale.
 const LOCALE: OptionRow = OptionRow {
     name: "locale",
@@ -252,7 +260,7 @@ static CHECK: CommandRow = CommandRow {
     about: "Check by a certificate that a new table changes nobody's typing",
     after_help: "With --fresh, a certificate whose fresh keysyms are not all among KEYS is answered no. With --files, names are those of keysymdef.h, unless --names gives others.\nExit status: 0 yes, 1 no, 2 input refused, 3 out of memory\nExample: composecheck check old.manifest new.manifest repertoire certificate",
     options: &[VERBOSE, NAMES, FILES, FRESH],
-    options_of_files: &[OVERLAP, SYSTEM, LOCALE, ROOTS],
+    options_of_files: &[OVERLAP, SYSTEMS, LOCALE, ROOTS],
     arguments: &[OLD, NEW, REPERTOIRE, CERTIFICATE],
 };
 
@@ -320,7 +328,7 @@ static DIFF: CommandRow = CommandRow {
             help: "Colour the lines: on a terminal unless NO_COLOR is set (auto), always, or never",
         },
         SKIP_FAULTY,
-        SYSTEM,
+        SYSTEMS,
         LOCALE,
         ROOTS,
     ],
@@ -362,7 +370,7 @@ static MERGE: CommandRow = CommandRow {
         },
         OVERLAP,
         SKIP_FAULTY,
-        SYSTEM,
+        SYSTEMS,
         LOCALE,
         ROOTS,
     ],
@@ -539,7 +547,7 @@ static EXPLAIN: CommandRow = CommandRow {
             help: "Print every shortest difference, and count them",
         },
     ],
-    options_of_files: &[OVERLAP, SYSTEM, LOCALE, ROOTS],
+    options_of_files: &[OVERLAP, SYSTEMS, LOCALE, ROOTS],
     arguments: &[OLD, NEW],
 };
 
@@ -624,7 +632,7 @@ static MAKE: CommandRow = CommandRow {
             help: "Write the certificate to FILE, whole or not at all",
         },
     ],
-    options_of_files: &[OVERLAP, SYSTEM, LOCALE, ROOTS],
+    options_of_files: &[OVERLAP, SYSTEMS, LOCALE, ROOTS],
     arguments: &[OLD, NEW, REPERTOIRE],
 };
 

@@ -38,10 +38,14 @@ pub struct FilePair<'a> {
     pub new: &'a str,
     /// Whether the longest of overlapping sequences is taken; if not, they are refused.
     pub longest: bool,
-    /// The folder of the system's tables.
-    pub system: Option<&'a str>,
     /// The name of a locale.
     pub locale: Option<&'a str>,
+    /// The folder of the system's tables, for the old table.
+    pub old_system: Option<&'a str>,
+    /// The same for the new table.
+    pub new_system: Option<&'a str>,
+    /// Whether that folder is given once, and so counts for both tables.
+    pub one_system: bool,
     /// The folder below which an include's absolute path is looked for first, if a file of the old
     /// table includes it.
     pub old_root: Option<&'a str>,
@@ -82,13 +86,17 @@ pub fn both_tables<'a>(given: &ArgMatches<'a>) -> Option<BothTables<'a>> {
 
 /// Returns the Compose files of the old and the new table, if they are given.
 pub fn file_pair<'a>(given: &ArgMatches<'a>) -> Option<FilePair<'a>> {
-    let (old_root, new_root) = roots_of(given.get_strs("root").unwrap_or(&[]));
+    let systems = given.get_strs("system").unwrap_or(&[]);
+    let (old_system, new_system) = first_and_last(systems);
+    let (old_root, new_root) = first_and_last(given.get_strs("root").unwrap_or(&[]));
     Some(FilePair {
         old: given.get_str("OLD")?,
         new: given.get_str("NEW")?,
         longest: given.get_str("overlap") == Some("longest"),
-        system: given.get_str("system"),
         locale: given.get_str("locale"),
+        old_system,
+        new_system,
+        one_system: systems.len() == 1,
         old_root,
         new_root,
     })
@@ -97,16 +105,18 @@ pub fn file_pair<'a>(given: &ArgMatches<'a>) -> Option<FilePair<'a>> {
 /// Returns the old and the new table, each by itself, if they are given. The overlaps of a Compose
 /// file are refused unless the longest of them is asked for.
 pub fn old_and_new<'a>(given: &ArgMatches<'a>) -> Option<(TypeTable<'a>, TypeTable<'a>)> {
-    let (old_root, new_root) = roots_of(given.get_strs("root").unwrap_or(&[]));
-    let old = table_below(given, "OLD", old_root)?;
-    let new = table_below(given, "NEW", new_root)?;
+    let (old_system, new_system) = first_and_last(given.get_strs("system").unwrap_or(&[]));
+    let (old_root, new_root) = first_and_last(given.get_strs("root").unwrap_or(&[]));
+    let old = table_below(given, "OLD", old_system, old_root)?;
+    let new = table_below(given, "NEW", new_system, new_root)?;
     Some((old, new))
 }
 
-/// Returns the table that is given for this argument, if it is there; this is its root.
+/// Returns the table that is given for this argument, if it is there, with these folders.
 fn table_below<'a>(
     given: &ArgMatches<'a>,
     argument: &str,
+    system: Option<&'a str>,
     root: Option<&'a str>,
 ) -> Option<TypeTable<'a>> {
     let path = given.get_str(argument)?;
@@ -117,13 +127,14 @@ fn table_below<'a>(
         file: Some(path),
         refuse_overlaps: given.get_str("overlap") != Some("longest"),
         skip_faulty: false,
-        system: given.get_str("system"),
+        system,
         locale: given.get_str("locale"),
         root,
     }))
 }
 
-/// Returns the roots of the old and the new table: the first and the last of those that are given.
-fn roots_of<'a>(roots: &[&'a str]) -> (Option<&'a str>, Option<&'a str>) {
-    (roots.first().copied(), roots.last().copied())
+/// Returns the folder of the old and that of the new table: the first and the last of those that
+/// are given.
+fn first_and_last<'a>(folders: &[&'a str]) -> (Option<&'a str>, Option<&'a str>) {
+    (folders.first().copied(), folders.last().copied())
 }

@@ -22,21 +22,26 @@ pub struct MergeArguments<'a> {
 pub fn merge_arguments<'a>(given: &ArgMatches<'a>) -> Option<MergeArguments<'a>> {
     let pair = file_pair(given)?;
     Some(MergeArguments {
-        old: TypeTable::File(one_table(&pair, pair.old, pair.old_root)),
-        new: TypeTable::File(one_table(&pair, pair.new, pair.new_root)),
+        old: TypeTable::File(one_table(&pair, pair.old, pair.old_system, pair.old_root)),
+        new: TypeTable::File(one_table(&pair, pair.new, pair.new_system, pair.new_root)),
         skip_faulty: given.get_flag("skip-faulty"),
         accept: given.get_str("accept"),
         patch: given.get_flag("patch"),
     })
 }
 
-/// Returns the arguments about one of two Compose files, with this path and this root.
-fn one_table<'a>(pair: &FilePair<'a>, path: &'a str, root: Option<&'a str>) -> TableArguments<'a> {
+/// Returns the arguments about one of two Compose files, with this path and these folders.
+fn one_table<'a>(
+    pair: &FilePair<'a>,
+    path: &'a str,
+    system: Option<&'a str>,
+    root: Option<&'a str>,
+) -> TableArguments<'a> {
     TableArguments {
         file: Some(path),
         refuse_overlaps: !pair.longest,
         skip_faulty: false,
-        system: pair.system,
+        system,
         locale: pair.locale,
         root,
     }

@@ -71,11 +71,11 @@ fn folders_of_both<'a>(tables: &BothTables<'a>) -> (Folders<'a>, Folders<'a>) {
     match tables {
         BothTables::Files(pair) => {
             let old = Folders {
-                system: pair.system,
+                system: pair.old_system,
                 root: pair.old_root,
             };
             let new = Folders {
-                system: pair.system,
+                system: pair.new_system,
                 root: pair.new_root,
             };
             (old, new)

@@ -73,8 +73,10 @@ plain_pair paths = record {
   old = paths.old;
   new = paths.new;
   longest = true;
-  system = None;
   locale = None;
+  old_system = None;
+  new_system = None;
+  one_system = false;
   old_root = None;
   new_root = None;
 }

@@ -22,21 +22,21 @@ abbrev pub rule_by : Bool → Rule
 rule_by true = Longest
 rule_by false = Refuse
 
--- the arguments that say where the tables lie, with the root for one of them
-abbrev pub place_arguments : FilePair → Option (Bor (List ℕ)) → PlaceArguments
-place_arguments pair root = record { system = pair.system; locale = pair.locale; root = root }
+-- the arguments that say where the tables lie, with the folders for one of them
+abbrev pub place_arguments : FilePair → Option (Bor (List ℕ)) → Option (Bor (List ℕ)) → PlaceArguments
+place_arguments pair system root = record { system = system; locale = pair.locale; root = root }
 
 -- the table of the Compose file at this path as it is on the system, with the rule of the arguments
-pub record IsFoundTable (folder : Option (List Entry)) (environment : Environment) (pair : FilePair) (root : Option (Bor (List ℕ))) (path : List ℕ) (table : TableFiles) : Type 0 where
+pub record IsFoundTable (folder : Option (List Entry)) (environment : Environment) (pair : FilePair) (system root : Option (Bor (List ℕ))) (path : List ℕ) (table : TableFiles) : Type 0 where
   pub places : Places
-  pub are_places : IsPlaced environment (place_arguments pair root) places
+  pub are_places : IsPlaced environment (place_arguments pair system root) places
   pub is : IsFoundOnSystem folder places path (rule_by pair.longest) table
 
 -- the given names, or the built-in ones, and both tables
 pub record AreFoundFiles (folder : Option (List Entry)) (environment : Environment) (names : List (List ℕ)) (pair : FilePair) (files : MigrationFiles) : Type 0 where
   pub are_names : AreNames folder (names_or_builtin names) files.names
-  pub is_old : IsFoundTable folder environment pair pair.old_root pair.old.now files.old
-  pub is_new : IsFoundTable folder environment pair pair.new_root pair.new.now files.new
+  pub is_old : IsFoundTable folder environment pair pair.old_system pair.old_root pair.old.now files.old
+  pub is_new : IsFoundTable folder environment pair pair.new_system pair.new_root pair.new.now files.new
 
 -- the list of intended changes; an empty one if none is given
 abbrev pub IsAccepted : Option (List Entry) → Option (List ℕ) → List ℕ → Type 0

@@ -47,8 +47,8 @@ HasListed folder path = (table : TableFiles) × IsListed folder path table
 abbrev pub HasMigration : Option (List Entry) → List (List ℕ) → List ℕ → List ℕ → Type 0
 HasMigration folder names old new = (files : MigrationFiles) × AreMigrationFiles folder names old new files
 
-abbrev pub HasFound : Option (List Entry) → Environment → FilePair → Option (Bor (List ℕ)) → List ℕ → Type 0
-HasFound folder environment pair root path = (table : TableFiles) × IsFoundTable folder environment pair root path table
+abbrev pub HasFound : Option (List Entry) → Environment → FilePair → Option (Bor (List ℕ)) → Option (Bor (List ℕ)) → List ℕ → Type 0
+HasFound folder environment pair system root path = (table : TableFiles) × IsFoundTable folder environment pair system root path table
 
 abbrev pub HasPair : Option (List Entry) → Environment → List (List ℕ) → FilePair → Type 0
 HasPair folder environment names pair = (files : MigrationFiles) × AreFoundFiles folder environment names pair files
@@ -86,8 +86,8 @@ abbrev pub FailsPair : Option (List Entry) → Environment → List (List ℕ) �
 FailsPair folder environment names pair fault =
     OrMemory (λ f. FailNames folder (names_or_builtin names) f
     ⊎ (HasNames folder (names_or_builtin names)
-    × (FailsTable folder environment (place_arguments pair pair.old_root) pair.old.now f
-    ⊎ (HasFound folder environment pair pair.old_root pair.old.now × FailsTable folder environment (place_arguments pair pair.new_root) pair.new.now f)))) fault
+    × (FailsTable folder environment (place_arguments pair pair.old_system pair.old_root) pair.old.now f
+    ⊎ (HasFound folder environment pair pair.old_system pair.old_root pair.old.now × FailsTable folder environment (place_arguments pair pair.new_system pair.new_root) pair.new.now f)))) fault
 
 -- for `make` on Compose files: these, and the repertoire
 abbrev pub FailsMakeFiles : Option (List Entry) → Environment → List (List ℕ) → FilePair → List ℕ → Fault → Type 0

@@ -63,9 +63,26 @@ impl<'n> MigrationFiles<'n> {
             (map (λ name. name.now) names.now) pair.now fault) }
     {
         let (old_root, new_root) = (pair.old_root, pair.new_root);
+        let (old_system, new_system) = (pair.old_system, pair.new_system);
         let names = read_names(files, alloc, names)?;
-        let old = read_table(files, alloc, environment, pair, old_root, pair.old)?;
-        let new = read_table(files, alloc, environment, pair, new_root, pair.new)?;
+        let old = read_table(
+            files,
+            alloc,
+            environment,
+            pair,
+            old_system,
+            old_root,
+            pair.old,
+        )?;
+        let new = read_table(
+            files,
+            alloc,
+            environment,
+            pair,
+            new_system,
+            new_root,
+            pair.new,
+        )?;
         Ok(MigrationFiles { names, old, new })
     }
 
@@ -90,25 +107,27 @@ impl<'n> MigrationFiles<'n> {
     }
 }
 
-/// Reads the table at this path as it is on the system; an include's absolute path is looked for
-/// below the root first.
+/// Reads the table at this path as it is on the system; `system` is the folder of the system's
+/// tables, and an include's absolute path is looked for below the root first.
 fn read_table<F: Folder>(
     files: &mut ReadOnce<F>,
     alloc: Global,
     environment: &Environment,
     pair: &FilePair<'_>,
+    system: Option<&str>,
     root: Option<&str>,
     path: &str,
 ) -> Result<TableFiles, Fault>
     ensures kept { files.new.holds ≡ files.old.holds }
     ensures read { IfOk result
-        (λ table. IsFoundTable files.old.holds environment.now pair.now root.entry path.now table) }
+        (λ table. IsFoundTable files.old.holds environment.now pair.now system.entry root.entry
+        path.now table) }
     ensures fault { IfErr result
-        (λ fault. FailsTable files.old.holds environment.now (place_arguments pair.now root.entry)
-        path.now fault) }
+        (λ fault. FailsTable files.old.holds environment.now
+        (place_arguments pair.now system.entry root.entry) path.now fault) }
 {
     let places = environment.places(PlaceArguments {
-        system: pair.system,
+        system,
         locale: pair.locale,
         root,
     })?;

@@ -11,8 +11,8 @@ returns-clause-read g c =
     let names_kept = c.in_ok-names.ensures.kept in let old_kept = c.in_ok-old.ensures.kept ∙ names_kept in
     record {
       are_names = c.in_ok-names.ensures.read;
-      is_old = subst (λ f. IsFoundTable f environment pair pair.old_root pair.old.now c.in_ok-old.old) names_kept c.in_ok-old.ensures.read;
-      is_new = subst (λ f. IsFoundTable f environment pair pair.new_root pair.new.now c.in_ok-new.new) old_kept c.in_ok-new.ensures.read;
+      is_old = subst (λ f. IsFoundTable f environment pair pair.old_system pair.old_root pair.old.now c.in_ok-old.old) names_kept c.in_ok-old.ensures.read;
+      is_new = subst (λ f. IsFoundTable f environment pair pair.new_system pair.new_root pair.new.now c.in_ok-new.new) old_kept c.in_ok-new.ensures.read;
     }
 
 pub returns-in_err-names-clause-fault : goal.returns-in_err-names-clause-fault
@@ -28,7 +28,7 @@ returns-in_err-old-clause-fault g c =
     fails (FailsPair c.args.files.now.holds environment (map (λ name. name.now) c.args.names.now) pair) c.from_residual-in_err-old.result fault is
     (inr (inr (
       (c.in_ok-names.names, c.in_ok-names.ensures.read),
-      inl (subst (λ f. FailsTable f environment (place_arguments pair pair.old_root) pair.old.now fault) c.in_ok-names.ensures.kept c.in_err-old.ensures.fault),
+      inl (subst (λ f. FailsTable f environment (place_arguments pair pair.old_system pair.old_root) pair.old.now fault) c.in_ok-names.ensures.kept c.in_err-old.ensures.fault),
     )))
 
 pub returns-in_err-new-clause-fault : goal.returns-in_err-new-clause-fault
@@ -40,7 +40,7 @@ returns-in_err-new-clause-fault g c =
     (inr (inr (
       (c.in_ok-names.names, c.in_ok-names.ensures.read),
       inr (
-        (c.in_ok-old.old, subst (λ f. IsFoundTable f environment pair pair.old_root pair.old.now c.in_ok-old.old) names_kept c.in_ok-old.ensures.read),
-        subst (λ f. FailsTable f environment (place_arguments pair pair.new_root) pair.new.now fault) old_kept c.in_err-new.ensures.fault,
+        (c.in_ok-old.old, subst (λ f. IsFoundTable f environment pair pair.old_system pair.old_root pair.old.now c.in_ok-old.old) names_kept c.in_ok-old.ensures.read),
+        subst (λ f. FailsTable f environment (place_arguments pair pair.new_system pair.new_root) pair.new.now fault) old_kept c.in_err-new.ensures.fault,
       ),
     )))
