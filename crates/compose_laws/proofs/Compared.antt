@@ -41,6 +41,7 @@ use Rattle.compose_promise.specs.Promise.{KeepsTyping}
 use Rattle.compose_promise.proofs.Runs.{keeps, follows}
 use Rattle.compose_report.specs.Outcomes.{IsOutcome}
 use Rattle.compose_report.specs.declared.outcome.Outcome.{Outcome}
+use Rattle.compose_runs.specs.Cautioning.{IsTold, IsToldBy, define_some, is_answer}
 use Rattle.compose_runs.specs.DiffFiles.{IsAccepted}
 use Rattle.compose_runs.specs.Differing.{IsColored, IsShown, IsDiffPrinted, diff_asked}
 use Rattle.compose_runs.specs.Skipping.{IsKeptPair}
@@ -96,6 +97,20 @@ diff_no files arguments fresh colored (Ok answer) outcome r s =
     (answer, refl, shown_no colored answer shown.0 (subst (λ (a : Answer). IsShown colored answer a) (ok_is r.shown shown.0 shown.1) r.is_shown) shown.2)
 diff_no files arguments fresh colored (Err (Input refusal)) outcome r s = absurd (not_more (status_of (end_of (Err refusal))) (refused_status refusal) (ap status_of (sym r.is.is.ended) ∙ s))
 diff_no files arguments fresh colored (Err (Accept fault)) outcome r s = absurd (refused_no (ap status_of (sym r.1.ends) ∙ s))
+
+-- the notes after an answer leave its end as it is; an answer on two tables of which neither
+-- defines a sequence is refused
+told_end : (n : ℕ) (answer defines : Bool) {refusal notes : List ℕ} (printed told : Outcome) → (status_of ends.Refused ≡ n → ⊥) → IsToldBy answer defines refusal notes printed told → status_of told.ended ≡ n
+    → status_of printed.ended ≡ n
+told_end n false defines printed told other h s = ap (λ (outcome : Outcome). status_of outcome.ended) (sym h) ∙ s
+told_end n true false printed told other h s = absurd (other (ap status_of (sym h.ends) ∙ s))
+told_end n true true printed told other h s = ap status_of (sym h.ended) ∙ s
+
+told_yes : {numbered : Bool} {both : _} {pair : _} (printed told : Outcome) → IsTold numbered both pair printed told → status_of told.ended ≡ 0 → status_of printed.ended ≡ 0
+told_yes {numbered} {both} {pair} printed told h s = told_end 0 (is_answer printed.ended) (define_some both) printed told refused_yes h s
+
+told_no : {numbered : Bool} {both : _} {pair : _} (printed told : Outcome) → IsTold numbered both pair printed told → status_of told.ended ≡ 1 → status_of printed.ended ≡ 1
+told_no {numbered} {both} {pair} printed told h s = told_end 1 (is_answer printed.ended) (define_some both) printed told refused_no h s
 
 -- ---- the tables that are compared
 
@@ -279,7 +294,7 @@ pub nothing_lost : (run : Run) (arguments : DiffArguments) (fresh : Vec (Bor (Li
 nothing_lost run arguments fresh outcome none h =
     let r = answers run (Diff arguments fresh) outcome h in
     let asked = diff_asked r.is.kept.files arguments (words fresh.items) in
-    let is_yes = diff_yes r.is.kept.files arguments (words fresh.items) r.colored r.is.is.answered r.is.is.printed r.is.is.is_printed (ap status_of (sym (r.is.followed.ended ∙ r.is.is.noted.ended)) ∙ h.1) in
+    let is_yes = diff_yes r.is.kept.files arguments (words fresh.items) r.colored r.is.is.answered r.is.is.printed r.is.is.is_printed (told_yes r.is.is.printed r.is.is.told r.is.is.is_told (ap status_of (sym (r.is.followed.ended ∙ r.is.is.noted.ended)) ∙ h.1)) in
     let diff = diff_with asked r.is.is.answered (Yes is_yes.0) is_yes.1 r.is.is.is in
     let empty = same_accepted arguments.skip_faulty r.found r.is.kept r.is.is_kept ∙ none_accepted run.folder arguments.accept r.found.accepted.items none r.read.is_accepted in
     (asked, (r.found, r.read, r.is.kept, r.is.is_kept, refl), loses_nothing asked diff.e (Yes is_yes.0) diff.read diff.diff tt (no_lines asked.accepted empty))
@@ -289,7 +304,7 @@ pub only_intended_lost : (run : Run) (arguments : DiffArguments) (fresh : Vec (B
 only_intended_lost run arguments fresh outcome h =
     let r = answers run (Diff arguments fresh) outcome h in
     let asked = diff_asked r.is.kept.files arguments (words fresh.items) in
-    let is_yes = diff_yes r.is.kept.files arguments (words fresh.items) r.colored r.is.is.answered r.is.is.printed r.is.is.is_printed (ap status_of (sym (r.is.followed.ended ∙ r.is.is.noted.ended)) ∙ h.1) in
+    let is_yes = diff_yes r.is.kept.files arguments (words fresh.items) r.colored r.is.is.answered r.is.is.printed r.is.is.is_printed (told_yes r.is.is.printed r.is.is.told r.is.is.is_told (ap status_of (sym (r.is.followed.ended ∙ r.is.is.noted.ended)) ∙ h.1)) in
     let diff = diff_with asked r.is.is.answered (Yes is_yes.0) is_yes.1 r.is.is.is in
     (asked, (r.found, r.read, r.is.kept, r.is.is_kept, refl), only_intended asked diff.e (Yes is_yes.0) diff.read diff.diff tt)
 
@@ -298,7 +313,7 @@ pub something_lost : (run : Run) (arguments : DiffArguments) (fresh : Vec (Bor (
 something_lost run arguments fresh outcome none h =
     let r = answers_no run (Diff arguments fresh) outcome h in
     let asked = diff_asked r.is.kept.files arguments (words fresh.items) in
-    let is_no = diff_no r.is.kept.files arguments (words fresh.items) r.colored r.is.is.answered r.is.is.printed r.is.is.is_printed (ap status_of (sym (r.is.followed.ended ∙ r.is.is.noted.ended)) ∙ h.1) in
+    let is_no = diff_no r.is.kept.files arguments (words fresh.items) r.colored r.is.is.answered r.is.is.printed r.is.is.is_printed (told_no r.is.is.printed r.is.is.told r.is.is.is_told (ap status_of (sym (r.is.followed.ended ∙ r.is.is.noted.ended)) ∙ h.1)) in
     let diff = diff_with asked r.is.is.answered is_no.0 is_no.1 r.is.is.is in
     let empty = same_accepted arguments.skip_faulty r.found r.is.kept r.is.is_kept ∙ none_accepted run.folder arguments.accept r.found.accepted.items none r.read.is_accepted in
     (asked, (r.found, r.read, r.is.kept, r.is.is_kept, refl), loses_some asked diff.e is_no.0 diff.read diff.diff is_no.2 (no_lines asked.accepted empty))
@@ -308,6 +323,6 @@ pub unintended_lost : (run : Run) (arguments : DiffArguments) (fresh : Vec (Bor 
 unintended_lost run arguments fresh outcome h =
     let r = answers_no run (Diff arguments fresh) outcome h in
     let asked = diff_asked r.is.kept.files arguments (words fresh.items) in
-    let is_no = diff_no r.is.kept.files arguments (words fresh.items) r.colored r.is.is.answered r.is.is.printed r.is.is.is_printed (ap status_of (sym (r.is.followed.ended ∙ r.is.is.noted.ended)) ∙ h.1) in
+    let is_no = diff_no r.is.kept.files arguments (words fresh.items) r.colored r.is.is.answered r.is.is.printed r.is.is.is_printed (told_no r.is.is.printed r.is.is.told r.is.is.is_told (ap status_of (sym (r.is.followed.ended ∙ r.is.is.noted.ended)) ∙ h.1)) in
     let diff = diff_with asked r.is.is.answered is_no.0 is_no.1 r.is.is.is in
     (asked, (r.found, r.read, r.is.kept, r.is.is_kept, refl), loses_unintended asked diff.e is_no.0 diff.read diff.diff is_no.2)

@@ -47,6 +47,7 @@ use Rattle.compose_migration.specs.declared.refusal.Refusal.{Refusal}
 use Rattle.compose_program.specs.Questions.{Answers, words}
 use Rattle.compose_report.specs.Outcomes.{IsNoted, IsNumberedOutcome, IsOutcome, IsWorded, PrintsErrors, PrintsOutput}
 use Rattle.compose_report.specs.declared.outcome.Outcome.{Outcome}
+use Rattle.compose_runs.specs.Cautioning.{IsToldBy, define_some, is_answer}
 use Rattle.compose_runs.specs.Differing.{IsDiffPrinted}
 use Rattle.compose_runs.specs.HowTo.{IsHowOutcome}
 use Rattle.compose_runs.specs.Linting.{IsLintPrinted}
@@ -130,6 +131,12 @@ diff_quiet files arguments fresh colored (Ok answer) outcome r = numbered_quiet 
 diff_quiet files arguments fresh colored (Err (Input refusal)) outcome r = worded_quiet (Err refusal) outcome r.is
 diff_quiet files arguments fresh colored (Err (Accept fault)) outcome r = errors_quiet outcome r.1
 
+-- with notes after it, or refused
+told_quiet_by : (answer defines : Bool) {refusal notes : List ℕ} (printed told : Outcome) → IsToldBy answer defines refusal notes printed told → IsQuiet printed → IsQuiet told
+told_quiet_by false defines printed told r quiet = subst IsQuiet (sym r) quiet
+told_quiet_by true false printed told r quiet = errors_quiet told r
+told_quiet_by true true printed told r quiet = followed_quiet printed told r quiet
+
 how_quiet : (numbered : Bool) (read : _) (repertoire text : List ℕ) (wanted : List (List ℕ)) (answered : Result Ways Refusal) (outcome : Outcome)
     → IsHowOutcome numbered read repertoire text wanted answered outcome → IsQuiet outcome
 how_quiet numbered read repertoire text wanted (Ok ways) outcome r =
@@ -192,7 +199,9 @@ quiet run (Check (Files pair) fresh repertoire certificate) outcome r =
 quiet run (Explain old new fresh all) outcome h = let r = h.2 in explained_quiet h.0 r.read.names r.read.tables.items outcome r.is
 quiet run (Diff arguments fresh) outcome r =
     followed_quiet r.is.printed outcome r.is.followed
-    (noted_quiet r.is.is.printed r.is.printed r.is.is.noted (diff_quiet r.is.kept.files arguments (words fresh.items) r.colored r.is.is.answered r.is.is.printed r.is.is.is_printed))
+    (noted_quiet r.is.is.told r.is.printed r.is.is.noted
+    (told_quiet_by (is_answer r.is.is.printed.ended) (define_some r.is.kept.files.both) r.is.is.printed r.is.is.told r.is.is.is_told
+    (diff_quiet r.is.kept.files arguments (words fresh.items) r.colored r.is.is.answered r.is.is.printed r.is.is.is_printed)))
 quiet run (Merge arguments fresh) outcome r = merge_quiet arguments.skip_faulty r.read.names r.old r.new (words fresh.items) outcome r.is
 quiet run (How arguments texts) outcome r = followed_quiet r.is.printed outcome r.is.followed (how_quiet arguments.json r.is.kept.read (unwrap_or (option_copied arguments.repertoire) []) (unwrap_or r.repertoire []) (words texts.items) r.is.answered r.is.printed r.is.is_printed)
 quiet run (ListTable arguments) outcome r =

@@ -27,6 +27,7 @@ use Rattle.compose_report.specs.Outcomes.{IsNoted, IsOutcome, IsWorded, PrintsEr
 use Rattle.compose_report.specs.declared.outcome.Outcome.{Outcome}
 use Rattle.compose_given.specs.Environment.{wants_color}
 use Rattle.compose_given.specs.Variables.{Decoded}
+use Rattle.compose_runs.specs.Cautioning.{IsTold}
 use Rattle.compose_runs.specs.DiffFiles.{AreDiffFiles}
 use Rattle.compose_runs.specs.Files.{migration_given, notes_of}
 use Rattle.compose_runs.specs.Losing.{lost_notes}
@@ -130,13 +131,15 @@ abbrev pub lost_of : MigrationFiles → List ℕ
 lost_of both = lost_notes both.old both.new
 
 -- the answer on these files, after the notes on where they lie and on the lines that other readers
--- lose
+-- lose, and before those on what makes it say less than it seems
 pub record IsDiffOutcome (files : DiffFiles) (arguments : DiffArguments) (fresh : List (List ℕ)) (colored : Bool) (lost : List ℕ) (outcome : Outcome) : Type 0 where
   pub answered : Result Answer DiffFault
   pub is : AnswersDiff (diff_asked files arguments fresh) answered
   pub printed : Outcome
   pub is_printed : IsDiffPrinted files arguments fresh colored answered printed
-  pub noted : IsNoted (notes_of files.both ++ lost) printed outcome
+  pub told : Outcome
+  pub is_told : IsTold (is_numbered arguments.form) files.both arguments.files printed told
+  pub noted : IsNoted (notes_of files.both ++ lost) told outcome
 
 -- the same on the files that were read, without their faulty lines if these are skipped; the report
 -- of the skipped lines comes last

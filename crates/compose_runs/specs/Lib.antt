@@ -17,3 +17,4 @@ pub mod Stored
 pub mod Updating
 pub mod Linting
 pub mod Skipping
+pub mod Cautioning

@@ -9,6 +9,7 @@ ghost use Rattle.compose_given.specs.Environment.{ReturnsColor};
 ghost use Rattle.compose_runs.specs.Faults.{FailsAccepted, FailsDiff, FailsDiffRun};
 ghost use Rattle.compose_runs.specs.Files.{notes_of};
 
+use crate::cautioning::told_outcome;
 use crate::files::MigrationFiles;
 use crate::losing::lost_notes;
 use crate::skipping::{KeptPair, followed};
@@ -163,7 +164,7 @@ fn is_colored(environment: &Environment, arguments: &DiffArguments<'_>) -> Resul
 }
 
 /// Returns the outcome of `diff` on these files, with notes on the lines that other readers of
-/// Compose files lose.
+/// Compose files lose, and on what makes an answer say less than it seems.
 fn diff_outcome<T: BuildTable>(
     alloc: Global,
     files: &DiffFiles<'_>,
@@ -178,8 +179,10 @@ fn diff_outcome<T: BuildTable>(
 {
     let answered = diff_answer::<T>(alloc, files, arguments, fresh);
     let printed = printed_outcome(alloc, files, arguments, fresh, colored, answered)?;
+    let numbered = is_numbered(arguments.form);
+    let told = told_outcome(alloc, numbered, &files.both, &arguments.files, printed)?;
     let notes = diff_notes(alloc, &files.both, lost)?;
-    Ok(printed.with_notes(notes))
+    Ok(told.with_notes(notes))
 }
 
 /// Returns notes on the lines of these files that other readers of Compose files lose.

@@ -11,6 +11,7 @@
 //! [`Outcome`]: compose_report::Outcome
 #![tactic(auto)]
 
+mod cautioning;
 mod checking;
 mod differing;
 mod files;

@@ -1,0 +1,2 @@
+pub mod Defines
+pub mod Cautions
