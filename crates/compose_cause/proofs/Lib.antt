@@ -1,0 +1,12 @@
+pub mod Least
+pub mod KeyLists
+pub mod Likest
+pub mod Places
+pub mod Counted
+pub mod Walking
+pub mod Gives
+pub mod LostTexts
+pub mod Copies
+pub mod Found
+pub mod Listed
+pub mod SameRules
