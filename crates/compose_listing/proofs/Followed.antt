@@ -1,10 +1,13 @@
 -- The node to which keys lead, and the keys that follow them.
-use Rattle.std.proofs.Common.{◌≡◌, ℕ, zero, suc, ◌+◌, ◌<◌, ◌≤◌, List, [], ◌∷◌, ◌++◌, true, false, cond, length, get_or, take, refl, sym, ◌∙◌, ap, subst, inl, inr, arith, eq-eqb, eqb-true, ◌⊎◌, Option, Some, None}
+use Rattle.std.proofs.Common.{◌≡◌, ℕ, zero, suc, ◌+◌, ◌<◌, ◌≤◌, List, [], ◌∷◌, ◌++◌, true, false, cond, length, get_or, map, take, refl, sym, ◌∙◌, ap, subst, inl, inr, arith, eq-eqb, eqb-true, ◌⊎◌, Option, Some, None}
 use Rattle.std.specs.Prelude.{◌==◌, filter, flat_map, slice_get, is_some, unwrap_or}
 use Rattle.std.proofs.lemmas.Bool.{cases_Bool, or_cases, and_from, and_parts}
-use Rattle.std.proofs.lemmas.List.{take_more, take_all, append-nil}
+use Rattle.std.specs.Option.{option_and_then}
+use Rattle.std.proofs.lemmas.List.{take_more, take_all, append-nil, get_or-map}
+use Rattle.std.proofs.lemmas.List.Sums.{passes_at_first}
 use Rattle.std.proofs.lemmas.Grind.{flat_map-append}
 use Rattle.std.proofs.lemmas.Option.{slice_get_within, get_or_from_slice_get}
+use Rattle.keysym_core.specs.Names.{KeysymNames}
 use Rattle.compose_model.specs.Table.{Definition, same, is_proper_prefix, is_sequence, is_extended, text_at}
 use Rattle.compose_model.specs.Nodes.{nodes, leaves, node, has_edge, edges, keysyms}
 use Rattle.compose_model.proofs.NodeLemmas.{same_is, node_at_number, edge_extends}
@@ -12,14 +15,17 @@ use Rattle.compose_model.proofs.Exact.{sequence_text}
 use Rattle.compose_model.proofs.Tests.{list_any-weaker}
 use Rattle.compose_model.proofs.Lift.{not_extended}
 use Rattle.compose_read.specs.Settle.{IsSettled}
-use Rattle.compose_tree.specs.Targets.{target_of, leaf_text}
+use Rattle.compose_read.specs.Lines.{Visit}
+use Rattle.compose_tree.specs.Targets.{target_of, leaf_text, leaf_number}
 use Rattle.compose_tree.specs.declared.table.NodeId.{NodeId}
 use Rattle.compose_tree.specs.declared.table.LeafId.{LeafId}
 use Rattle.compose_tree.specs.declared.table.Target.{Target}
 use Rattle.compose_tree.specs.declared.table.Target.TheVariants.{Node, Leaf}
 use Rattle.compose_tree.proofs.Steps.{Leads, ToNode, ToLeaf, leads}
+use Rattle.compose_places.specs.Counting.{WrittenLine, counting_line}
 use Rattle.compose_lookup.specs.TextIndex.{text_of}
-use Rattle.compose_listing.specs.Next.{leads as leads_to}
+use Rattle.compose_listing.specs.Leaves.{result_at}
+use Rattle.compose_listing.specs.Next.{leads as leads_to, result_for}
 use Rattle.compose_listing.specs.declared.form.ListForm.{ListForm}
 use Rattle.compose_listing.specs.declared.form.ListForm.TheVariants.{Lines, Json}
 use Rattle.compose_listing.proofs.Lines.{tested}
@@ -103,6 +109,24 @@ module _ (table : List Definition) (settled : IsSettled table) (keys : List ℕ)
       ∙ ap (λ (t : List ℕ). Some t)
       (sym (ap (λ b. cond b (unwrap_or (leaf_text table l.0) []) []) (tested l.0 (length (leaves table)) to.in_range) ∙ ap (λ o. unwrap_or o []) to.text))
 
+  -- and the result keysym of the line that counts for the sequence
+  pub leaf_result : (names : KeysymNames) (visits : List Visit) (lines : List (Option WrittenLine)) → lines ≡ map (counting_line names visits) (leaves table)
+      → (l : LeafId) → ToLeaf table keys k l → result_at lines l ≡ result_for names visits (keys ++ k ∷ [])
+  leaf_result names visits lines are l to =
+      ap (option_and_then (λ (line : WrittenLine). line.result))
+      (ap (λ ls. get_or ls l.0 None) are ∙ get_or-map (counting_line names visits) (leaves table) l.0 [] None to.in_range ∙ ap (counting_line names visits) its_sequence)
+    where
+      s : List ℕ
+      s = keys ++ k ∷ []
+
+      below : leaf_number table s < length (leaves table)
+      below = subst (λ n. n < length (leaves table)) (sym to.number) to.in_range
+
+      its_sequence : get_or (leaves table) l.0 [] ≡ s
+      its_sequence =
+          ap (λ n. get_or (leaves table) n []) (sym to.number)
+          ∙ sym (same_is s (get_or (leaves table) (leaf_number table s) []) (passes_at_first (same s) (leaves table) [] below))
+
   -- a key that leads to a node ends no sequence
   pub node_has : (n : NodeId) → ToNode table keys k n → text_at table (keys ++ k ∷ []) ≡ None
   node_has n to = none_is (text_at table (keys ++ k ∷ [])) (sequence_text table (keys ++ k ∷ []) ∙ alone)
@@ -114,9 +138,9 @@ module _ (table : List Definition) (settled : IsSettled table) (keys : List ℕ)
       ]
 
 -- a text is printed whatever the count
-pub any_count : (form : ListForm) (key text : List ℕ) (n m : ℕ) → leads_to form key (Some text) n ≡ leads_to form key (Some text) m
-any_count Lines key text n m = refl
-any_count Json key text n m = refl
+pub any_count : (form : ListForm) (key text : List ℕ) (name : Option (List ℕ)) (n m : ℕ) → leads_to form key (Some text) name n ≡ leads_to form key (Some text) name m
+any_count Lines key text name n m = refl
+any_count Json key text name n m = refl
 
 -- ---- a line for each edge
 

@@ -14,10 +14,10 @@ use Rattle.compose_listing.specs.declared.form.ListForm.TheVariants.{Lines}
 -- what is printed of a sequence with this text, if this is the line that counts, and the newline
 -- (code 10) that ends it
 abbrev pub line_of : ListForm → List (List ℕ) → List ℕ → WrittenLine → List ℕ
-line_of form paths text line = listed form line.keys text (get_or paths line.place.source []) line.place.line ++ 10 ∷ []
+line_of form paths text line = listed form line.keys text line.result (get_or paths line.place.source []) line.place.line ++ 10 ∷ []
 
 -- what is printed of the sequence s: its keys as they are written in the line that counts, among
--- the lines that are read; and its text
+-- the lines that are read; and its text, or if it has none, the name that stands in that line
 abbrev pub sequence_line : ListForm → KeysymNames → List Visit → List (List ℕ) → List Definition → List ℕ → List ℕ
 sequence_line form names visits paths table s = option_map_or (line_of form paths (unwrap_or (text_at table s) [])) (counting_line names visits s) []
 

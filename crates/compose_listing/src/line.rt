@@ -1,11 +1,11 @@
 //! What is printed of a sequence.
-ghost use Rattle.std.specs.Prelude.{◌≡◌, ◌++◌, ◌∷◌, [], map, OnOk, string_bytes};
+ghost use Rattle.std.specs.Prelude.{◌≡◌, ◌++◌, ◌∷◌, [], map, option_copied, OnOk, string_bytes};
 ghost use Rattle.compose_listing.specs.Line as words;
 
 use crate::form::ListForm;
 use crate::json::push_json_strings;
+use crate::written::push_written;
 use compose_diff::push_json_string;
-use compose_lex::quote;
 use compose_shown::Shown;
 use std::alloc::{AllocError, Global};
 use std::fmt::Write;
@@ -16,6 +16,8 @@ pub(crate) struct ListedSequence<'a> {
     /// The names of its keys.
     pub(crate) keys: &'a [&'a str],
     pub(crate) text: &'a str,
+    /// The name of its result keysym, if one is written.
+    pub(crate) result_name: Option<&'a str>,
     /// The path of the file in which it is defined.
     pub(crate) path: &'a str,
     /// The line number in the file, from 1.
@@ -33,7 +35,8 @@ pub(crate) fn push_sequence(
         (string_bytes lines.new
         ≡ string_bytes lines.old
         ++ (words.listed form (map (λ key. key.now) sequence.entry.keys.now)
-        sequence.entry.text.now sequence.entry.path.now sequence.entry.line
+        sequence.entry.text.now (option_copied sequence.entry.result_name)
+        sequence.entry.path.now sequence.entry.line
         ++ 10 ∷ [])) }
 {
     match form {
@@ -43,7 +46,7 @@ pub(crate) fn push_sequence(
     lines.push('\n')
 }
 
-/// Appends the line of a sequence to the lines: its keys, its text, and the path and the line
+/// Appends the line of a sequence to the lines: its keys, what it gives, and the path and the line
 /// number of its definition as a comment.
 fn push_line(
     alloc: Global,
@@ -54,11 +57,12 @@ fn push_line(
         (string_bytes lines.new
         ≡ string_bytes lines.old
         ++ words.listed_line (map (λ key. key.now) sequence.entry.keys.now)
-        sequence.entry.text.now sequence.entry.path.now sequence.entry.line) }
+        (words.result_text sequence.entry.text.now (option_copied sequence.entry.result_name))
+        sequence.entry.path.now sequence.entry.line) }
 {
     push_keys(lines, sequence.keys)?;
     lines.push_str(": ")?;
-    push_result(alloc, lines, sequence.text)?;
+    push_result(alloc, lines, sequence.text, sequence.result_name)?;
     push_place(lines, sequence.path, sequence.line)
 }
 
@@ -76,18 +80,24 @@ fn push_keys(lines: &mut String, keys: &[&str]) -> Result<(), AllocError>
     Ok(())
 }
 
-/// Appends the text in quotes, or the name of the keysym without a text if it is empty.
-pub(crate) fn push_result(alloc: Global, lines: &mut String, text: &str) -> Result<(), AllocError>
+/// Appends what a line gives: the text in quotes, or the name of the result keysym if it is empty.
+pub(crate) fn push_result(
+    alloc: Global,
+    lines: &mut String,
+    text: &str,
+    name: Option<&str>,
+) -> Result<(), AllocError>
     ensures { OnOk result
-        (string_bytes lines.new ≡ string_bytes lines.old ++ words.result_text text.now) }
+        (string_bytes lines.new
+        ≡ string_bytes lines.old ++ words.result_text text.now (option_copied name)) }
 {
-    if text.is_empty() {
-        return lines.push_str("VoidSymbol");
+    if !text.is_empty() {
+        return push_written(alloc, lines, text);
     }
-    let Ok(quoted) = quote(alloc, text) else {
-        return Err(AllocError);
-    };
-    lines.push_str(&quoted)
+    match name {
+        Some(name) => lines.push_str(name),
+        None => Ok(()),
+    }
 }
 
 /// Appends the place as a comment.

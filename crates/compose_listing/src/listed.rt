@@ -46,6 +46,7 @@ fn push_leaf<T: ComposeTable>(
     let sequence = ListedSequence {
         keys: keys.as_slice(),
         text: text_of(listed.table, leaf),
+        result_name: line.result_name(),
         path: path_at(listed.paths, place.source),
         line: place.line,
     };

@@ -9,7 +9,7 @@ use Rattle.compose_model.specs.Nodes.{leaves}
 use Rattle.compose_lex.specs.Fault.{skip_blanks}
 use Rattle.compose_read.specs.Lines.{Source, Visit, source_named, visits}
 use Rattle.compose_read.specs.Read.{max_lines}
-use Rattle.compose_places.specs.Events.{line_events}
+use Rattle.compose_places.specs.Events.{line_events, result_name}
 use Rattle.compose_places.specs.Places.{place_of}
 use Rattle.compose_places.specs.declared.places.DefinitionPlace.{DefinitionPlace}
 
@@ -26,13 +26,15 @@ defined_sequence names line = option_and_then (sequence_named names) (line_event
 abbrev pub defines : KeysymNames → List ℕ → List ℕ → Bool
 defines names s line = option_map_or (same s) (defined_sequence names line) false
 
--- a line that gives a definition: its place, and the names of its keys as written there
+-- a line that gives a definition: its place, the names of its keys as written there, and the name of
+-- its result keysym, if it has one
 pub record WrittenLine : Type 0 where
   pub place : DefinitionPlace
   pub keys : List (List ℕ)
+  pub result : Option (List ℕ)
 
 abbrev pub written_line : Visit → WrittenLine
-written_line v = record { place = place_of v; keys = unwrap_or (line_events v.bytes) [] }
+written_line v = record { place = place_of v; keys = unwrap_or (line_events v.bytes) []; result = result_name v.bytes }
 
 -- the lines that are read from the root
 abbrev pub read_lines : List Source → List ℕ → List Visit

@@ -26,5 +26,15 @@ events_of _ = None
 abbrev pub line_events : List ℕ → Option (List (List ℕ))
 line_events bytes = if is_utf8 bytes then events_of (reading_of bytes) else None
 
+-- the name of the result keysym of a production, if it has one
+abbrev pub name_of : Result Reading LexFault → Option (List ℕ)
+name_of (Ok (production events raw name)) = name
+name_of _ = None
+
+-- the name of the result keysym that is written on the line, if it is UTF-8 and a production that
+-- has one
+abbrev pub result_name : List ℕ → Option (List ℕ)
+result_name bytes = if is_utf8 bytes then name_of (reading_of bytes) else None
+
 abbrev pub written_events : List Source → DefinitionPlace → Option (List (List ℕ))
 written_events sources place = option_and_then line_events (line_at sources place)

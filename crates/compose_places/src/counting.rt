@@ -8,7 +8,7 @@ ghost use Rattle.compose_tree.specs.Targets.{leaf_number};
 ghost use Rattle.compose_places.specs.Counting as words;
 ghost use Rattle.compose_places.specs.Counting.{counting_line, defined_sequence};
 
-use crate::events::{Events, line_events};
+use crate::events::{Events, line_events, result_name};
 use crate::last::leaf_of;
 use crate::places::{DefinitionPlace, MAX_LINES};
 use crate::sequence_list::SequenceList;
@@ -32,16 +32,20 @@ pub struct CountingLine<'a> {
 
 impl<'a> Model for CountingLine<'a> {
     ghost use Rattle.std.specs.Prelude.{[], unwrap_or};
-    ghost use Rattle.compose_places.specs.Events.{line_events};
+    ghost use Rattle.compose_places.specs.Events.{line_events, result_name};
     ghost use Rattle.compose_places.specs.Counting.{WrittenLine};
 
     ghost Value = { WrittenLine };
 
-    ghost view = { λ l. record { place = l.place; keys = unwrap_or (line_events l.bytes.now) [] } };
+    ghost view = { λ l. record {
+      place = l.place;
+      keys = unwrap_or (line_events l.bytes.now) [];
+      result = result_name l.bytes.now;
+    } };
 }
 
 impl<'a> CountingLine<'a> {
-    ghost use Rattle.std.specs.Prelude.{◌≡◌, map};
+    ghost use Rattle.std.specs.Prelude.{◌≡◌, map, option_copied};
 
     /// Returns the place of the line. O(1).
     pub fn place(&self) -> DefinitionPlace
@@ -58,6 +62,14 @@ impl<'a> CountingLine<'a> {
             Some(events) => events,
             None => ArrayVec::new(),
         }
+    }
+
+    /// Returns the name of its result keysym, as it is written, if it has one. O(bytes of the
+    /// line).
+    pub fn result_name(&self) -> Option<&'a str>
+        ensures { option_copied result ≡ self.now.result }
+    {
+        result_name(self.bytes)
     }
 }
 

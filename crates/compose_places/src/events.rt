@@ -3,6 +3,7 @@ ghost use Rattle.std.specs.Prelude.{◌≡◌, map, slice_get, option_copied};
 ghost use Rattle.std.specs.Option.{option_map};
 ghost use Rattle.compose_text.specs.Lines.{lines_of};
 ghost use Rattle.compose_read.specs.Lines.{without_mark};
+ghost use Rattle.compose_places.specs.Events as words;
 ghost use Rattle.compose_places.specs.Events.{line_at, line_events, written_events};
 
 use crate::places::DefinitionPlace;
@@ -34,6 +35,20 @@ pub(crate) fn line_events(line: &[u8]) -> Option<Events<'_>>
     let mut events = ArrayVec::new();
     match lex_line_into(text, &mut events) {
         Ok(LineContent::Production { .. }) => Some(events),
+        _ => None,
+    }
+}
+
+/// Returns the name of the result keysym of a line, if it is a production that has one.
+pub(crate) fn result_name(line: &[u8]) -> Option<&str>
+    ensures { option_copied result ≡ words.result_name line.now }
+{
+    let Ok(text) = str::from_utf8(line) else {
+        return None;
+    };
+    let mut events = ArrayVec::new();
+    match lex_line_into(text, &mut events) {
+        Ok(LineContent::Production { result_name, .. }) => result_name,
         _ => None,
     }
 }

@@ -48,7 +48,7 @@ list_parts read arguments = type_parts read.names.lines.items (map (λ key. key.
 
 -- the keys that can follow the prefix
 abbrev pub AnswersNext : TableRead → ListArguments → Result Answer Refusal → Type 0
-AnswersNext read arguments answered = Returns (IsNext (form_of arguments.json)) answered (list_parts read arguments)
+AnswersNext read arguments answered = Returns (IsNext read.table.sources (form_of arguments.json)) answered (list_parts read arguments)
 
 -- the sequences that begin with the prefix, and produce the text if one is given, in the order of
 -- the arguments; each with the path of its file

@@ -16,22 +16,22 @@ ended (Err x) old expected before after e h = tt
 
 pub returns : goal.returns
 unfolding encode_utf8
-returns c = elim c.match-form.branch [
+returns c = λ name. elim c.match-form.branch [
   | in-Lines+in_ok-push_key-in-Lines+in_ok-write-in-Lines w ↦ (
       let old = string_bytes c.args.lines.now in
       let key = key_text c.args.key.now (codes "> .. ") in
       let n = c.args.count in
-      ended c.push.result old (leads c.args.form c.args.key.now None n) (string_bytes c.match-form.lines) (string_bytes c.push.new.self) c.push.ensures.bytes
+      ended c.push.result old (leads c.args.form c.args.key.now None name n) (string_bytes c.match-form.lines) (string_bytes c.push.new.self) c.push.ensures.bytes
       (ap string_bytes w.lines-is ∙ w.in_ok-write-in-Lines.ensures.bytes ∙ ap (λ t. t ++ (decimal n ++ w.sequences_word-word.result.now)) w.in_ok-push_key-in-Lines.ensures
       ∙ ap (λ t. (old ++ key) ++ (decimal n ++ t)) w.sequences_word-word.ensures
       ∙ append_assoc old key (decimal n ++ sequences_word n)
-      ∙ ap (λ (f : ListForm). old ++ leads f c.args.key.now None n) (sym w.in-Lines.is)))
+      ∙ ap (λ (f : ListForm). old ++ leads f c.args.key.now None name n) (sym w.in-Lines.is)))
   | in-Json+in_ok-push_key_member-in-Json+in_ok-write-in-Json w ↦ (
       let old = string_bytes c.args.lines.now in
       let key = key_member c.args.key.now in
       let n = c.args.count in
       let behind = codes ",\"text\":null,\"sequences\":" ++ (decimal n ++ codes "}") in
-      ended c.push.result old (leads c.args.form c.args.key.now None n) (string_bytes c.match-form.lines) (string_bytes c.push.new.self) c.push.ensures.bytes
+      ended c.push.result old (leads c.args.form c.args.key.now None name n) (string_bytes c.match-form.lines) (string_bytes c.push.new.self) c.push.ensures.bytes
       (ap string_bytes w.lines-is ∙ w.in_ok-write-in-Json.ensures.bytes ∙ ap (λ t. t ++ behind) w.in_ok-push_key_member-in-Json.ensures ∙ append_assoc old key behind
-      ∙ ap (λ (f : ListForm). old ++ leads f c.args.key.now None n) (sym w.in-Json.is)))
+      ∙ ap (λ (f : ListForm). old ++ leads f c.args.key.now None name n) (sym w.in-Json.is)))
 ]
