@@ -14,11 +14,16 @@ import subprocess
 import sys
 import tempfile
 
+import reference
+
 SEED = 52
 # The keysyms of these tables, and how they are written.
 WRITTEN = {0x61: ["a", "U0061", "0x61"], 0x62: ["b", "U0062"], 0xfe51: ["dead_acute", "0xfe51"], 0xff20: ["Multi_key"]}
 NAMES = {keysym: written[0] for keysym, written in WRITTEN.items()}
 TEXTS = ["x", "y", "\u00e9", "xy", 'q"q', "\\", "\u2260"]
+# Those of lines: also one with a character that no argument has, and none, which a keysym without a text gives.
+LINE_TEXTS = [*TEXTS, "a\0b", ""]
+NO_TEXT = "VoidSymbol"
 # Lines with a fault of each kind, in which libxkbcommon reads nothing.
 FAULTY = [
     b'<a> <nosuch> : "x"', b'<a> <b> : "x" nosuch', b"<a> : nosuch", b'<a> <Shift_L> : "x"', b"<a> <b> : \"\xff\"", b"# \xe9", b'Ctrl <nosuch> : "x"', b'! Control <a> : "x"', b'<a <b> : "x"',
@@ -30,11 +35,16 @@ FAULTY = [
 def random_line(chance):
     """The keysyms, the keys as they are written and the text of a definition."""
     keysyms = tuple(chance.choice(list(WRITTEN)) for _ in range(chance.choice([1, 2, 2, 3, 3, 4])))
-    return keysyms, [chance.choice(WRITTEN[it]) for it in keysyms], chance.choice(TEXTS)
+    return keysyms, [chance.choice(WRITTEN[it]) for it in keysyms], chance.choice(LINE_TEXTS)
 
 
 def quoted(text):
     return '"' + text.replace("\\", "\\\\").replace('"', '\\"') + '"'
+
+
+def given(text):
+    """What a line gives for a text. No escape stands for the character U+0000."""
+    return quoted(text) if text else NO_TEXT
 
 
 def keys_of(keys):
@@ -49,9 +59,9 @@ class Table:
         at = chance.randint(0, len(lines["own"]))
         read = [("own", index + 1 + (index >= at), it) for index, it in enumerate(lines["own"])]
         read[at:at] = [("other", index + 1, it) for index, it in enumerate(lines["other"])]
-        self.files = {name: [f"{keys_of(keys)} : {quoted(text)}" for _, keys, text in found] for name, found in lines.items()}
+        self.files = {name: [f"{keys_of(keys)} : {given(text)}" for _, keys, text in found] for name, found in lines.items()}
         self.files["own"].insert(at, 'include "other"')
-        self.counts = {keysyms: (text, f"{keys_of(keys)} : {quoted(text)}  # {name}:{line}") for name, line, (keysyms, keys, text) in read}
+        self.counts = {keysyms: (text, f"{keys_of(keys)} : {given(text)}  # {name}:{line}") for name, line, (keysyms, keys, text) in read}
         self.objects = {keysyms: {"keys": keys, "text": text, "file": name, "line": line} for name, line, (keysyms, keys, text) in read}
         for short in list(self.counts):
             if any(len(it) > len(short) and it[:len(short)] == short for it in self.counts):
@@ -67,9 +77,9 @@ class Table:
         return [self.counts[it][1] for it in sorted(self.counts)]
 
     def found(self, text, keys=None):
-        """The sequences of a text, the shortest first, and only those with these keysyms alone, if some are given."""
+        """The sequences of a text, those with keys at hand first and then the shortest, and only those with these keysyms alone, if some are given."""
         found = [it for it in self.counts if self.counts[it][0] == text and (keys is None or set(it) <= keys)]
-        return sorted(found, key=lambda it: (len(it), it))
+        return sorted(found, key=reference.order_of_how)
 
     def ways(self, text, keys=None):
         """What `how` is to print of a text."""
@@ -104,7 +114,7 @@ def objects_in(lines):
 
 def next_line(keysym, leads):
     if isinstance(leads, str):
-        return f"<{NAMES[keysym]}> : {quoted(leads)}"
+        return f"<{NAMES[keysym]}> : {given(leads)}"
     return f"<{NAMES[keysym]}> .. {leads} sequence{'' if leads == 1 else 's'}"
 
 
@@ -151,7 +161,8 @@ def typed_right(program, folder, table, chance):
         return True
     keysyms = chance.choice(sorted(table.counts))
     keys = [chance.choice(WRITTEN[it]) for it in keysyms]
-    lines = ['composing ""'] * (len(keys) - 1) + [f"composed {quoted(table.counts[keysyms][0])}"]
+    text = quoted(table.counts[keysyms][0]).replace("\0", "\\000")
+    lines = ['composing ""'] * (len(keys) - 1) + [f"composed {text}"]
     return run(program, folder, "type", "--files", "own", *keys) == (0, lines)
 
 

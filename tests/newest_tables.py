@@ -111,9 +111,9 @@ def check_list(program, locale, reading, results):
 
 
 def check_how(program, locale, reading, results):
-    """`how` of each text: the sequences that give it, the shortest first."""
+    """`how` of each text: the sequences that give it, those with keys at hand and the shortest first."""
     ways = {}
-    for keys in sorted(reading.counting, key=lambda it: (len(it), it)):
+    for keys in sorted(reading.counting, key=reference.order_of_how):
         ways.setdefault(reading.counting[keys]["text"], []).append(reading.counting[keys])
     texts = [it for it in ways if not it.startswith(("-", "U+"))]
     for at in range(0, len(texts), TEXTS_A_RUN):

@@ -327,9 +327,9 @@ def check_list(program, folder, results, name, path, counting):
 
 
 def check_how(program, folder, results, name, path, counting):
-    """`how` prints the sequences of each text of a table, the shortest first."""
+    """`how` prints the sequences of each text of a table, those with keys at hand and the shortest first."""
     ways = {}
-    for keys in sorted(counting, key=lambda it: (len(it), it)):
+    for keys in sorted(counting, key=reference.order_of_how):
         ways.setdefault(counting[keys]["text"], []).append(counting[keys])
     texts = [it for it in ways if not it.startswith(("-", "U+"))]
     for at in range(0, len(texts), TEXTS_A_PROCESS):

@@ -145,6 +145,11 @@ def read_text(raw):
     return bytes(text)
 
 
+def order_of_how(keysyms):
+    """By what `how` puts the sequences of a text in order: those with the keys of ASCII's characters and Multi_key alone come first, then the shortest."""
+    return not all(0x20 <= it <= 0x7E or it == 0xFF20 for it in keysyms), len(keysyms), keysyms
+
+
 def quote(text):
     """The text as the program prints it."""
     quoted = bytearray(b'"')

@@ -130,7 +130,7 @@ diff_quiet files arguments fresh colored (Ok answer) outcome r = numbered_quiet 
 diff_quiet files arguments fresh colored (Err (Input refusal)) outcome r = worded_quiet (Err refusal) outcome r.is
 diff_quiet files arguments fresh colored (Err (Accept fault)) outcome r = errors_quiet outcome r.1
 
-how_quiet : (numbered : Bool) (read : _) (repertoire text : List ℕ) (wanted : List (List ℕ)) (answered : Result Ways Refusal) (outcome : Outcome)
+how_quiet : (numbered : Bool) (read : _) (repertoire text : List ℕ) (wanted : List (List (List ℕ))) (answered : Result Ways Refusal) (outcome : Outcome)
     → IsHowOutcome numbered read repertoire text wanted answered outcome → IsQuiet outcome
 how_quiet numbered read repertoire text wanted (Ok ways) outcome r =
     same_quiet r.shown outcome r.errors.output r.errors.file r.errors.ended (noted_quiet r.is_shown.reported r.shown r.is_shown.noted (worded_quiet _ r.is_shown.reported r.is_shown.is))

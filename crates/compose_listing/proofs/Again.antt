@@ -1,6 +1,6 @@
 -- A listing is read as the same table.
-use Rattle.std.proofs.Common.{◌≡◌, ℕ, suc, ◌+◌, ◌-◌, ◌≤◌, ◌<◌, List, [], ◌∷◌, ◌++◌, Bool, true, false, not, ◌&&◌, ◌||◌, cond, ◌/◌, ◌%◌, length, get_or, map, take, drop, refl, sym, ◌∙◌, ap, ap₂, subst, inl, inr, arith, append_assoc, nat_lt, nat_le, lit≤, leb-true, le-leb, eqb-true, ltb-true, ltb-false, ne_eqb}
-use Rattle.std.specs.Prelude.{◌==◌, nat_eq, Option, Some, None, Result, Ok, Err, IsOk, flat_map, codes, unwrap_or, option_to_list}
+use Rattle.std.proofs.Common.{◌≡◌, ℕ, suc, ◌+◌, ◌-◌, ◌≤◌, ◌<◌, List, [], ◌∷◌, ◌++◌, Bool, true, false, not, ◌&&◌, ◌||◌, cond, ◌/◌, ◌%◌, length, get_or, map, take, drop, refl, sym, ◌∙◌, ap, ap₂, subst, inl, inr, arith, append_assoc, nat_lt, nat_le, lit≤, leb-true, le-leb, eqb-true, eqb-false, ltb-false}
+use Rattle.std.specs.Prelude.{◌==◌, nat_eq, Option, Some, None, is_some, Result, Ok, Err, IsOk, flat_map, codes, unwrap_or, option_to_list}
 use Rattle.std.specs.Fmt.{decimal}
 use Rattle.std.specs.List.{list_all, list_any, starts_with, All}
 use Rattle.std.specs.Str.{is_utf8, IsUtf8}
@@ -14,14 +14,14 @@ use Rattle.std.specs.Char.{is_ascii_alphanumeric}
 use Rattle.std.specs.Int.{is_in_range}
 use Rattle.compose_text.specs.Bytes.{is_name_byte}
 use Rattle.keysym_core.specs.Keysym.{is_ignored, is_keysym}
-use Rattle.keysym_core.specs.Names.{KeysymNames, value}
+use Rattle.keysym_core.specs.Names.{KeysymNames, value, text as keysym_text}
 use Rattle.compose_model.specs.Table.{Definition, same, text_at, is_definition, is_table}
 use Rattle.compose_model.specs.Nodes.{leaves}
 use Rattle.compose_model.proofs.NodeLemmas.{same_from}
-use Rattle.compose_lex.specs.Line.{production, is_name}
-use Rattle.compose_lex.specs.Escape.{quote, quote_inside, quote_byte, octal_escape, text_of, IsText}
+use Rattle.compose_lex.specs.Line.{production, is_name, is_inside, result_tokens}
+use Rattle.compose_lex.specs.Escape.{quote_byte, IsText}
+use Rattle.compose_lex.proofs.TextRead.{none_left}
 use Rattle.compose_lex.specs.Fault.{reading_of}
-use Rattle.compose_lex.proofs.TextRead.{quote_again}
 use Rattle.compose_read.specs.Lines.{Source, Visit, included, included_by, source_named, numbered, own_lines, visits, visits_below, without_mark}
 use Rattle.compose_read.specs.Read.{at_line, event_keysym, sequence_of, string_text, result_text, definition_of, reading_result, line_result, with_room, line_after, read_on, definitions_of, max_lines, max_definitions}
 use Rattle.compose_read.specs.Settle.{IsSettled, row, in_order}
@@ -30,13 +30,15 @@ use Rattle.compose_read.specs.declared.ReadFault.TheVariants as faults
 use Rattle.compose_read.proofs.TextLines.{text_lines}
 use Rattle.compose_places.specs.Counting.{WrittenLine, sequence_named, counting_line}
 use Rattle.compose_shown.specs.Shown.{shown_text}
-use Rattle.compose_diff.proofs.Plain.{is_plain, ArePlain, both_plain, all_plain, shown_plain, decimal_plain}
-use Rattle.compose_diff.proofs.PlainLines.{lines_again}
+use Rattle.compose_diff.proofs.Plain.{is_plain, ArePlain, both_plain, shown_plain, decimal_plain}
+use Rattle.compose_listing.specs.Held.{has_void}
+use Rattle.compose_listing.specs.Written.{written_byte, written_inside, written_text}
 use Rattle.compose_listing.specs.Line.{keys_text, place_comment, listed_line}
 use Rattle.compose_listing.specs.Line as printed
-use Rattle.compose_listing.specs.Held.{is_writable}
 use Rattle.compose_listing.specs.Listing.{line_of, sequence_line, listing}
 use Rattle.compose_listing.specs.declared.form.ListForm.TheVariants.{Lines}
+use Rattle.compose_listing.proofs.WrittenTexts.{written_again, written_closed}
+use Rattle.compose_listing.proofs.OneLine.{IsOneLine, plain_within, both_within}
 use Rattle.compose_listing.proofs.NamedLines.{IsNamed, counts_named, is_read}
 
 -- ---- no newline but the last byte
@@ -59,19 +61,21 @@ name_plain (b ∷ key) h =
       | inr e ↦ let is : b ≡ 95 = eqb-true b 95 e in le-leb 32 b (omega arith)
     ]
 
+is_name_plain : (key : List ℕ) → is_name key ≡ true → ArePlain key
+is_name_plain key h = name_plain key (and_parts (nat_lt 0 (length key)) (list_all is_name_byte key) h).1
+
 keys_plain : (keys : List (List ℕ)) → list_all is_name keys ≡ true → ArePlain (keys_text keys)
 keys_plain [] h = refl
 keys_plain (key ∷ keys) h =
     let parts = and_parts (is_name key) (list_all is_name keys) h in
-    let bytes = (and_parts (nat_lt 0 (length key)) (list_all is_name_byte key) parts.0).1 in
     both_plain (codes "<" ++ (key ++ codes "> ")) (keys_text keys)
-    (both_plain (codes "<") (key ++ codes "> ") refl (both_plain key (codes "> ") (name_plain key bytes) refl)) (keys_plain keys parts.1)
+    (both_plain (codes "<") (key ++ codes "> ") refl (both_plain key (codes "> ") (is_name_plain key parts.0) refl)) (keys_plain keys parts.1)
 
 from_32 : (b : ℕ) → 32 ≤ b → is_plain b ≡ true
 from_32 b h = le-leb 32 b h
 
-byte_plain : (b : ℕ) → ArePlain (quote_byte b)
-byte_plain b = by (b == 92) (b == 34) (nat_lt b 32 || b == 127) refl refl refl
+quoted_plain : (b : ℕ) → ArePlain (quote_byte b)
+quoted_plain b = by (b == 92) (b == 34) (nat_lt b 32 || b == 127) refl refl refl
   where
     by : (s t u : Bool) → b == 92 ≡ s → b == 34 ≡ t → nat_lt b 32 || b == 127 ≡ u → ArePlain (quote_byte b)
     by true t u d e f = rw d (and_from _ _ refl (and_from _ _ (let is : b ≡ 92 = eqb-true b 92 d in from_32 b (omega arith)) refl))
@@ -81,20 +85,33 @@ byte_plain b = by (b == 92) (b == 34) (nat_lt b 32 || b == 127) refl refl refl
         (and_from _ _ refl (and_from _ _ (from_32 (48 + b / 64) (omega arith)) (and_from _ _ (from_32 (48 + b / 8 % 8) (omega arith)) (and_from _ _ (from_32 (48 + b % 8) (omega arith)) refl))))
     by false false false d e f = rw (d, e, f) (and_from _ _ (from_32 b (ltb-false b 32 (or_parts (nat_lt b 32) (b == 127) f).0)) refl)
 
-result_plain : (text : List ℕ) → ArePlain (printed.result_text text)
-result_plain text = by (length text == 0)
+byte_within : (b : ℕ) → IsOneLine (written_byte b)
+byte_within b = by (b == 0) refl
   where
-    by : (b : Bool) → ArePlain (cond b (codes "VoidSymbol") (quote text))
-    by true = refl
-    by false = and_from _ _ refl (both_plain (quote_inside text) (34 ∷ []) (all_plain quote_byte text byte_plain) refl)
+    by : (t : Bool) → b == 0 ≡ t → IsOneLine (cond t (b ∷ []) (quote_byte b))
+    by true e = ap (λ c. not (c == 10) && true) (eqb-true b 0 e)
+    by false e = plain_within (quote_byte b) (quoted_plain b)
 
-line_plain : (keys : List (List ℕ)) (text path : List ℕ) (line : ℕ) → list_all is_name keys ≡ true → ArePlain (listed_line keys text path line)
-line_plain keys text path line h =
-    both_plain (keys_text keys) (codes ": " ++ (printed.result_text text ++ place_comment path line)) (keys_plain keys h)
-    (both_plain (codes ": ") (printed.result_text text ++ place_comment path line) refl
-    (both_plain (printed.result_text text) (place_comment path line) (result_plain text)
-    (both_plain (codes "  # ") (shown_text path ++ (codes ":" ++ decimal line)) refl
-    (both_plain (shown_text path) (codes ":" ++ decimal line) (shown_plain path) (both_plain (codes ":") (decimal line) refl (decimal_plain line))))))
+bytes_within : (text : List ℕ) → IsOneLine (written_inside text)
+bytes_within [] = refl
+bytes_within (b ∷ text) = both_within (written_byte b) (written_inside text) (byte_within b) (bytes_within text)
+
+result_within : (text : List ℕ) → IsOneLine (printed.result_text text)
+result_within text = by (length text == 0)
+  where
+    by : (b : Bool) → IsOneLine (cond b (codes "VoidSymbol") (written_text text))
+    by true = refl
+    by false = and_from _ _ refl (both_within (written_inside text) (34 ∷ []) (bytes_within text) refl)
+
+line_within : (keys : List (List ℕ)) (given path : List ℕ) (line : ℕ) → list_all is_name keys ≡ true → IsOneLine given → IsOneLine (listed_line keys given path line)
+line_within keys given path line h g =
+    both_within (keys_text keys) (codes ": " ++ (given ++ place_comment path line)) (plain_within (keys_text keys) (keys_plain keys h))
+    (both_within (codes ": ") (given ++ place_comment path line) refl (both_within given (place_comment path line) g (plain_within (place_comment path line) place_plain)))
+  where
+    place_plain : ArePlain (place_comment path line)
+    place_plain =
+        both_plain (codes "  # ") (shown_text path ++ (codes ":" ++ decimal line)) refl
+        (both_plain (shown_text path) (codes ":" ++ decimal line) (shown_plain path) (both_plain (codes ":") (decimal line) refl (decimal_plain line)))
 
 -- ---- the keysyms of the keys
 
@@ -121,6 +138,68 @@ sequence_given names v index (key ∷ keys) s e h = by_value (λ t f g. sequence
         not_true true h = cc
         not_true false h = refl
 
+-- ---- what a line gives
+
+-- what is printed after the colon is read as a string or a name that stands for the text
+pub record IsRead (names : KeysymNames) (text given : List ℕ) : Type 0 where
+  pub raw : Option (List ℕ)
+  pub name : Option (List ℕ)
+  pub tokens : result_tokens raw name ≡ given ∷ []
+  pub closed : option_map_or is_inside raw true ≡ true
+  pub named : option_map_or is_name name true ≡ true
+  pub some : is_some raw || is_some name ≡ true
+  pub string : Option (List ℕ)
+  pub other : List ℕ
+  pub raw_read : (v : Visit) → string_text v raw ≡ Ok string
+  pub name_read : (v : Visit) (n : ℕ) → result_text names v n name ≡ Ok other
+  pub is : option_map_or (λ x. x) string other ≡ text
+
+module _ (names : KeysymNames) (text : List ℕ) where
+  -- a text in quotes
+  in_quotes : length text == 0 ≡ false → IsText text → IsRead names text (printed.result_text text)
+  in_quotes some t = record {
+    raw = Some (written_inside text);
+    name = None;
+    tokens = ap (λ b. cond b (codes "VoidSymbol") (written_text text) ∷ []) (sym some);
+    closed = written_closed text;
+    named = refl;
+    some = refl;
+    string = Some text;
+    other = [];
+    raw_read = λ v. ap (λ r. at_line v r >>= (λ x. let o : Result (Option (List ℕ)) ReadFault = Ok (Some x) in o)) (written_again text t);
+    name_read = λ v n. refl;
+    is = refl;
+  }
+
+  -- the name of the keysym without a text
+  by_void : (o : Option ℕ) → value names (codes "VoidSymbol") ≡ o → option_map_or (λ k. length (keysym_text names k) == 0) o false ≡ true → length text == 0 ≡ true
+      → IsRead names text (printed.result_text text)
+  by_void None e h empty = absurd (let clash : false ≡ true = h in cc)
+  by_void (Some k) e h empty = record {
+    raw = None;
+    name = Some (codes "VoidSymbol");
+    tokens = ap (λ b. cond b (codes "VoidSymbol") (written_text text) ∷ []) (sym empty);
+    closed = refl;
+    named = refl;
+    some = refl;
+    string = None;
+    other = keysym_text names k;
+    raw_read = λ v. refl;
+    name_read = λ v m. ap (λ o. option_map_or (λ j. let r : Result (List ℕ) ReadFault = Ok (keysym_text names j) in r) o (Err (faults.UnknownKeysym v.source v.line m))) e;
+    is = none_left (keysym_text names k) h ∙ sym (none_left text empty);
+  }
+
+  some_bytes : length text == 0 ≡ false → 0 < length text
+  some_bytes e = let n = eqb-false (length text) 0 e in omega (arith, n)
+
+  -- what is printed of a text is read as the text
+  pub given_read : has_void names ≡ true → length text ≤ 255 → IsUtf8 text → IsRead names text (printed.result_text text)
+  given_read void few utf8 = by (length text == 0) refl
+    where
+      by : (b : Bool) → length text == 0 ≡ b → IsRead names text (printed.result_text text)
+      by true h = by_void (value names (codes "VoidSymbol")) refl void h
+      by false h = in_quotes h (record { some = some_bytes h; few = few; utf8 = utf8 })
+
 -- ---- each line defines its sequence
 
 module _ (names : KeysymNames) (sources : List Source) (paths : List (List ℕ)) (lines : List Visit) (table : List Definition) where
@@ -128,7 +207,7 @@ module _ (names : KeysymNames) (sources : List Source) (paths : List (List ℕ))
   text_for s = unwrap_or (text_at table s) []
 
   abbrev pub words_of : List ℕ → WrittenLine → List ℕ
-  words_of s line = listed_line line.keys (text_for s) (get_or paths line.place.source []) line.place.line
+  words_of s line = listed_line line.keys (printed.result_text (text_for s)) (get_or paths line.place.source []) line.place.line
 
   -- the line of a sequence without its newline
   abbrev pub words : List ℕ → List ℕ
@@ -139,17 +218,17 @@ module _ (names : KeysymNames) (sources : List Source) (paths : List (List ℕ))
     pub line : WrittenLine
     pub counts : counting_line names lines s ≡ Some line
     pub fed : list_all (λ k. is_keysym k && not (is_ignored k)) s ≡ true
-    pub few : length (text_for s) ≤ 255
-    pub writable : is_writable (text_for s) ≡ true
+    pub gives : IsRead names (text_for s) (printed.result_text (text_for s))
 
-  pub words_plain : (s : List ℕ) → ArePlain (words s)
-  words_plain s = by (counting_line names lines s) refl
+  pub words_within : (s : List ℕ) → IsOneLine (words s)
+  words_within s = by (counting_line names lines s) refl
     where
-      by : (o : Option WrittenLine) → counting_line names lines s ≡ o → ArePlain (option_map_or (words_of s) o [])
+      by : (o : Option WrittenLine) → counting_line names lines s ≡ o → IsOneLine (option_map_or (words_of s) o [])
       by None e = refl
       by (Some line) e =
-          let keys = (and_parts (nat_lt 0 (length line.keys) && nat_le (length line.keys) 32) (list_all is_name line.keys) (counts_named names s lines line e).keys).1 in
-          line_plain line.keys (text_for s) (get_or paths line.place.source []) line.place.line keys
+          let named = counts_named names s lines line e in
+          let keys = (and_parts (nat_lt 0 (length line.keys) && nat_le (length line.keys) 32) (list_all is_name line.keys) named.keys).1 in
+          line_within line.keys (printed.result_text (text_for s)) (get_or paths line.place.source []) line.place.line keys (result_within (text_for s))
 
   module _ (s : List ℕ) (here : IsListable s) where
     ended : sequence_line Lines names lines paths table s ≡ words s ++ 10 ∷ []
@@ -157,40 +236,34 @@ module _ (names : KeysymNames) (sources : List Source) (paths : List (List ℕ))
         ap (λ o. option_map_or (line_of Lines paths (text_for s)) o []) here.counts
         ∙ ap (λ o. option_map_or (words_of s) o [] ++ 10 ∷ []) (sym here.counts)
 
-    some_text : length (text_for s) == 0 ≡ false
-    some_text = positive (length (text_for s)) (and_parts (nat_lt 0 (length (text_for s))) (is_utf8 (text_for s)) (and_parts (nat_lt 0 (length (text_for s)) && is_utf8 (text_for s)) (list_all (λ b. nat_lt 0 b) (text_for s)) here.writable).0).0
-      where
-        positive : (n : ℕ) → nat_lt 0 n ≡ true → n == 0 ≡ false
-        positive n h = let some = ltb-true 0 n h in ne_eqb n 0 (omega arith)
+    abbrev raw : Option (List ℕ)
+    raw = here.gives.raw
 
-    read : reading_of (words s) ≡ Ok (production here.line.keys (Some (quote_inside (text_for s))) None)
+    abbrev name : Option (List ℕ)
+    name = here.gives.name
+
+    read : reading_of (words s) ≡ Ok (production here.line.keys raw name)
     read =
         ap (λ o. reading_of (option_map_or (words_of s) o [])) here.counts
-        ∙ is_read here.line.keys (text_for s) (get_or paths here.line.place.source []) here.line.place.line some_text (counts_named names s lines here.line here.counts).keys
-
-    text_read : text_of (quote_inside (text_for s)) ≡ Ok (text_for s)
-    text_read =
-        let parts = and_parts (nat_lt 0 (length (text_for s)) && is_utf8 (text_for s)) (list_all (λ b. nat_lt 0 b) (text_for s)) here.writable in
-        let first = and_parts (nat_lt 0 (length (text_for s))) (is_utf8 (text_for s)) parts.0 in
-        quote_again (text_for s) (record { some = positive (length (text_for s)) first.0; few = here.few; utf8 = IsUtf8-from_is_utf8 (text_for s) first.1 }) parts.1
-      where
-        positive : (n : ℕ) → nat_lt 0 n ≡ true → 0 < n
-        positive n h = ltb-true 0 n h
+        ∙ is_read here.line.keys raw name (printed.result_text (text_for s)) (get_or paths here.line.place.source []) here.line.place.line here.gives.tokens
+        (and_from _ _ (and_from _ _ (and_from _ _ (counts_named names s lines here.line here.counts).keys here.gives.closed) here.gives.named) here.gives.some)
 
     abbrev found : Definition → Result (Option Definition) ReadFault
     found d = Ok (Some d)
 
-    abbrev made : List ℕ → Option (List ℕ) → Result Definition ReadFault
-    made sequence string = Ok (record { sequence = sequence; text = option_map_or (λ x. x) string [] })
+    abbrev made : List ℕ → Option (List ℕ) → List ℕ → Result Definition ReadFault
+    made sequence string other = Ok (record { sequence = sequence; text = option_map_or (λ x. x) string other })
 
     given : (v : Visit) → v.bytes ≡ words s → is_utf8 (words s) ≡ true → line_result names sources v ≡ Ok (Some (row table s))
     given v b u =
         ap (λ bs. cond (is_utf8 bs) (at_line v (reading_of bs) >>= reading_result names sources v) (Err (faults.NotUtf8 v.source v.line))) b
         ∙ ap (λ t. cond t (at_line v (reading_of (words s)) >>= reading_result names sources v) (Err (faults.NotUtf8 v.source v.line))) u
         ∙ ap (λ r. at_line v r >>= reading_result names sources v) read
-        ∙ ap (λ q. (q >>= (λ sequence. string_text v (Some (quote_inside (text_for s))) >>= made sequence)) >>= found)
+        ∙ ap (λ q. (q >>= (λ sequence. string_text v raw >>= (λ string. result_text names v (length here.line.keys) name >>= made sequence string))) >>= found)
         (sequence_given names v 0 here.line.keys s (counts_named names s lines here.line here.counts).sequence here.fed)
-        ∙ ap (λ t. ((at_line v t >>= (λ x. let r : Result (Option (List ℕ)) ReadFault = Ok (Some x) in r)) >>= made s) >>= found) text_read
+        ∙ ap (λ q. (q >>= (λ string. result_text names v (length here.line.keys) name >>= made s string)) >>= found) (here.gives.raw_read v)
+        ∙ ap (λ q. (q >>= made s here.gives.string) >>= found) (here.gives.name_read v (length here.line.keys))
+        ∙ ap (λ t. let r : Result (Option Definition) ReadFault = Ok (Some (record { sequence = s; text = t })) in r) here.gives.is
 
     not_included : included sources (words s) ≡ None
     not_included = ap (λ r. let o : Option ℕ = cond (is_utf8 (words s)) (included_by sources r) None in o) read ∙ neither (is_utf8 (words s))
@@ -205,7 +278,8 @@ module _ (names : KeysymNames) (sources : List Source) (paths : List (List ℕ))
         let first = by_keys here.line.keys some in
         (first.0, ap (λ o. option_map_or (words_of s) o []) here.counts ∙ first.1)
       where
-        by_keys : (keys : List (List ℕ)) → nat_lt 0 (length keys) ≡ true → (rest : List ℕ) × (listed_line keys (text_for s) (get_or paths here.line.place.source []) here.line.place.line ≡ 60 ∷ rest)
+        by_keys : (keys : List (List ℕ)) → nat_lt 0 (length keys) ≡ true
+            → (rest : List ℕ) × (listed_line keys (printed.result_text (text_for s)) (get_or paths here.line.place.source []) here.line.place.line ≡ 60 ∷ rest)
         by_keys [] h = absurd (let clash : false ≡ true = h in cc)
         by_keys (k ∷ ks) h = (_, refl)
 

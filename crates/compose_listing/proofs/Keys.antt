@@ -3,9 +3,7 @@ use Rattle.std.proofs.Common.{◌≡◌, ℕ, ◌+◌, List, [], ◌∷◌, Bool
 use Rattle.std.specs.List.{list_all}
 use Rattle.std.specs.Option.{option_map, option_map_or, option_and_then}
 use Rattle.keysym_core.specs.Names.{KeysymNames, value}
-use Rattle.compose_model.specs.Certificate.{Repertoire, is_key}
 use Rattle.compose_places.specs.Counting.{sequence_named}
-use Rattle.compose_listing.specs.Leaves.{is_typable_key}
 
 module _ (names : KeysymNames) where
   -- the first key has the first keysym, and the others have the others
@@ -24,14 +22,12 @@ module _ (names : KeysymNames) where
       by (Some k) f None g e = cc
       by (Some k) f (Some t) g e = record { keysym = k; others = t; is = (let same : k ∷ t ≡ s = cc in sym same); value_is = f; named = g }
 
-  -- keys of a repertoire have its keysyms
-  pub typable_keys : (repertoire : Repertoire) (keys : List (List ℕ)) (s : List ℕ) → sequence_named names keys ≡ Some s
-      → list_all (is_typable_key names repertoire) keys ≡ list_all (is_key repertoire) s
-  typable_keys repertoire [] s e = let is : [] ≡ s = cc in ap (list_all (is_key repertoire)) is
-  typable_keys repertoire (key ∷ keys) s e =
+  -- a test of the keysyms of keys is one of their sequence
+  pub tested_keys : (p : ℕ → Bool) (keys : List (List ℕ)) (s : List ℕ) → sequence_named names keys ≡ Some s → list_all (λ key. option_map_or p (value names key) false) keys ≡ list_all p s
+  tested_keys p [] s e = let is : [] ≡ s = cc in ap (list_all p) is
+  tested_keys p (key ∷ keys) s e =
       let first = first_named key keys s e in
-      ap₂ (λ a b. a && b) (ap (λ o. option_map_or (is_key repertoire) o false) first.value_is) (typable_keys repertoire keys first.others first.named)
-      ∙ ap (list_all (is_key repertoire)) (sym first.is)
+      ap₂ (λ a b. a && b) (ap (λ o. option_map_or p o false) first.value_is) (tested_keys p keys first.others first.named) ∙ ap (list_all p) (sym first.is)
 
 -- a test of borrowed keys is one of the keys
 pub all_lent : (f : List ℕ → Bool) (keys : List (Bor (List ℕ))) → list_all (λ key. f key.now) keys ≡ list_all f (map (λ key. key.now) keys)

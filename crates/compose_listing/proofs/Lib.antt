@@ -3,6 +3,10 @@ pub mod Ordered
 pub mod Keys
 pub mod Parts
 pub mod Followed
+pub mod WrittenTexts
+pub mod WrittenRuns
+pub mod OneLine
 pub mod NamedLines
 pub mod Again
 pub mod Table
+pub mod Meant

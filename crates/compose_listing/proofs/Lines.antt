@@ -1,12 +1,12 @@
 -- What is printed of leaves is what is printed of their sequences.
-use Rattle.std.proofs.Common.{◌≡◌, ℕ, ◌+◌, ◌<◌, arith, List, [], ◌∷◌, ◌++◌, Bool, true, false, cond, ◌&&◌, length, get_or, map, take, refl, sym, ◌∙◌, ap, ap₂, subst, Option, Some, None, lt-ltb}
+use Rattle.std.proofs.Common.{◌≡◌, ℕ, ◌+◌, ◌<◌, arith, List, [], ◌∷◌, ◌++◌, Bool, true, false, cond, not, ◌&&◌, length, get_or, map, take, refl, sym, ◌∙◌, ap, ap₂, subst, Option, Some, None, lt-ltb}
 use Rattle.std.specs.Prelude.{nat_lt, flat_map, filter, unwrap_or}
 use Rattle.std.specs.List.{All}
 use Rattle.std.specs.Option.{option_map_or, option_and_then}
 use Rattle.std.proofs.lemmas.List.{get_or-map, append-nil, take_more, map-append, length-map}
 use Rattle.std.proofs.lemmas.Grind.{flat_map-append}
 use Rattle.std.proofs.lemmas.List.FromFn.{filter_of_map_range_with_len_more}
-use Rattle.std.proofs.lemmas.List.Elements.{All-head, All-tail, All-take, All-filter, filter_more}
+use Rattle.std.proofs.lemmas.List.Elements.{All-head, All-tail, All-take, All-filter, All-append, filter_more}
 use Rattle.keysym_core.specs.Names.{KeysymNames}
 use Rattle.compose_model.specs.Table.{Definition, text_at}
 use Rattle.compose_model.specs.Certificate.{Repertoire}
@@ -19,9 +19,9 @@ use Rattle.compose_places.specs.Counting.{WrittenLine, counting_line, sequence_n
 use Rattle.compose_lookup.specs.Lookup.{gives, giving, shortest_first}
 use Rattle.compose_lookup.specs.TextIndex.{sequence_at, text_of, has_text, IsLeaf, leaf_id, leaf_ids}
 use Rattle.compose_lookup.proofs.Order.{numbered, all_leaves, text_given}
-use Rattle.compose_listing.specs.Chosen.{begins_with, gives_asked, chosen, is_typable}
+use Rattle.compose_listing.specs.Chosen.{begins_with, gives_asked, chosen, is_typable, is_at_hand, at_hand_first}
 use Rattle.compose_listing.specs.Listing.{line_of, sequence_line, listing}
-use Rattle.compose_listing.specs.Leaves.{leaf_line, has_asked, is_chosen, typable_leaves}
+use Rattle.compose_listing.specs.Leaves.{leaf_line, has_asked, is_chosen, typable_leaves, is_of_hand, leaves_at_hand_first}
 use Rattle.compose_listing.specs.Answers.{ways, shown_of, typed_by}
 use Rattle.compose_listing.specs.declared.form.ListForm.{ListForm}
 
@@ -73,12 +73,30 @@ filter_of_map f p q (x ∷ xs) h = go (p x) (q (f x)) (All-head (λ x. p x ≡ q
     go true false e t = cc
     go false true e t = cc
 
--- the sequences of the leaves that a repertoire's keys can type
+-- leaves with keys at hand first have such sequences first
+pub hand_are : (table : List Definition) (ls : List LeafId) → map (sequence_at table) (leaves_at_hand_first table ls) ≡ at_hand_first (map (sequence_at table) ls)
+hand_are table ls =
+    map-append (sequence_at table) (filter (is_of_hand table true) ls) (filter (is_of_hand table false) ls)
+    ∙ ap₂ (λ a b. a ++ b) (filter_of_map (sequence_at table) (is_of_hand table true) is_at_hand ls (λ k d h. refl))
+    (filter_of_map (sequence_at table) (is_of_hand table false) (λ s. not (is_at_hand s)) ls (λ k d h. refl))
+
+-- the sequences of the leaves that a repertoire's keys can type, in the order in which they are wanted
 pub typed_are : (table : List Definition) (repertoire : Option Repertoire) (text : List ℕ) (ls : List LeafId) → map (sequence_at table) ls ≡ shortest_first (giving table text)
-    → map (sequence_at table) (typable_leaves table repertoire ls) ≡ typed_by table repertoire text
+    → map (sequence_at table) (leaves_at_hand_first table (typable_leaves table repertoire ls)) ≡ typed_by table repertoire text
 typed_are table repertoire text ls e =
-    filter_of_map (sequence_at table) (λ leaf. is_typable repertoire (sequence_at table leaf)) (is_typable repertoire) ls (λ k d h. refl)
-    ∙ ap (filter (is_typable repertoire)) e
+    hand_are table (typable_leaves table repertoire ls)
+    ∙ ap at_hand_first
+    (filter_of_map (sequence_at table) (λ leaf. is_typable repertoire (sequence_at table leaf)) (is_typable repertoire) ls (λ k d h. refl) ∙ ap (filter (is_typable repertoire)) e)
+
+-- those of some leaves of a table that a repertoire's keys can type
+pub typable_within : (table : List Definition) (repertoire : Option Repertoire) (ls : List LeafId) → All (IsLeaf table) ls → All (IsLeaf table) (typable_leaves table repertoire ls)
+typable_within table repertoire ls all = All-filter (λ leaf. is_typable repertoire (sequence_at table leaf)) (IsLeaf table) ls all
+
+-- leaves with keys at hand first are the same leaves
+pub hand_within : (table : List Definition) (ls : List LeafId) → All (IsLeaf table) ls → All (IsLeaf table) (leaves_at_hand_first table ls)
+hand_within table ls all =
+    All-append (IsLeaf table) (filter (is_of_hand table true) ls) (filter (is_of_hand table false) ls) (All-filter (is_of_hand table true) (IsLeaf table) ls all)
+    (All-filter (is_of_hand table false) (IsLeaf table) ls all)
 
 -- the leaves that are chosen have the sequences that are chosen
 pub chosen_are : (table : List Definition) → IsSettled table → (keys : List ℕ) (text : Option (List ℕ)) (n : ℕ) → n ≡ length (leaves table)
@@ -123,10 +141,10 @@ module _ (form : ListForm) (names : KeysymNames) (visits : List Visit) (paths : 
 
   -- those of the leaves that give a text
   pub ways_are : (repertoire : Option Repertoire) (first : Bool) (text : List ℕ) (ls ts : List LeafId) → All (IsLeaf table) ls → map (sequence_at table) ls ≡ shortest_first (giving table text)
-      → ts ≡ typable_leaves table repertoire ls → flat_map (leaf_line form table lines paths) (shown_of first ts) ≡ ways form names visits paths table repertoire first text
+      → ts ≡ leaves_at_hand_first table (typable_leaves table repertoire ls) → flat_map (leaf_line form table lines paths) (shown_of first ts) ≡ ways form names visits paths table repertoire first text
   ways_are repertoire first text ls ts all e are_typable =
       leaves_are (shown_of first ts) (all_shown (IsLeaf table) first ts
-      (subst (All (IsLeaf table)) (sym are_typable) (All-filter (λ leaf. is_typable repertoire (sequence_at table leaf)) (IsLeaf table) ls all)))
+      (subst (All (IsLeaf table)) (sym are_typable) (hand_within table (typable_leaves table repertoire ls) (typable_within table repertoire ls all))))
       ∙ ap (flat_map (sequence_line form names visits paths table))
       (first_of_map (sequence_at table) first ts ∙ ap (shown_of first) (ap (map (sequence_at table)) are_typable ∙ typed_are table repertoire text ls e))
 

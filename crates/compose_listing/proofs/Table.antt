@@ -30,10 +30,11 @@ use Rattle.compose_tree.proofs.Adding.{leaves_are}
 use Rattle.compose_tree.proofs.Lookups.{leaves_count, leaf_text_is}
 use Rattle.compose_tree.proofs.Steps.{leaf_means}
 use Rattle.compose_places.specs.Counting.{WrittenLine, sequence_named, counting_line, AreLines}
-use Rattle.compose_diff.proofs.PlainLines.{lines_again}
-use Rattle.compose_listing.specs.Held.{IsBuilt, is_writable, are_writable}
+use Rattle.compose_listing.specs.Held.{IsBuilt, has_void}
+use Rattle.compose_listing.specs.Line.{result_text}
 use Rattle.compose_listing.specs.Listing.{sequence_line, listing}
-use Rattle.compose_listing.proofs.Again.{IsListable, text_for, words, words_plain, joined, no_mark, alone, read_all}
+use Rattle.compose_listing.proofs.OneLine.{lines_again}
+use Rattle.compose_listing.proofs.Again.{IsListable, IsRead, given_read, words, words_within, joined, no_mark, alone, read_all}
 
 none : Definition
 none = record { sequence = []; text = [] }
@@ -84,7 +85,8 @@ module _ (table : List Definition) (settled_table : IsSettled table) where
 -- ---- the whole table
 
 module _ (names : KeysymNames) (lines : List Visit) (paths : List (List ℕ)) (table : List Definition) (root : List ℕ)
-    (built : IsBuilt table) (are : AreLines names table (map (counting_line names lines) (leaves table))) (writable : are_writable table ≡ true)
+    (built : IsBuilt table) (are : AreLines names table (map (counting_line names lines) (leaves table)))
+    (void : has_void names ≡ true)
     (utf8 : is_utf8 (listing names lines paths table) ≡ true) where
   abbrev sources : List Source
   sources = record { name = root; bytes = listing names lines paths table } ∷ []
@@ -110,31 +112,28 @@ module _ (names : KeysymNames) (lines : List Visit) (paths : List (List ℕ)) (t
           let below : i < length table = omega (arith, leaves_count table built.settled) in
           let d = get_or table i none in
           let right : is_definition d ≡ true = All-get_or (λ (e : Definition). is_definition e ≡ true) table i none below (AllPass-from_list_all is_definition table built.settled.definitions) in
-          let text = All-get_or (λ (e : Definition). is_writable e.text ≡ true) table i none below (AllPass-from_list_all (λ (e : Definition). is_writable e.text) table writable) in
-          let has : text_for names sources paths lines table (get_or (leaves table) i []) ≡ d.text = ap (λ o. unwrap_or o []) (text_is table built.settled i below) in
+          let text = All-get_or (λ (e : Definition). is_utf8 e.text ≡ true) table i none below (AllPass-from_list_all (λ (e : Definition). is_utf8 e.text) table built.texts) in
           let outer = and_parts (nat_lt 0 (length d.sequence) && nat_le (length d.sequence) 32 && list_all (λ k. is_keysym k && not (is_ignored k)) d.sequence) (nat_le (length d.text) 255) right in
           let keys = (and_parts (nat_lt 0 (length d.sequence) && nat_le (length d.sequence) 32) (list_all (λ k. is_keysym k && not (is_ignored k)) d.sequence) outer.0).1 in
-          by (counting_line names lines (get_or (leaves table) i [])) refl (All-get_or Counted (leaves table) i [] h (counted (leaves table) are))
-          (ap (list_all (λ k. is_keysym k && not (is_ignored k))) (sequence_is table built.settled i below) ∙ keys)
-          (subst (λ t. length t ≤ 255) (sym has) (at_most (length d.text) 255 outer.1))
-          (ap is_writable has ∙ text)
+          by (get_or (leaves table) i []) d.text (text_is table built.settled i below) (counting_line names lines (get_or (leaves table) i [])) refl
+          (All-get_or Counted (leaves table) i [] h (counted (leaves table) are))
+          (ap (list_all (λ k. is_keysym k && not (is_ignored k))) (sequence_is table built.settled i below) ∙ keys) (leb-true (length d.text) 255 outer.1) (IsUtf8-from_is_utf8 d.text text)
         where
-          at_most : (a b : ℕ) → nat_le a b ≡ true → a ≤ b
-          at_most a b h = leb-true a b h
-
-          by : (o : Option WrittenLine) → counting_line names lines (get_or (leaves table) i []) ≡ o
-              → option_and_then (λ (line : WrittenLine). sequence_named names line.keys) (counting_line names lines (get_or (leaves table) i [])) ≡ Some (get_or (leaves table) i [])
-              → list_all (λ k. is_keysym k && not (is_ignored k)) (get_or (leaves table) i []) ≡ true → length (text_for names sources paths lines table (get_or (leaves table) i [])) ≤ 255
-              → is_writable (text_for names sources paths lines table (get_or (leaves table) i [])) ≡ true → Listable (get_or (leaves table) i [])
-          by None e c fed few w =
-              absurd (let clash : None ≡ Some (get_or (leaves table) i []) = ap (option_and_then (λ (line : WrittenLine). sequence_named names line.keys)) (sym e) ∙ c in cc)
-          by (Some line) e c fed few w = record { line = line; counts = e; fed = fed; few = few; writable = w }
+          by : (s t : List ℕ) → text_at table s ≡ Some t → (o : Option WrittenLine) → counting_line names lines s ≡ o → Counted s → list_all (λ k. is_keysym k && not (is_ignored k)) s ≡ true
+              → length t ≤ 255 → IsUtf8 t → Listable s
+          by s t has None e c fed few u = absurd (let clash : None ≡ Some s = ap (option_and_then (λ (line : WrittenLine). sequence_named names line.keys)) (sym e) ∙ c in cc)
+          by s t has (Some line) e c fed few u = record {
+            line = line;
+            counts = e;
+            fed = fed;
+            gives = subst (λ x. IsRead names x (result_text x)) (sym (ap (λ o. unwrap_or o []) has)) (given_read names t void few u);
+          }
 
   listed_lines : lines_of (without_mark (listing names lines paths table)) ≡ map expected (leaves table)
   listed_lines =
       ap (λ b. lines_of (without_mark b)) (joined names sources paths lines table (leaves table) listable)
       ∙ ap lines_of (no_mark names sources paths lines table (leaves table) listable)
-      ∙ lines_again expected (leaves table) (words_plain names sources paths lines table)
+      ∙ lines_again expected (leaves table) (words_within names sources paths lines table)
 
   texts : All (λ s. is_utf8 (expected s) ≡ true) (leaves table)
   texts = of_map (leaves table) (subst (All IsUtf8) (ap lines_of (sym unmarked) ∙ listed_lines) (text_lines (listing names lines paths table) (IsUtf8-from_is_utf8 (listing names lines paths table) utf8)))

@@ -1,5 +1,7 @@
 -- What `how` and `list` answer on the sources of a table (this project's profile).
 use Rattle.std.specs.Prelude.{◌≡◌, ℕ, Bool, nat_lt, if◌then◌else◌, List, [], ◌∷◌, map, take, filter, flat_map, length, Option, Some, None, Result, Ok, string_bytes}
+use Rattle.std.specs.List.{find, position}
+use Rattle.std.specs.Option.{option_map_or}
 use Rattle.compose_text.specs.Results.{◌>>=◌}
 use Rattle.keysym_core.specs.Names.{KeysymNames}
 use Rattle.compose_model.specs.Table.{Definition}
@@ -13,7 +15,7 @@ use Rattle.compose_answer.specs.Parts.{TypedParts, type_parts}
 use Rattle.compose_answer.specs.declared.answer.Answer.{Answer}
 use Rattle.compose_answer.specs.declared.answer.Answer.TheVariants.{Yes, No, Invalid, FreshNotAllowed}
 use Rattle.compose_lookup.specs.Lookup.{giving, shortest_first}
-use Rattle.compose_listing.specs.Chosen.{chosen, is_typable, AreInOrder}
+use Rattle.compose_listing.specs.Chosen.{chosen, is_typable, at_hand_first, AreInOrder}
 use Rattle.compose_listing.specs.Listing.{sequence_line}
 use Rattle.compose_listing.specs.Next.{next_lines}
 use Rattle.compose_listing.specs.declared.form.ListForm.{ListForm}
@@ -69,10 +71,10 @@ how_parts header given repertoire = do
 abbrev pub shown_of : {X : Type 0} → Bool → List X → List X
 shown_of first xs = if first then take 1 xs else xs
 
--- the sequences that give a text and have only keys of the repertoire, if one is given: the
--- shortest first
+-- the sequences that give a text and have only keys of the repertoire, if one is given: first those
+-- with keys at hand alone, and of these and of the others the shortest first
 abbrev pub typed_by : List Definition → Option Repertoire → List ℕ → List (List ℕ)
-typed_by table repertoire text = filter (is_typable repertoire) (shortest_first (giving table text))
+typed_by table repertoire text = at_hand_first (filter (is_typable repertoire) (shortest_first (giving table text)))
 
 -- what is printed of them
 abbrev pub ways : ListForm → KeysymNames → List Visit → List (List ℕ) → List Definition → Option Repertoire → Bool → List ℕ → List ℕ
@@ -82,7 +84,15 @@ ways form names visits paths table repertoire first text = flat_map (sequence_li
 abbrev pub is_given : List Definition → Option Repertoire → List ℕ → Bool
 is_given table repertoire text = nat_lt 0 (length (typed_by table repertoire text))
 
--- for one text after another its lines, and whether there are any
-pub record AreWays (sources : List Source) (paths texts : List (List ℕ)) (first : Bool) (form : ListForm) (p : HowParts) (answer : Ways) : Type 0 where
-  pub lines : string_bytes answer.lines ≡ flat_map (ways form p.typed.names (lines_of_sources sources) paths p.typed.table p.repertoire first) texts
-  pub found : answer.found.items ≡ map (is_given p.typed.table p.repertoire) texts
+-- of the texts that a word may mean, the index of the first that is given, and what is printed of it
+abbrev pub found_at : List Definition → Option Repertoire → List (List ℕ) → Option ℕ
+found_at table repertoire texts = position (is_given table repertoire) texts
+
+abbrev pub found_ways : ListForm → KeysymNames → List Visit → List (List ℕ) → List Definition → Option Repertoire → Bool → List (List ℕ) → List ℕ
+found_ways form names visits paths table repertoire first texts = option_map_or (ways form names visits paths table repertoire first) (find (is_given table repertoire) texts) []
+
+-- for one word after another, each given by the texts that it may mean, its lines, and which of the
+-- texts they are for
+pub record AreWays (sources : List Source) (paths : List (List ℕ)) (meanings : List (List (List ℕ))) (first : Bool) (form : ListForm) (p : HowParts) (answer : Ways) : Type 0 where
+  pub lines : string_bytes answer.lines ≡ flat_map (found_ways form p.typed.names (lines_of_sources sources) paths p.typed.table p.repertoire first) meanings
+  pub found : answer.found.items ≡ map (found_at p.typed.table p.repertoire) meanings

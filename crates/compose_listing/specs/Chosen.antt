@@ -1,11 +1,12 @@
 -- The sequences of a table that are asked for, and their order (this project's profile).
-use Rattle.std.specs.Prelude.{◌≡◌, ℕ, Bool, true, ◌&&◌, nat_eq, List, [], filter, unwrap_or, Option, Some, None}
+use Rattle.std.specs.Prelude.{◌≡◌, ℕ, Bool, true, not, ◌==◌, ◌&&◌, ◌||◌, nat_eq, List, [], ◌++◌, filter, unwrap_or, Option, Some, None}
 use Rattle.std.specs.List.{starts_with, list_all}
 use Rattle.std.specs.List.Sorted.{IsPermutation, IsSortedByKey}
 use Rattle.std.specs.Option.{option_map_or}
 use Rattle.std.specs.Ordering.{nat_cmp, ordering_then}
 use Rattle.std.specs.declared.cmp.Ordering.{Ordering}
 use Rattle.std.specs.Cmp.Lexicographic.{slice_cmp}
+use Rattle.compose_text.specs.Numbers.{is_between}
 use Rattle.keysym_core.specs.Names.{KeysymNames}
 use Rattle.compose_model.specs.Table.{Definition, text_at}
 use Rattle.compose_model.specs.Nodes.{leaves}
@@ -35,6 +36,19 @@ chosen table keys text = filter (λ s. begins_with keys s && gives_asked table t
 abbrev pub is_typable : Option Repertoire → List ℕ → Bool
 is_typable None s = true
 is_typable (Some repertoire) s = list_all (is_key repertoire) s
+
+-- ---- the keys at hand
+
+-- the keys of the characters of ASCII, whose keysyms are their own numbers, and Multi_key
+abbrev pub is_key_at_hand : ℕ → Bool
+is_key_at_hand k = is_between 0x20 0x7e k || k == 0xff20
+
+abbrev pub is_at_hand : List ℕ → Bool
+is_at_hand s = list_all is_key_at_hand s
+
+-- the sequences with such keys alone, and then the others
+abbrev pub at_hand_first : List (List ℕ) → List (List ℕ)
+at_hand_first sequences = filter is_at_hand sequences ++ filter (λ s. not (is_at_hand s)) sequences
 
 -- ---- their order
 

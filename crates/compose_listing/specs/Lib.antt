@@ -1,3 +1,4 @@
+pub mod Written
 pub mod Line
 pub mod Listing
 pub mod Chosen

@@ -4,8 +4,8 @@ ghost use Rattle.compose_listing.specs.Line as words;
 
 use crate::form::ListForm;
 use crate::json::push_json_strings;
+use crate::written::push_written;
 use compose_diff::push_json_string;
-use compose_lex::quote;
 use compose_shown::Shown;
 use std::alloc::{AllocError, Global};
 use std::fmt::Write;
@@ -43,7 +43,7 @@ pub(crate) fn push_sequence(
     lines.push('\n')
 }
 
-/// Appends the line of a sequence to the lines: its keys, its text, and the path and the line
+/// Appends the line of a sequence to the lines: its keys, what it gives, and the path and the line
 /// number of its definition as a comment.
 fn push_line(
     alloc: Global,
@@ -54,7 +54,8 @@ fn push_line(
         (string_bytes lines.new
         ≡ string_bytes lines.old
         ++ words.listed_line (map (λ key. key.now) sequence.entry.keys.now)
-        sequence.entry.text.now sequence.entry.path.now sequence.entry.line) }
+        (words.result_text sequence.entry.text.now)
+        sequence.entry.path.now sequence.entry.line) }
 {
     push_keys(lines, sequence.keys)?;
     lines.push_str(": ")?;
@@ -84,10 +85,7 @@ pub(crate) fn push_result(alloc: Global, lines: &mut String, text: &str) -> Resu
     if text.is_empty() {
         return lines.push_str("VoidSymbol");
     }
-    let Ok(quoted) = quote(alloc, text) else {
-        return Err(AllocError);
-    };
-    lines.push_str(&quoted)
+    push_written(alloc, lines, text)
 }
 
 /// Appends the place as a comment.

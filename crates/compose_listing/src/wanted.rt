@@ -29,7 +29,7 @@ fn numbered_character(word: &[u8]) -> Option<char>
 }
 
 /// Returns the character of a number; `None` for surrogates and numbers above 10FFFF.
-fn character_of(number: u32) -> Option<char>
+pub(crate) fn character_of(number: u32) -> Option<char>
     ensures { result ≡ (if words.is_scalar number then Some number else None) }
 {
     char::from_u32(number)

@@ -1,5 +1,5 @@
 //! `how` and `list`: the sequences of one Compose file.
-ghost use Rattle.std.specs.Prelude.{◌≡◌, ◌++◌, [], map, unwrap_or, option_map, option_copied, IfOk, IfErr, OnOk, string_bytes};
+ghost use Rattle.std.specs.Prelude.{◌≡◌, ◌++◌, [], map, get_or, is_some, unwrap_or, option_map, option_copied, IfOk, IfErr, OnOk, string_bytes};
 ghost use Rattle.std.specs.List.{list_all};
 ghost use Rattle.compose_migration.specs.Refused.{Returns};
 ghost use Rattle.compose_listing.specs.Answers.{AreWays, IsListed, how_parts};
@@ -20,7 +20,7 @@ use compose_given::Environment;
 use compose_input::{Fault, read_text};
 use compose_listing::{
     HowWanted, ListForm, ListOrder, ListWanted, Ways, how_to_type, list_next, list_table,
-    wanted_text,
+    meant_texts, wanted_text,
 };
 use compose_report::Outcome;
 use compose_shown::Shown;
@@ -178,8 +178,8 @@ fn order_of(sort: ListSort) -> ListOrder
     }
 }
 
-/// Returns the outcome of `how`: the sequences that produce the texts of these words, and on
-/// standard error the words whose text no sequence produces. The files of names are read first,
+/// Returns the outcome of `how`: the sequences that give what these words mean, and on standard
+/// error the words of which none is given, or the composed form. The files of names are read first,
 /// then those of the table, and the repertoire. Takes the time of `find_files` and of
 /// `how_to_type`.
 /// Errors: the fault of the first file, in this order, that can't be read or is refused; `Word` if
@@ -202,7 +202,8 @@ pub fn run_how<T: BuildTable, F: Folder>(
 {
     let read = TableRead::read(alloc, files, environment, names, &arguments.table)?;
     let repertoire = read_given(alloc, files, arguments.repertoire)?;
-    Ok(kept_how_outcome::<T>(alloc, read, arguments, &repertoire, words)?)
+    let meanings = meanings_of(alloc, words)?;
+    Ok(kept_how_outcome::<T>(alloc, read, arguments, &repertoire, &meanings)?)
 }
 
 /// Returns the outcome of `how`, once the files are read.
@@ -211,18 +212,18 @@ fn kept_how_outcome<T: BuildTable>(
     read: TableRead<'_>,
     arguments: &HowArguments<'_>,
     repertoire: &Option<Vec<u8>>,
-    words: &[&str],
+    meanings: &[Vec<String>],
 ) -> Result<Outcome, AllocError>
     ensures { IfOk result
         (λ outcome. IsKeptHow read.entry arguments.now
-        (option_map (λ held. held.items) repertoire.now) (map (λ word. word.now) words.now)
-        outcome) }
+        (option_map (λ held. held.items) repertoire.now)
+        (map (λ texts. map string_bytes texts.items) meanings.now) outcome) }
 {
     let kept = KeptRead::of(alloc, arguments.table.skip_faulty, read)?;
     let KeptRead { read, skipped } = kept;
-    let answered = how_answer::<T>(alloc, &read, arguments, repertoire, words);
+    let answered = how_answer::<T>(alloc, &read, arguments, repertoire, meanings);
     let text = held_text(repertoire);
-    let printed = how_outcome::<T>(alloc, read, arguments, text, words, answered)?;
+    let printed = how_outcome::<T>(alloc, read, arguments, text, meanings, answered)?;
     followed(printed, &skipped)
 }
 
@@ -245,36 +246,41 @@ fn read_given<F: Folder>(
     }
 }
 
-/// Returns how the texts of these words can be typed with the table.
+/// Returns how what these words mean can be typed with the table.
 fn how_answer<T: BuildTable>(
     alloc: Global,
     read: &TableRead<'_>,
     arguments: &HowArguments<'_>,
     repertoire: &Option<Vec<u8>>,
-    words: &[&str],
+    meanings: &[Vec<String>],
 ) -> Result<Ways, Refusal>
     ensures { AnswersHow read.now arguments.now
-        (option_map (λ held. held.items) repertoire.now) (map (λ word. word.now) words.now)
-        result }
+        (option_map (λ held. held.items) repertoire.now)
+        (map (λ texts. map string_bytes texts.items) meanings.now) result }
 {
-    let wanted = wanted_texts(alloc, words)?;
-    let texts = borrowed(alloc, &wanted)?;
     let paths = read.table.path_texts(alloc)?;
-    ways_answer::<T>(alloc, read, arguments, bytes_of(repertoire), &texts, &paths)
+    ways_answer::<T>(
+        alloc,
+        read,
+        arguments,
+        bytes_of(repertoire),
+        meanings,
+        &paths,
+    )
 }
 
-/// Returns how these texts can be typed with the table, whose files have these paths.
+/// Returns how what these words mean can be typed with the table, whose files have these paths.
 fn ways_answer<'a, T: BuildTable>(
     alloc: Global,
     read: &TableRead<'_>,
     arguments: &HowArguments<'_>,
     repertoire: Option<&'a [u8]>,
-    texts: &'a [&'a str],
+    meanings: &'a [Vec<String>],
     paths: &[&str],
 ) -> Result<Ways, Refusal>
     ensures { Returns
         (AreWays read.now.table.sources (map (λ path. path.now) paths.now)
-        (map (λ text. text.now) texts.now) arguments.now.first
+        (map (λ texts. map string_bytes texts.items) meanings.now) arguments.now.first
         (words.form_of arguments.now.json)) result
         (how_parts read.now.names.lines.items (sources_of read.now.table)
         (option_copied repertoire.entry)) }
@@ -282,7 +288,7 @@ fn ways_answer<'a, T: BuildTable>(
     let first = arguments.first;
     let form = form_of(arguments.json);
     let wanted = HowWanted {
-        texts,
+        meanings,
         repertoire,
         first,
         form,
@@ -311,29 +317,17 @@ fn held_text(bytes: &Option<Vec<u8>>) -> &[u8]
     }
 }
 
-/// Returns the texts that these words stand for.
-fn wanted_texts(alloc: Global, words: &[&str]) -> Result<Vec<String>, AllocError>
+/// Returns for each of these words the texts that it may mean.
+fn meanings_of(alloc: Global, words: &[&str]) -> Result<Vec<Vec<String>>, AllocError>
     ensures { IfOk result
-        (λ texts. map string_bytes texts.items
-        ≡ map wanted_words.wanted_text (map (λ word. word.now) words.now)) }
+        (λ meanings. map (λ texts. map string_bytes texts.items) meanings.items
+        ≡ map wanted_words.meant_texts (map (λ word. word.now) words.now)) }
 {
-    let mut texts = Vec::new(alloc);
+    let mut meanings = Vec::new(alloc);
     for word in words {
-        texts.push(wanted_text(alloc, word)?)?;
+        meanings.push(meant_texts(alloc, word)?)?;
     }
-    Ok(texts)
-}
-
-/// Borrows these texts.
-fn borrowed(alloc: Global, texts: &[String]) -> Result<Vec<&str>, AllocError>
-    ensures { IfOk result
-        (λ lent. map (λ text. text.now) lent.items ≡ map string_bytes texts.now) }
-{
-    let mut lent = Vec::new(alloc);
-    for text in texts {
-        lent.push(text.as_str())?;
-    }
-    Ok(lent)
+    Ok(meanings)
 }
 
 /// Returns the outcome of the answer of `how`.
@@ -342,45 +336,45 @@ fn how_outcome<T: BuildTable>(
     read: TableRead<'_>,
     arguments: &HowArguments<'_>,
     text: &[u8],
-    words: &[&str],
+    meanings: &[Vec<String>],
     answered: Result<Ways, Refusal>,
 ) -> Result<Outcome, AllocError>
     ensures { IfOk result
         (λ outcome. IsHowOutcome arguments.now.json read.entry
         (unwrap_or (option_copied arguments.now.repertoire) []) text.now
-        (map (λ word. word.now) words.now) answered outcome) }
+        (map (λ texts. map string_bytes texts.items) meanings.now) answered outcome) }
 {
     let repertoire = arguments.repertoire.unwrap_or("");
     match answered {
-        Ok(ways) => ways_outcome::<T>(alloc, read, repertoire, text, words, ways),
+        Ok(ways) => ways_outcome::<T>(alloc, read, repertoire, text, meanings, ways),
         Err(refusal) => {
             read.outcome::<T>(alloc, arguments.json, &[], repertoire, text, Err(refusal))
         }
     }
 }
 
-/// Returns the outcome of the sequences that were found: `No` if a text has none.
+/// Returns the outcome of the sequences that were found: `No` if a word has none.
 fn ways_outcome<T: BuildTable>(
     alloc: Global,
     read: TableRead<'_>,
     repertoire: &str,
     text: &[u8],
-    words: &[&str],
+    meanings: &[Vec<String>],
     ways: Ways,
 ) -> Result<Outcome, AllocError>
     ensures { IfOk result
         (λ outcome. IsWaysOutcome read.entry repertoire.now text.now
-        (map (λ word. word.now) words.now) ways outcome) }
+        (map (λ texts. map string_bytes texts.items) meanings.now) ways outcome) }
 {
-    let errors = missing_lines(alloc, words, &ways.found)?;
+    let errors = word_lines(alloc, meanings, &ways.found)?;
     let answer = answer_of(ways);
     let outcome = read.outcome::<T>(alloc, false, &[], repertoire, text, Ok(answer))?;
     Ok(with_errors(outcome, errors))
 }
 
-/// Returns the lines as an answer: `Yes` if each text is found.
+/// Returns the lines as an answer: `Yes` if what each word means is given.
 fn answer_of(ways: Ways) -> Answer
-    ensures { result ≡ how_words.answer_by (list_all (λ is_found. is_found) ways.found.items) ways.lines }
+    ensures { result ≡ how_words.answer_by (list_all is_some ways.found.items) ways.lines }
 {
     if are_found(&ways.found) {
         Answer::Yes(ways.lines)
@@ -389,11 +383,11 @@ fn answer_of(ways: Ways) -> Answer
     }
 }
 
-/// Returns whether each text is found.
-fn are_found(found: &[bool]) -> bool
-    ensures { result ≡ list_all (λ is_found. is_found) found.now }
+/// Returns whether what each word means is given.
+fn are_found(found: &[Option<usize>]) -> bool
+    ensures { result ≡ list_all is_some found.now }
 {
-    found.iter().all(|is_found| *is_found)
+    found.iter().all(|given| given.is_some())
 }
 
 /// Returns the same outcome, with these errors.
@@ -403,31 +397,72 @@ fn with_errors(outcome: Outcome, errors: String) -> Outcome
     Outcome { errors, ..outcome }
 }
 
-/// Returns a line for each word whose text no sequence produces.
-fn missing_lines(alloc: Global, words: &[&str], found: &[bool]) -> Result<String, AllocError>
+/// Returns the lines of the words of which nothing is given, or the composed form.
+fn word_lines(
+    alloc: Global,
+    meanings: &[Vec<String>],
+    found: &[Option<usize>],
+) -> Result<String, AllocError>
     ensures { IfOk result
         (λ lines. string_bytes lines
-        ≡ how_words.missing_lines (map (λ word. word.now) words.now) found.now) }
+        ≡ how_words.word_lines (map (λ texts. map string_bytes texts.items) meanings.now)
+        found.now) }
 {
     let mut lines = String::new(alloc);
-    for index in 0..words.len() {
-        let Some(is_found) = found.get(index) else {
+    for index in 0..meanings.len() {
+        let Some(given) = found.get(index) else {
             return Ok(lines);
         };
-        push_missing(&mut lines, words[index], *is_found)?;
+        push_word(&mut lines, &meanings[index], *given)?;
     }
     Ok(lines)
 }
 
-/// Appends the line of a word whose text no sequence produces.
-fn push_missing(lines: &mut String, word: &str, is_found: bool) -> Result<(), AllocError>
+/// Appends the line of a word, the first of these texts: if none of them is given, or the last.
+fn push_word(lines: &mut String, texts: &[String], given: Option<usize>) -> Result<(), AllocError>
     ensures { OnOk result
         (string_bytes lines.new
-        ≡ string_bytes lines.old ++ how_words.missing_line is_found word.now) }
+        ≡ string_bytes lines.old ++ how_words.word_line (map string_bytes texts.now) given) }
 {
-    if !is_found {
-        let word = Shown(word);
-        writeln!(lines, "no sequence gives {word}")?;
+    match given {
+        None => push_missing(lines, text_at(texts, 0)),
+        Some(at) if at < texts.len() && texts.len() - at == 1 => {
+            push_composed(lines, text_at(texts, 0), text_at(texts, at))
+        }
+        Some(_) => Ok(()),
     }
+}
+
+/// Returns the text at this index, or nothing after the last.
+fn text_at(texts: &[String], index: usize) -> &str
+    ensures { result.now ≡ get_or (map string_bytes texts.now) index [] }
+{
+    match texts.get(index) {
+        Some(text) => text,
+        None => "",
+    }
+}
+
+/// Appends the line of a word of which nothing is given.
+fn push_missing(lines: &mut String, word: &str) -> Result<(), AllocError>
+    ensures { OnOk result
+        (string_bytes lines.new ≡ string_bytes lines.old ++ how_words.missing_line word.now) }
+{
+    let word = Shown(word);
+    writeln!(lines, "no sequence gives {word}")?;
+    Ok(())
+}
+
+/// Appends the note on a word of which the composed form is given.
+fn push_composed(lines: &mut String, word: &str, composed: &str) -> Result<(), AllocError>
+    ensures { OnOk result
+        (string_bytes lines.new
+        ≡ string_bytes lines.old ++ how_words.composed_line word.now composed.now) }
+{
+    let (word, composed) = (Shown(word), Shown(composed));
+    writeln!(
+        lines,
+        "note: {word} is given in its composed form, {composed}"
+    )?;
     Ok(())
 }

@@ -3,6 +3,8 @@ use Rattle.std.specs.Prelude.{filter, None}
 use Rattle.compose_model.specs.Table.{Definition}
 use Rattle.compose_model.specs.Nodes.{leaves}
 use Rattle.compose_listing.specs.Chosen.{begins_with, gives_asked}
+use Rattle.compose_places.specs.Counting.{read_lines}
+use Rattle.compose_places.proofs.CountingLaw.{are_lines}
 use Rattle.compose_listing.proofs.Table.{table_again}
 use Rattle.compose_listing.proofs.law_listing.Goals as goal
 
@@ -15,4 +17,5 @@ returns-clause-whole c = λ table. all_pass table (leaves table)
     all_pass table ((k ∷ s) ∷ xs) = ap (λ ys. (k ∷ s) ∷ ys) (all_pass table xs)
 
 pub returns-clause-again : goal.returns-clause-again
-returns-clause-again c = λ names lines paths table root rule built are writable utf8. table_again names lines paths table root built are writable utf8 rule
+returns-clause-again c = λ names sources paths table root rule name other read built void utf8.
+    table_again names (read_lines sources root) paths table name built (are_lines names sources root rule table read) void utf8 other
