@@ -8,21 +8,12 @@ shift
 program=${COMPOSECHECK:-composecheck}
 machine=/var/lib/composecheck/Compose
 shown=${XDG_STATE_HOME:-$HOME/.local/state}/composecheck/shown
-system=/usr/share/X11/locale merge=--merge is_judged='' before=
+is_judged='' before=
 for it; do
-    case $before in
-    --state) shown=$it/shown ;;
-    --system) system=$it ;;
-    esac
-    case $it in
-    --state=*) shown=${it#--state=}/shown ;;
-    --system=*) system=${it#--system=} ;;
-    --accept*) merge= ;;
-    esac
+    case $before in --state) shown=$it/shown ;; esac
+    case $it in --state=*) shown=${it#--state=}/shown ;; esac
     before=$it
 done
-case $file in "${system%/}"/* | "$machine") ;; *) merge= ;; esac
-"$program" update --help | grep -q -e --merge || merge=
 if [ "$file" = "$machine" ]; then
     [ -e "$file" ] || exit 0
     in_use=$("$program" status 2> /dev/null | sed -n 's/^in use: //p')
@@ -42,20 +33,16 @@ show() {
 
 for _ in 1 2 3 4 5; do
     before=$(stamp)
-    printed=$("$program" update ${merge:+"$merge"} ${is_judged:+"$is_judged"} "$@" -- "$file" 2>&1)
+    printed=$("$program" update ${is_judged:+"$is_judged"} "$@" -- "$file" 2>&1)
     status=$?
     test "$(stamp)" = "$before" && break
 done
 printf '%s\n' "$printed"
 [ -z "$is_judged" ] || exit 0
-left=$(printf '%s\n' "$printed" | sed -n '/^left out: /s/ [^ "]*:[0-9]*\(:\|$\)/\1/gp')
 accept="composecheck update --accept LIST $file, with the changes that you mean in LIST; composecheck update --accept /dev/null $file prints all."
-case $status$left in
-0) [ "$merge$printed" = --mergeunchanged ] || rm -f "$shown" ;;
-0*) show "You type as before" "What is new in $file was taken. This was not, as it would change how you type:
-$left
-To have it: $accept" ;;
-1*) show "Your Compose table stays as it was" "$file would change how you type:
+case $status in
+0) rm -f "$shown" ;;
+1) show "Your Compose table stays as it was" "$file would change how you type:
 $printed
 To have all of it: $accept" ;;
 *) show "Your Compose table stays as it was" "$file was not taken into use:
