@@ -1,2 +1,4 @@
 pub mod Underway
 pub mod Decided
+pub mod Following
+pub mod Merges

@@ -11,16 +11,20 @@
 #![tactic(auto)]
 
 mod client;
+mod law;
+mod merged;
 mod peer;
 mod serving;
 mod status;
 mod taking;
 
 pub use client::{ClientRequests, load_requests, run_exchange, run_load, run_session};
+pub use law::law_taking;
+pub use merged::is_merged;
 pub use peer::Peer;
 pub use serving::start_service;
 pub use status::{Change, ServiceState, Status, StoredSummary, status_outcome};
 pub use taking::{
-    HandOver, Handed, TableFolder, Taking, Wanted, decide_taking, kept_names, take_alone,
+    Decision, HandOver, Handed, TableFolder, Taking, Wanted, decide_taking, kept_names, take_alone,
     take_running,
 };
