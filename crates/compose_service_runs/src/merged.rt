@@ -170,20 +170,20 @@ fn with_text(alloc: Global, text: &[u8], new: &Sources) -> Result<Sources<'stati
     let name = format!(in alloc; "{root}{MERGED}")?;
     let text = Vec::from_slice(alloc, text)?;
     let mut sources = Sources::new(alloc);
-    sources.add(&name, text)?;
+    add_one(&mut sources, Some(&name), text)?;
     add_all(alloc, &mut sources, new)?;
     Ok(sources)
 }
 
 /// Returns the name of the first of these sources; an empty one if there is none.
-fn root_name(sources: &Sources) -> &str
+fn root_name<'a>(sources: &'a Sources) -> &'a str
     ensures { result.now ≡ words.root_name sources.now }
 {
     sources.name(0).unwrap_or("")
 }
 
 /// Adds these sources behind the others.
-fn add_all(alloc: Global, sources: &mut Sources<'static>, more: &Sources) -> Result<(), SourceFault>
+fn add_all<'s>(alloc: Global, sources: &mut Sources<'s>, more: &Sources) -> Result<(), SourceFault>
     ensures { OnOk result (sources.new ≡ sources.old ++ more.now) }
 {
     for index in 0..more.count() {
@@ -194,8 +194,8 @@ fn add_all(alloc: Global, sources: &mut Sources<'static>, more: &Sources) -> Res
 }
 
 /// Adds a source with this name behind the others.
-fn add_one(
-    sources: &mut Sources<'static>,
+fn add_one<'s>(
+    sources: &mut Sources<'s>,
     name: Option<&str>,
     bytes: Vec<u8>,
 ) -> Result<(), SourceFault>
@@ -247,8 +247,9 @@ fn owned_names(alloc: Global, sources: &Sources) -> Result<Vec<String>, AllocErr
     ensures { IfOk result
         (λ names. map string_bytes names.items ≡ map (λ source. source.name) sources.now) }
 {
+    let names = source_names(alloc, sources)?;
     let mut owned = Vec::new(alloc);
-    for name in source_names(alloc, sources)? {
+    for name in &names {
         owned.push(String::from_str(alloc, name)?)?;
     }
     Ok(owned)

@@ -10,7 +10,7 @@ ghost use Rattle.compose_table_file.specs.Reading.{table_of};
 ghost use Rattle.compose_report.specs.Outcomes.{PrintsErrors};
 ghost use Rattle.compose_service_runs.specs.Taking as words;
 ghost use Rattle.compose_model.specs.Step.{is_empty};
-ghost use Rattle.compose_service_runs.specs.Taking.{Asked, Becomes, BecomesBeside, BecomesMerged, Decides, DecidesBeside, DecidesTaking, IsFile, IsFrom, IsHandedOver, IsLoad, IsLoaded, IsRefusedTable, IsUnnoted, IsUnreadable, NeedsNames, NeedsRepertoire, OnOkOk, PrintsNoted, Stores, TakesHere, TakesRunning, asked_by, more};
+ghost use Rattle.compose_service_runs.specs.Taking.{Asked, Becomes, BecomesBeside, BecomesMerged, Decides, DecidesBeside, DecidesTaking, IsFile, IsDecision, IsFrom, IsHandedOver, IsLoad, IsLoaded, IsRefusedTable, IsUnnoted, IsUnreadable, NeedsNames, NeedsRepertoire, OnOkOk, PrintsNoted, Stores, TakesHere, TakesRunning, asked_by, more};
 
 use crate::client::{ClientRequests, load_requests, run_exchange};
 use crate::merged::{MergedUpdate, merge_into, was_merged_with};
@@ -147,10 +147,7 @@ pub fn decide_taking<T: BuildTable>(
             let current = stored_table(alloc, &stored)?;
             decide_beside::<T>(alloc, files, wanted, current)
         }
-        Ok(None) => {
-            let taking = decide_first::<T>(alloc, files, wanted)?;
-            Ok(unnoted(alloc, taking))
-        }
+        Ok(None) => decide_first::<T>(alloc, files, wanted),
         Err(fault) => Err(fault),
     }
 }
@@ -170,13 +167,14 @@ fn decide_first<T: BuildTable>(
     alloc: Global,
     files: &UpdateFiles,
     wanted: Wanted<'_>,
-) -> Result<Taking, Fault>
+) -> Result<Decision, Fault>
     ensures { IfOk result
-        (λ taking. Becomes (asked_by wanted.entry files.now)
-        (map (λ name. name.now) wanted.entry.fresh.now) None files.now taking) }
+        (λ decision. IsDecision (asked_by wanted.entry files.now)
+        (map (λ name. name.now) wanted.entry.fresh.now) None files.now decision) }
 {
     let run = run_update::<T>(alloc, files, wanted.fresh, None)?;
-    taking_of(alloc, files, &[], false, run)
+    let taking = taking_of(alloc, files, &[], false, run)?;
+    Ok(unnoted(alloc, taking))
 }
 
 /// Returns what becomes of the table of these files, if this one is in use.
