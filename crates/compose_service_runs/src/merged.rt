@@ -6,7 +6,7 @@ ghost use Rattle.compose_answer.specs.declared.answer.Ended.TheVariants.{Refused
 ghost use Rattle.compose_merging.specs.Merges.{AnswersMerge};
 ghost use Rattle.compose_report.specs.Outcomes.{PrintsErrors};
 ghost use Rattle.compose_service_runs.specs.Merged as words;
-ghost use Rattle.compose_service_runs.specs.Merged.{HasTable, IsMergedInto, IsUnmerged, WasMergedWith, merge_asked, sources_merged, with_merged};
+ghost use Rattle.compose_service_runs.specs.Merged.{HasTable, IsMergeDone, IsMergedInto, IsUnmerged, WasMergedWith, merge_asked, sources_merged, with_merged};
 
 use crate::taking::is_same;
 use compose_answer::Ended;
@@ -53,8 +53,24 @@ pub(crate) fn merge_into<'n, T: BuildTable>(
         (λ merged. IsMergedInto payload.now files.now (map (λ name. name.now) fresh.now) merged) }
 {
     let bundle = read_stored(alloc, "", payload)?;
-    match merge_with::<T>(alloc, files, fresh, &bundle.sources) {
-        Ok(merging) => merged_update(alloc, files, &bundle.sources, merging),
+    let merging = merge_with::<T>(alloc, files, fresh, &bundle.sources);
+    merge_done(alloc, files, fresh, &bundle.sources, merging)
+}
+
+/// Returns what this merge into the table of these sources makes of these files.
+fn merge_done<'n>(
+    alloc: Global,
+    files: &UpdateFiles<'n>,
+    fresh: &[&str],
+    current: &Sources,
+    merging: Result<Merging, MergingFault>,
+) -> Result<MergedUpdate<'n>, Fault>
+    ensures { IfOk result
+        (λ merged. IsMergeDone current.now files.now (map (λ name. name.now) fresh.now) merging
+        merged) }
+{
+    match merging {
+        Ok(merging) => merged_update(alloc, files, current, merging),
         Err(fault) => {
             let outcome = unmerged_outcome(alloc, files, fresh, fault)?;
             Ok(MergedUpdate::Refused(outcome))
@@ -213,7 +229,7 @@ fn files_with<'n>(
     files: &UpdateFiles<'n>,
     sources: Sources<'static>,
 ) -> Result<UpdateFiles<'n>, AllocError>
-    ensures { IfOk result (λ merged. HasTable sources files.now merged) }
+    ensures { IfOk result (λ merged. HasTable sources.entry files.now merged) }
 {
     let names = NameFiles {
         lines: Vec::from_slice(alloc, &files.names.lines)?,
@@ -230,7 +246,7 @@ fn files_with<'n>(
 
 /// Returns the table of these sources, whose paths are their names.
 fn table_of(alloc: Global, path: &str, sources: Sources<'static>) -> Result<TableFiles, AllocError>
-    ensures { IfOk result (λ table. words.IsTableOf path.now sources table) }
+    ensures { IfOk result (λ table. words.IsTableOf path.now sources.entry table) }
 {
     Ok(TableFiles {
         path: String::from_str(alloc, path)?,
