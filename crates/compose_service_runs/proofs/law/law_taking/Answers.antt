@@ -3,8 +3,5 @@ use Rattle.compose_service_runs.specs.declared.taking.Taking.TheVariants as taki
 use Rattle.compose_service_runs.proofs.Following.{loaded, loaded_merged}
 use Rattle.compose_service_runs.proofs.law.law_taking.Goals as goal
 
-pub returns-clause-follows : goal.returns-clause-follows
-returns-clause-follows c = λ a fresh current files file load becomes. loaded a fresh current files (takings.Follows file load) file load becomes refl
-
-pub returns-clause-merged : goal.returns-clause-merged
-returns-clause-merged c = loaded_merged
+pub returns : goal.returns
+returns c = record { follows = λ a fresh current files file load becomes. loaded a fresh current files (takings.Follows file load) file load becomes refl; merged = loaded_merged }
