@@ -657,9 +657,15 @@ static UPDATE: CommandRow = CommandRow {
             help: "Take the new table although typing changes if FILE lists each change, as diff --accept reads it; sessions of a running service begin anew",
         },
         OptionRow {
+            name: "merge",
+            letter: None,
+            takes: Takes::NothingWith(&["accept"]),
+            help: "Take what the new table adds, and leave out what would change anybody's typing",
+        },
+        OptionRow {
             name: "back",
             letter: None,
-            takes: Takes::NothingWith(&["accept", "fresh", "names", "repertoire"]),
+            takes: Takes::NothingWith(&["accept", "fresh", "merge", "names", "repertoire"]),
             help: "Take back the table before the last change, in the place of FILE; sessions begin anew",
         },
         OptionRow {
