@@ -31,6 +31,7 @@ mod place;
 
 pub use fate::{Fate, fate_of};
 pub use merging::{MergeFault, merge};
+pub use place::{Place, place_of};
 
 /// The merged table follows the old one if nothing is accepted. Otherwise it follows what is kept
 /// of the old one, on keys without the freed ones. It has each sequence that is kept with its text,
