@@ -44,6 +44,6 @@ module _ (asked : Asked) (e : Explainable) where
   pub rows_reported : (last : List ℕ) → last ≡ merge_text asked.form e → (lines : List Line) (rows : List DiffRow) → AreTables e → AreRows asked e rows → (r : Result Answer DiffFault)
       → AnswersWhole asked.form asked.lost_alone (overlaps_in asked e) last lines rows r → AnswersCompared asked e lines r
   rows_reported last is lines rows tables are (Ok answer) h =
-      (rows, tables, are, h.0, h.1, subst (λ (it : List ℕ). IsFormAnswer asked.form asked.lost_alone (overlaps_in asked e) it rows h.0 answer) is h.2)
+      (rows, tables, are, (h.0, h.1, subst (λ (it : List ℕ). IsFormAnswer asked.form asked.lost_alone (overlaps_in asked e) it rows h.0 answer) is h.2))
   rows_reported last is lines rows tables are (Err (Input refusal)) h = h
   rows_reported last is lines rows tables are (Err (Accept fault)) h = (rows, are, h)

@@ -40,14 +40,12 @@ module _ (names : KeysymNames) (fresh : List ℕ) (old new : List Definition) (s
       (cond (agree_along names old new [] [] s) Kept (cond (is_sequence new s) Changed (cond (is_extended new s) Waiting Removed)))
 
   -- by whether it is added
-  pub not_taken : (change : Option Change) (added : Bool) → added ≡ is_added change → not added ≡ true → change ≡ change_of names fresh old new s → false ≡ is_taken names fresh old new s
-  not_taken change true e no h = let clash : false ≡ true = no in cc
-  not_taken change false e no h = ap (λ b. b && is_apart old s) e ∙ taken_is change (is_apart old s) h refl
+  pub not_taken : (change : Option Change) (added : Bool) → added ≡ is_added change → added ≡ false → change ≡ change_of names fresh old new s → false ≡ is_taken names fresh old new s
+  not_taken change added e no h = ap (λ b. b && is_apart old s) (sym no ∙ e) ∙ taken_is change (is_apart old s) h refl
 
-  pub taken_apart : (change : Option Change) (added apart : Bool) → added ≡ is_added change → not added ≡ false → apart ≡ is_apart old s → change ≡ change_of names fresh old new s
+  pub taken_apart : (change : Option Change) (added apart : Bool) → added ≡ is_added change → added ≡ true → apart ≡ is_apart old s → change ≡ change_of names fresh old new s
       → apart ≡ is_taken names fresh old new s
-  taken_apart change true apart e yes f h = ap (λ b. b && apart) e ∙ taken_is change apart h f
-  taken_apart change false apart e yes f h = let clash : true ≡ false = yes in cc
+  taken_apart change added apart e yes f h = ap (λ b. b && apart) (sym yes ∙ e) ∙ taken_is change apart h f
 
 -- ---- the sequences so far
 
