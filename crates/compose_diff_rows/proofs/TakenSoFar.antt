@@ -41,11 +41,11 @@ module _ (names : KeysymNames) (fresh : List ℕ) (old new : List Definition) (s
 
   -- by whether it is added
   pub not_taken : (change : Option Change) (added : Bool) → added ≡ is_added change → added ≡ false → change ≡ change_of names fresh old new s → false ≡ is_taken names fresh old new s
-  not_taken change added e no h = ap (λ b. b && is_apart old s) (sym no ∙ e) ∙ taken_is change (is_apart old s) h refl
+  not_taken change added e never h = ap (λ b. b && is_apart old s) (sym never ∙ e) ∙ taken_is change (is_apart old s) h refl
 
   pub taken_apart : (change : Option Change) (added apart : Bool) → added ≡ is_added change → added ≡ true → apart ≡ is_apart old s → change ≡ change_of names fresh old new s
       → apart ≡ is_taken names fresh old new s
-  taken_apart change added apart e yes f h = ap (λ b. b && apart) (sym yes ∙ e) ∙ taken_is change apart h f
+  taken_apart change added apart e here f h = ap (λ b. b && apart) (sym here ∙ e) ∙ taken_is change apart h f
 
 -- ---- the sequences so far
 

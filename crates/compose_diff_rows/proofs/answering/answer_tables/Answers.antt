@@ -26,7 +26,7 @@ returns g c =
     let overlaps : found ≡ overlaps_in given e = λ i. record { old = placed.old.overlaps i; new = placed.new.overlaps i } in
     let last = c.in_ok-last.ensures
     ∙ ap₂ (λ kept count. merge_line given.form kept count) c.leaf_count.ensures (c.count_taken-added.ensures c.args.fresh.now (c.new_changes-2.ensures ∙ c.in_ok-comparison.ensures.of_new)) in
-    rows_reported given e c.deref-7.result.now (c.deref-7.ensures.value ∙ last) c.args.accepted.now c.deref-6.result.now (c.node_count.ensures.settled.definitions, c.node_count-2.ensures.settled.definitions)
+    rows_reported given e c.deref-7.result.now (c.deref-7.ensures ∙ last) c.args.accepted.now c.deref-6.result.now (c.node_count.ensures.settled.definitions, c.node_count-2.ensures.settled.definitions)
     (rows_are given e old new (λ i. record { table = move.old; lines = old_lines i; paths = given.old_paths }) (λ i. record { table = move.new; lines = new_lines i; paths = given.new_paths })
     c.reports_kept-whole.result c.reports_kept-whole.ensures
     (subst (AreLines move.names move.old) (sym c.deref.ensures.value) placed.old.named)
