@@ -55,6 +55,13 @@ NEW_ONE = "\nsv_SE.UTF-8 is new.\n"
 READS_OUTSIDE = "\n**fi_FI.UTF-8 reads files outside of its tree:**\n\n    note: ROOM/elsewhere/Compose lies outside of new\n"
 LOSES = "\n**Other readers lose lines of fi_FI.UTF-8:**\n\n    note: libX11 or libxkbcommon loses lines of new/fi_FI.UTF-8/Compose or of its includes, 1 in all: `composecheck lint` tells which\n"
 ONE, TWO, THREE, NONE = "\n1 locale was compared.\n", "\n2 locales were compared.\n", "\n3 locales were compared.\n", "\n0 locales were compared.\n"
+
+
+def merges(kept, added, locales):
+    """The last line of a report in which people of so many locales lose something."""
+    return f"\nmerge: would keep {kept} of OLD's sequences and add {added} of NEW's, in {locales} locale{'' if locales == 1 else 's'}\n"
+
+
 # The locales that include the English table, and one that doesn't.
 MANY = {"en_US.UTF-8": ENGLISH, **{f"{it}.UTF-8": INCLUDING for it in ("fi_FI", "pt_PT", "ru_RU", "th_TH")}, "el_GR.UTF-8": '<Multi_key> <c> : "c"\n'}
 # The tables of locales, in both forms that libX11 writes, and the names that others have.
@@ -99,15 +106,15 @@ class Report(NamedTuple):
 
 REPORTS = [
     Report("nothing changes", OLD, {}, HEADING + UNCHANGED + THREE, 0),
-    Report("a change of an included table is shown once", NEW, {}, HEADING + CHANGED + THREE, 1),
+    Report("a change of an included table is shown once", NEW, {}, HEADING + CHANGED + THREE + merges(4, 0, 2), 1),
     Report("one table is missing and one is new", {**RENAMED, "sv_SE.UTF-8": ENGLISH}, {}, HEADING + NEW_ONE + missing("fi_FI.UTF-8") + TWO, 2),
-    Report("a change is intended in one of two locales", NEW, {"en_US.UTF-8": DROPPED}, HEADING + ACCEPTED + THREE, 1),
+    Report("a change is intended in one of two locales", NEW, {"en_US.UTF-8": DROPPED}, HEADING + ACCEPTED + THREE + merges(2, 0, 1), 1),
     Report("a change is intended in each of two locales", NEW, {"en_US.UTF-8": DROPPED, "fi_FI.UTF-8": DROPPED}, HEADING + BOTH_ACCEPTED + THREE, 0),
     Report("a change is intended in all locales", NEW, {"all": f"# dropped\n\n{DROPPED}"}, HEADING + BOTH_ACCEPTED + THREE, 0),
     Report("one list is empty", NEW, {"all": DROPPED, "en_US.UTF-8": "# none\n"}, HEADING + BOTH_ACCEPTED + THREE, 0),
     Report("a table reads a file outside of its tree", OUTSIDE, {}, HEADING + READS_OUTSIDE + UNCHANGED + THREE, 2),
     Report("the last line of a table has no newline", {**OLD, "fi_FI.UTF-8": OLD["fi_FI.UTF-8"].rstrip("\n")}, {}, HEADING + LOSES + UNCHANGED + THREE, 0),
-    Report("one table is missing, and the next one changes", {it: text for it, text in NEW.items() if it != "cs_CZ.UTF-8"}, {}, HEADING + missing("cs_CZ.UTF-8") + CHANGED + TWO, 2),
+    Report("one table is missing, and the next one changes", {it: text for it, text in NEW.items() if it != "cs_CZ.UTF-8"}, {}, HEADING + missing("cs_CZ.UTF-8") + CHANGED + TWO + merges(4, 0, 2), 2),
     Report("a single locale is compared", {"en_US.UTF-8": ENGLISH}, {}, HEADING + missing("cs_CZ.UTF-8", "fi_FI.UTF-8") + ONE, 2),
     Report("no locale is in both trees", {"sv_SE.UTF-8": ENGLISH}, {}, HEADING + NEW_ONE + missing("cs_CZ.UTF-8", "en_US.UTF-8", "fi_FI.UTF-8") + NONE, 2),
 ]
@@ -292,10 +299,10 @@ def check_headings(program, results):
     new = {**MANY, "en_US.UTF-8": NEW["en_US.UTF-8"]}
     with Trees(MANY, new, {}) as trees:
         heading = "\n## en_US.UTF-8 and 4 that include it\n\nfi_FI.UTF-8, pt_PT.UTF-8, ru_RU.UTF-8, th_TH.UTF-8\n\n"
-        results.expect("all that include a table", trees.answer(program), (f"{HEADING}{heading}{line}\n6 locales were compared.\n", "", 1))
+        results.expect("all that include a table", trees.answer(program), (f"{HEADING}{heading}{line}\n6 locales were compared.\n{merges(10, 0, 5)}", "", 1))
     with Trees(MANY, {**new, "pt_PT.UTF-8": CZECH.replace('"z"', '"y"')}, {}) as trees:
         heading = "\n## en_US.UTF-8 and 3 of the 4 that include it\n\nfi_FI.UTF-8, ru_RU.UTF-8, th_TH.UTF-8\n\n"
-        results.expect("some that include a table", trees.answer(program), (f"{HEADING}{heading}{line}\n6 locales were compared.\n", "", 1))
+        results.expect("some that include a table", trees.answer(program), (f"{HEADING}{heading}{line}\n6 locales were compared.\n{merges(8, 0, 4)}", "", 1))
     others = {it: ENGLISH for it in MANY}
     with Trees(others, {it: NEW["en_US.UTF-8"] for it in MANY}, {}) as trees:
         printed = trees.answer(program)[0]
@@ -309,6 +316,7 @@ echo 'removed: <a> <b> "x" OLD:1 now: <b> <a> NEW:1'
 case $* in *fi_FI*) printf '%s\\n' 'added: <a> <c> "y" NEW:2' 'changed: <a> <d> "z" "q" OLD:3 NEW:3 now: none' ;; esac
 echo 'overlaps: 1 in the old table, 0 in the new one; the longer sequences count'
 echo 'diff: 5 kept, 1 new start; 1 text lost'
+echo "merge: would keep 5 of OLD's sequences and add 2 of NEW's"
 exit 1
 """
 
@@ -322,7 +330,7 @@ def check_order(_, results):
         printed, said, status = trees.compare("./finding")
         lost, rest = '    changed: <a> <d> "z" "q" OLD:3 NEW:3 now: none\n', '    added: <a> <c> "y" NEW:2\n'
         otherwise = '    removed: <a> <b> "x" OLD:1 now: <b> <a> NEW:1\n'
-        wanted = f"{HEADING}\n## fi_FI.UTF-8\n\n{lost}{rest}\n## en_US.UTF-8, fi_FI.UTF-8\n\n{otherwise}{TWO}"
+        wanted = f"{HEADING}\n## fi_FI.UTF-8\n\n{lost}{rest}\n## en_US.UTF-8, fi_FI.UTF-8\n\n{otherwise}{TWO}{merges(10, 4, 2)}"
         results.expect("the order of lines", (parted(printed)[0], said, status), (wanted, "", 1))
         results.expect("other counts", parted(printed)[1]["all"], {"kept": 10, "new starts": 2, "texts lost": 2, "overlaps before": 2})
 
@@ -373,7 +381,7 @@ def check_sources(program, results):
     old = {"en_US.UTF-8": 'XCOMM English\n<Multi_key> <a> : "x"\n', "fi_FI.UTF-8": SOURCE.format(blanks="\n" * 20, text="c")}
     new = {**old, "fi_FI.UTF-8": SOURCE.format(blanks="\n" * 22, text="C")}
     line = '    changed: <Multi_key> <c> "c" "C" old/fi_FI.UTF-8/Compose.pre:26 new/fi_FI.UTF-8/Compose.pre:28 now: none\n'
-    wanted = f"{HEADING}\n## fi_FI.UTF-8\n\n{line}{TWO}"
+    wanted = f"{HEADING}\n## fi_FI.UTF-8\n\n{line}{TWO}{merges(2, 0, 1)}"
     for folder in ("", "nls/"):
         with Trees({}, {}, {}) as trees:
             for tree, tables in {"old tree": old, "new tree": new}.items():
@@ -432,7 +440,7 @@ def check_forms(program, results):
         printed, said, status = trees.compare(program, "--format", "markdown")
         results.expect("the counts come first", printed.startswith(f"{HEADING}\n## Counts\n"), True)
         report, counts = parted(printed)
-        results.expect("Markdown", (report, said, status), (HEADING + TABLES + THREE, "", 1))
+        results.expect("Markdown", (report, said, status), (HEADING + TABLES + THREE + merges(4, 2, 2), "", 1))
         results.expect("the counts of Markdown", counts["all"], {"kept": 4, "removed": 2, "added": 2, "texts lost": 2})
         printed, said, status = trees.compare(program, "--format=html")
         results.expect("HTML: what is printed", (said, status, printed.startswith("<!DOCTYPE html>"), printed.endswith("</html>\n")), ("", 1, True, True))
@@ -440,7 +448,11 @@ def check_forms(program, results):
         results.expect("HTML: the first row of counts", rows[1], '<th scope="row">cs_CZ.UTF-8</th><td>2</td><td>0</td><td>0</td><td>0</td><td>0</td><td>0</td><td>0</td><td>0</td>')
         lost = "<td> <b>y</b></td><td> U+0079</td><td> <kbd>Multi_key</kbd> <kbd>b</kbd></td><td> removed</td><td> old/en_US.UTF-8/Compose:2</td>"
         results.expect("HTML: the row of a lost text", rows.count(lost), 1)
+        last = "<p>3 locales were compared.</p>\n<p>merge: would keep 4 of OLD's sequences and add 2 of NEW's, in 2 locales</p>\n"
+        results.expect("HTML: what a merge would keep", last in printed, True)
         results.expect("HTML: the lines", "<pre>\nremoved: &#60;Multi_key&#62; &#60;b&#62; &#34;y&#34; old/en_US.UTF-8/Compose:2 now: none\n</pre>" in printed, True)
+        printed, said, status = trees.compare(program, "--no-fold")
+        results.expect("a line for each sequence: no line about a merge", (parted(printed)[0].endswith(THREE), said, status), (True, "", 1))
         for words in (["--format"], ["--format", "json"]):
             printed, said, status = trees.compare(program, *words)
             results.expect(f"{words} is refused", (printed, said.startswith("ci.sh: --format "), status), ("", True, 2))

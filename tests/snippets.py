@@ -16,6 +16,8 @@ NEW = 'XCOMM English\n<Multi_key> <a> : "x"\n'
 DROPPED = 'removed: <Multi_key> <b> "y"\n'
 SOURCE = "nls/en_US.UTF-8/Compose.pre"
 ROW = '    removed: <Multi_key> <b> "y" old/en_US.UTF-8/Compose'
+# How a report ends, by whether the change is intended.
+END = {True: "\n1 locale was compared.\n", False: "\n1 locale was compared.\n\nmerge: would keep 2 of OLD's sequences and add 0 of NEW's, in 1 locale\n"}
 
 
 def run(folder, script, settings, shell="bash"):
@@ -62,14 +64,14 @@ def check_repositories(program, results):
             status, printed = run(its.top, its.here(block_of("github.yml", r"run: \|")), its.settings)
             with open(its.settings["GITHUB_STEP_SUMMARY"], encoding="utf-8") as file:
                 report = file.read()
-            results.expect(f"GitHub, {accepted=}", (status, f"{ROW}.pre:3" in report, report.endswith("1 locale was compared.\n")), wanted)
+            results.expect(f"GitHub, {accepted=}", (status, f"{ROW}.pre:3" in report, report.endswith(END[accepted])), wanted)
             results.expect(f"GitHub: tables, {accepted=}", "\n### Texts that can't be typed any more (1 sequence)\n" in report, not accepted)
         with tempfile.TemporaryDirectory(prefix="snippets-") as folder:
             its = Repository(program, folder, accepted)
             its.git("remote", "add", "origin", ".")
             its.settings["CI_MERGE_REQUEST_DIFF_BASE_SHA"] = its.git("rev-parse", "HEAD^")
             status, printed = run(its.top, its.here(block_of("gitlab.yml", r"- \|")), its.settings)
-            results.expect(f"GitLab, {accepted=}", (status, f"{ROW}.pre:3" in printed, printed.endswith("1 locale was compared.\n")), wanted)
+            results.expect(f"GitLab, {accepted=}", (status, f"{ROW}.pre:3" in printed, printed.endswith(END[accepted])), wanted)
             with open(os.path.join(its.top, "report.html"), encoding="utf-8") as file:
                 report = file.read()
             results.expect(f"GitLab: tables, {accepted=}", ("<h3>Texts that can't be typed any more (1 sequence)</h3>" in report, report.endswith("</html>\n")), (not accepted, True))

@@ -24,6 +24,10 @@
 #
 #     16 locales were compared.
 #
+#     merge: would keep 74014 of OLD's sequences and add 0 of NEW's, in 13 locales
+#
+# The last line is there if people of a locale lose something: `composecheck merge` makes a table by which they lose nothing.
+#
 # With `--format markdown` the counts come first, and then the tables of `composecheck diff --format markdown`: the texts that can't be typed any
 # more, those that are typed otherwise, and folded the rest and the lines that a list of intended changes may have. With `--format html` the same is
 # one file of HTML.
