@@ -58,9 +58,9 @@ def on_a_terminal(program, folder, *words, **variables):
 
 def colours(program, folder):
     """Yields of each trial with a terminal its name, what came and what was wanted."""
-    lines = ['changed: <a> <b> "x" "z" table.compose:1 changed.compose:1 now: none', 'added: <a> <c> "y" changed.compose:2', "diff: 0 kept, 1 changed, 0 waiting, 0 removed, 0 new starts, 1 added, 0 accepted; 1 text lost"]
+    lines = ['changed: <a> <b> "x" "z" table.compose:1 changed.compose:1 now: none', 'added: <a> <c> "y" changed.compose:2', "diff: 0 kept, 1 changed, 0 waiting, 0 removed, 0 new starts, 1 added, 0 accepted; 1 text lost", "merge: would keep 1 of OLD's sequences and add 1 of NEW's"]
     plain = "".join(f"{it}\n" for it in lines), 1
-    coloured = "".join(f"\x1b[{number}m{it}\x1b[m\n" for number, it in zip((31, 32, 1), lines)), 1
+    coloured = "".join(f"\x1b[{number}m{it}\x1b[m\n" for number, it in zip((31, 32, 1, 1), lines)), 1
     diff, tables = ("diff",), ("table.compose", "changed.compose")
     yield "a terminal has colours", on_a_terminal(program, folder, *diff, *tables), coloured
     yield "a terminal has colours by --color auto", on_a_terminal(program, folder, *diff, "--color", "auto", *tables), coloured

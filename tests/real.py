@@ -240,7 +240,7 @@ def check_known_differences(program, folder, results):
     with open(os.path.join(folder, "without"), "w", encoding="utf-8") as table:
         table.writelines(kept)
     ran = run(program, folder, "diff", ENGLISH, "without")
-    results.expect("en_US without parenleft", " 298 removed," in ran.stdout.splitlines()[-1], ran.stdout[-200:])
+    results.expect("en_US without parenleft", " 298 removed," in ran.stdout.splitlines()[-2], ran.stdout[-200:])
 
 
 def ours(program, folder, table, keys):
