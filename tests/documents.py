@@ -10,6 +10,7 @@
   - README has at most 9,216 bytes, the version of the program is that of README, CHANGELOG and the manual, and the headers of which `--version` says
     that the built-in names are those are the ones that packaging/xorgproto has, by its page and by the guide,
   - lines of code in CONTRIBUTING stand in the sources, and no document cites a paper or a numbered issue,
+  - no picture of docs/ has more than 60 KiB,
   - no line has more than 100 columns but in tables and code (tools/wrap.py breaks them), and words that are no plain English for a stranger
     aren't used.
 
@@ -25,6 +26,7 @@ MOST_README = 9216
 MOST_WRITTEN = 250 * 1024
 MANUALS = ["docs/composecheck.1", "docs/composecheck.5"]
 MOST_COLUMNS = 100
+MOST_PICTURE = 60 * 1024
 # Words that the documents used in senses of their own: plain English has print, report, after, is, idle, checked, costly and again for them.
 RETIRED = re.compile(r"\b(?:told|tell(?:s|ing)?|said|so many|behind|stands(?! for\b)|stood|rests|rested|look(?:s|ed)? at|dear(?:er)?|anew)\b", re.I)
 # Documents whose numbers with a thousands' comma are limits of the program.
@@ -183,6 +185,12 @@ def check_made(results, texts):
     results.expect("docs", f"README, CONTRIBUTING and docs have {written} bytes, more than {MOST_WRITTEN}", written <= MOST_WRITTEN)
 
 
+def check_pictures(results):
+    for path in glob.glob(os.path.join(TOP, "docs", "*.png")):
+        size = os.path.getsize(path)
+        results.expect(os.path.relpath(path, TOP), f"it has {size} bytes, more than {MOST_PICTURE}", size <= MOST_PICTURE)
+
+
 def names_below(folder):
     """Returns the names of all files below a folder, but for what the kit built."""
     found = set()
@@ -298,6 +306,7 @@ def main():
         check_laws(results, document, text, crates)
     check_crates(results, texts, crates)
     check_made(results, texts)
+    check_pictures(results)
     check_files(results, texts)
     check_commands(results, texts, crates)
     check_faults(results, texts, crates)
