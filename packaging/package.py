@@ -41,6 +41,8 @@ COMPLETIONS = {
     "_composecheck": "share/zsh/site-functions/_composecheck",
     "composecheck.fish": "share/fish/vendor_completions.d/composecheck.fish",
 }
+# The documents for those who use it, without a source tree.
+PAGES = ("FAQ", "FORMATS", "GUIDE", "MACHINES", "OUTPUT", "PROTOCOL", "READERS", "SERVICE", "TYPING")
 UNITS = ("composecheck.service", "composecheck.socket", "composecheck-update@.path", "composecheck-update@.service", "composecheck-update@.timer")
 # Which files of the C library programs are built with; the others are needed where they run.
 DEVELOPMENT = (".a", ".h", ".pc", "/libcomposecheck.so", "/libcomposecheck-client.so")
@@ -116,8 +118,8 @@ def files_of(program, prefix):
         files[f"lib/systemd/user/{name}"] = named(f"share/composecheck/{name}")
     for name, place in COMPLETIONS.items():
         files[place] = read(f"{TOP}/share/completions/{name}")
-    for name in ("FORMATS.md", "MACHINES.md", "OUTPUT.md", "PROTOCOL.md"):
-        files[f"share/doc/composecheck/{name}"] = read(f"{TOP}/docs/{name}")
+    for name in PAGES:
+        files[f"share/doc/composecheck/{name}.md"] = read(f"{TOP}/docs/{name}.md")
     files["share/doc/composecheck/LICENSE"] = read(f"{TOP}/LICENSE")
     return files
 
