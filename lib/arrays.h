@@ -89,7 +89,7 @@ uint32_t composecheck_load(const uint8_t *header, size_t header_length,
                            uint8_t *texts, size_t text_room, uint8_t *long_texts, size_t long_text_room, uint8_t *hints, size_t hint_room,
                            struct composecheck_sizes *sizes, struct composecheck_fault *fault);
 
-/* Whether arrays of any numbers are a table: 1 they are, 0 they are the arrays of no table, 2 no memory. At most as dear as compiling the
+/* Whether arrays of any numbers are a table: 1 they are, 0 they are the arrays of no table, 2 no memory. It takes at most as long as compiling the
  * table. MALLOC */
 uint32_t composecheck_is_table(const struct composecheck_node *nodes, size_t node_count, const struct composecheck_edge *edges, size_t edge_count,
                                const uint8_t *texts, size_t text_count, const uint8_t *long_texts, size_t long_text_count);

@@ -143,7 +143,7 @@ void *composecheck_table_new(const struct composecheck_input *input, size_t *len
 void *composecheck_table_load(const void *in_use, size_t in_use_length, const struct composecheck_input *input, size_t *length,
                               struct composecheck_fault *fault);
 
-/* Whether any bytes at any address are a table: 1 they are, and then every call may have them; 0 they aren't, 2 no memory. At most as dear as
+/* Whether any bytes at any address are a table: 1 they are, and then every call may have them; 0 they aren't, 2 no memory. It takes at most as long as
  * compiling the table. MALLOC */
 uint32_t composecheck_table_is_table(const void *bytes, size_t length);
 
