@@ -5,7 +5,7 @@
   - the pages of docs/made are those that tools/pages.py makes of the sources, and the documents that people write have at most 250 KiB,
   - each function, clause and definition that docs/PROVED.md, docs/DEFINITIONS.md and docs/PROMISE.md name in backquotes is in the sources of its crate, and each
     crate is in one row of docs/ARCHITECTURE.md,
-  - each crate, file, target of make and option that a document names exists, the manual has each option, and there is each fault of OUTPUT, PROTOCOL and the manual,
+  - each crate, file, target of make and option that a document names exists, the manual and the completions have each option, and there is each fault of OUTPUT, PROTOCOL and the manual,
     under its number, and each limit among the numbers of the crates' sources,
   - README has at most 9,216 bytes, the version of the program is that of README, CHANGELOG and the manual, and the headers of which `--version` says
     that the built-in names are those are the ones that packaging/xorgproto has, by its page and by the guide,
@@ -24,6 +24,7 @@ TOP = os.path.abspath(sys.argv[1]) if len(sys.argv) > 1 else os.path.dirname(os.
 MOST_README = 9216
 # Of README.md, CONTRIBUTING.md and docs/*.md together.
 MOST_WRITTEN = 250 * 1024
+COMPLETIONS = {"composecheck.bash": "--", "_composecheck": "--", "composecheck.fish": "-l "}
 MANUALS = ["docs/composecheck.1", "docs/composecheck.5"]
 MOST_COLUMNS = 100
 MOST_PICTURE = 60 * 1024
@@ -218,6 +219,8 @@ def check_commands(results, texts, crates):
     manual = without_roff(texts[MANUALS[0]]).partition("\n.SH OPTIONS\n")[2]
     for word in re.findall(r'name: "([\w-]+)",\s+letter:', crates.texts["compose_arguments"]):
         results.expect(MANUALS[0], f"its section of options has no --{word}", re.search(rf"--{word}(?![\w-])", manual) is not None)
+        for name, begin in COMPLETIONS.items():
+            results.expect(name, f"it has no option {word}", re.search(rf"{begin}{word}(?![\w-])", read(f"share/completions/{name}")) is not None)
     options |= set(re.findall(r"--([\w-]+)", read("tools/gate.py")))
     for document, text in texts.items():
         text = without_roff(text)
