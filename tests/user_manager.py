@@ -25,7 +25,13 @@ SKIPPED = 77
 SERVICE, SOCKET = "composecheck.service", "composecheck.socket"
 
 SOURCES = ("org.gnome.desktop.input-sources", "sources")
-TAKEN_BACK = (0, "composecheck is not used any more. `use.sh` takes a Compose file into use again.\n", "")
+TAKEN_BACK = (0, "composecheck is not used any more. `use.sh` takes a Compose file into use again.\nin use: none\nservice: none runs\n", "")
+# What use.sh advises without an input method on each desktop, and where one of these runs. Each is in no other's advice.
+ADVICE = {"KDE": 'KDE: choose "Fcitx 5" in System Settings, ', "sway": 'sway: put the line "exec fcitx5 -d" into ', "": "X11: im-config -n fcitx5, "}
+METHODS = {"fcitx5": "fcitx5: restart it (fcitx5 -r -d). ", "ibus-daemon": "IBus: run ibus restart, and choose "}
+NO_METHOD, FIRST_INSTALL = "No input method runs. ", "First install the "
+# The file by which use.sh sees that what types in an input method is installed.
+PARTS = {"fcitx5": "fcitx5/addon/composecheck.conf", "ibus-daemon": "ibus/component/composecheck.xml"}
 FIRST = '<Multi_key> <apostrophe> <e> : "ⓔ"\n'
 SECOND = FIRST + '<Multi_key> <apostrophe> <a> : "ⓐ"\n'
 THIRD = SECOND + '<Multi_key> <apostrophe> <o> : "ⓞ"\n'
@@ -88,9 +94,9 @@ class User:
     def systemctl(self, *words):
         return self.run("systemctl", "--user", *words)
 
-    def unit(self, kind):
-        """The name of a unit of updates for the table's file."""
-        return f"composecheck-update@{self.path('tables/Compose')[1:].replace('/', '-')}.{kind}"
+    def unit(self, kind, name="tables/Compose"):
+        """The name of a unit of updates for a file, the table's if none is named."""
+        return f"composecheck-update@{self.path(name)[1:].replace('/', '-')}.{kind}"
 
     def shown(self, unit, name):
         """A property of a unit."""
@@ -222,7 +228,10 @@ def check_use(user, results):
     user.write("tables/Compose", FIRST)
     status, out, err = user.script("use.sh", "tables/Compose")
     results.expect("it is stored, and one sequence of it is typed", (status, out.splitlines()[:2], err), (0, ["stored", "typed: Multi_key apostrophe e -> ⓔ"], ""))
-    results.expect("without an input method it says what to install", "No input method runs. " in out, True)
+    shown = user.run(user.program, "status")[1]
+    results.expect("it ends with what is in use", (out.endswith(f"\n{shown}"), shown.splitlines()[0], shown.splitlines()[-1]),
+                   (True, f"in use: {path}", f"service: serves it on {user.socket}"))
+    results.expect("without an input method it says what to install", NO_METHOD in out, True)
     units = (SOCKET, watch)
     results.expect("at later logins too", [user.systemctl("is-enabled", it)[1] for it in units], ["enabled\n"] * 2)
     results.expect("it runs", [user.shown(it, "ActiveState") for it in (*units, SERVICE)], ["active"] * 3)
@@ -231,7 +240,9 @@ def check_use(user, results):
     user.write("tables/Other", OTHER)
     status, out, err = user.script("use.sh", user.path("tables/Other"))
     results.expect("a file that changes typing is refused", (status, out.splitlines()[:1], err.startswith("use.sh: the table in use stays")), (1, ["keys Multi_key apostrophe e"], True))
+    check_advice(user, path, results)
     check_other_file(user, watch, results)
+    check_two_watches(user, results)
     check_sources(user, path, results)
     results.expect("all is taken back", user.script("unuse.sh"), TAKEN_BACK)
     results.expect("no unit is left", [user.systemctl("is-enabled", it)[1] for it in (*units, SERVICE)], ["disabled\n"] * 3)
@@ -250,12 +261,59 @@ def check_other_file(user, watch, results):
     results.expect("one file is watched", [user.shown(it, "ActiveState") for it in (watch, own)], ["inactive", "active"])
 
 
+def advice(out):
+    """Which of the pieces of advice are in what use.sh prints."""
+    return [it for it in (*ADVICE.values(), *METHODS.values(), NO_METHOD, FIRST_INSTALL) if it in out]
+
+
+def check_advice(user, path, results):
+    """What to choose, on each desktop, by what runs for this user, and what is installed."""
+    for desktop, words in ADVICE.items():
+        status, out, _ = user.script("use.sh", path, XDG_CURRENT_DESKTOP=desktop)
+        results.expect(f"without an input method, desktop {desktop!r}", (status, advice(out)), (0, [words, NO_METHOD]))
+    for method, words in METHODS.items():
+        program, part = user.path(f"bin/{method}"), os.path.join(user.prefix, "share", PARTS[method])
+        shutil.copy(shutil.which("sleep"), program)
+        with subprocess.Popen([program, "600"], user=user.number, group=user.number, extra_groups=[]) as running:
+            until(lambda: method in user.run("ps", "-u", str(user.number), "-o", "comm=")[1].split(), True)
+            status, out, _ = user.script("use.sh", path, XDG_CURRENT_DESKTOP="KDE")
+            results.expect(f"{method} runs", (status, advice(out)), (0, [words, FIRST_INSTALL]))
+            write(os.path.dirname(part), {os.path.basename(part): ""})
+            status, out, _ = user.script("use.sh", path, XDG_CURRENT_DESKTOP="KDE")
+            results.expect(f"{method} runs, and has what it needs", (status, advice(out)), (0, [words]))
+            running.kill()
+        os.remove(part)
+
+
+def check_two_watches(user, results):
+    """Two files are watched, and an update of the first hangs. A third file that is refused leaves both watched; one that is taken ends both, and
+    the update."""
+    user.write("tables/first", SECOND)
+    user.write("tables/second", SECOND)
+    watches = [user.unit("path", f"tables/{it}") for it in ("first", "second")]
+    results.expect("two files are watched", user.systemctl("enable", "--now", *watches)[0], 0)
+    state = lambda: [(user.systemctl("is-enabled", it)[1], user.shown(it, "ActiveState")) for it in watches]
+    user.write("tables/third", OTHER)
+    results.expect("a third is refused", user.script("use.sh", user.path("tables/third"))[0], 1)
+    results.expect("both are watched", state(), [("enabled\n", "active")] * 2)
+    os.mkfifo(user.path("tables/hangs"))
+    user.write("tables/first", 'include "%H/tables/hangs"\n')
+    update = user.unit("service", "tables/first")
+    results.expect("an update hangs", until(lambda: user.shown(update, "ActiveState"), "activating"), "activating")
+    user.write("tables/third", THIRD)
+    status, out, _ = user.script("use.sh", user.path("tables/third"))
+    results.expect("a third is taken", (status, out.splitlines()[:2]), (0, ["loaded 1", "stored"]))
+    results.expect("no other is watched", state(), [("disabled\n", "inactive")] * 2)
+    results.expect("nor is one taken", user.shown(update, "ActiveState") in ("inactive", "failed"), True)
+    results.expect("the third is watched", user.shown(user.unit("path", "tables/third"), "ActiveState"), "active")
+
+
 def check_sources(user, path, results):
     """In GNOME the engines of the layouts that somebody has are named, and the layouts are there again afterwards."""
     if user.run("gsettings", "writable", *SOURCES)[1] != "true\n":
         print("no input sources of GNOME here: they are not tried")
         return
-    user.write("tables/Compose", SECOND)
+    user.write("tables/Compose", THIRD)
     given = {"GSETTINGS_BACKEND": "keyfile", "XDG_CURRENT_DESKTOP": "ubuntu:GNOME"}
     chosen, engines = "[('xkb', 'de'), ('xkb', 'us+intl')]", "[('ibus', 'composecheck:de'), ('ibus', 'composecheck:us:intl')]"
     user.run("env", "GSETTINGS_BACKEND=keyfile", "gsettings", "set", *SOURCES, chosen)

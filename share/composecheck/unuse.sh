@@ -1,7 +1,9 @@
 #!/bin/sh
 # unuse.sh: takes back what use.sh has done, and what was chosen then: ends the service and the watch of the file, also at later logins, removes the
 # stored table and the one before it, and takes the engines out of the input sources of GNOME and of IBus. A layout takes the place of its engine.
-# The programs stay installed. The status is 0 if all of it is gone.
+# The programs stay installed. At last it prints what is in use then, as `composecheck status` does. The status is 0 if all of it is gone.
+# $COMPOSECHECK is the program, where it isn't `composecheck` on the path.
+program=${COMPOSECHECK:-composecheck}
 state=${XDG_STATE_HOME:-$HOME/.local/state}/composecheck
 wants=${XDG_CONFIG_HOME:-$HOME/.config}/systemd/user/default.target.wants
 status=0
@@ -40,4 +42,6 @@ for it in sources mru-sources; do
 done
 change org.freedesktop.ibus.general preload-engines "s/(, )?'composecheck[^']*'//g; s/^\[, /[/; s/^\[\]$/@as []/"
 [ "$status" -eq 0 ] && printf 'composecheck is not used any more. `use.sh` takes a Compose file into use again.\n'
+# (the status of this is 1, as nothing is in use)
+! command -v "$program" > /dev/null || "$program" status
 exit "$status"

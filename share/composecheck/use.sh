@@ -1,7 +1,7 @@
 #!/bin/sh
 # use.sh [FILE]: takes a Compose file into use for typing: it stores the table, has systemd serve it now and from each login on and watch the file,
-# types one of its sequences through the service, and prints what to choose on this desktop. Without FILE it is your own Compose file, the one that
-# `composecheck manifest` reads. unuse.sh takes it back.
+# types one of its sequences through the service, and prints what to choose on this desktop, and what is in use (`composecheck status`). Without FILE
+# it is your own Compose file, the one that `composecheck manifest` reads. unuse.sh takes it back.
 # $COMPOSECHECK is the program, where it isn't `composecheck` on the path. The status is 0 if the sequence was typed, that of `composecheck update`
 # where the table isn't stored, and else 1.
 program=${COMPOSECHECK:-composecheck}
@@ -103,3 +103,4 @@ systemctl --user --quiet is-enabled composecheck.service 2> /dev/null || systemc
 systemctl --user --quiet enable --now "composecheck-update@$(systemd-escape -p "$file").path" || fail "$file isn't watched"
 try_typing
 advise
+"$program" status

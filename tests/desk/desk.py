@@ -1,5 +1,6 @@
 """A desk without a person: a display, a message bus, an input method with what `make install` installs of it, a composecheck service, and a
 window to type into. Every process is started here and ended here by its number."""
+import contextlib
 import json
 import os
 import pwd
@@ -209,11 +210,13 @@ class Desk:
 
     # ---- the window
 
-    def start_entry(self, version):
-        """A window of GTK 3 or 4 with two entries, and the focus in the first."""
+    def start_entry(self, version, mode=None):
+        """A window of GTK 3 or 4 with two entries, and the focus in the first. `mode` is whether the module of IBus waits for each key, "0" or "1"."""
         self.entry_file = self.path(f"entry{version}.json")
+        with contextlib.suppress(FileNotFoundError):
+            os.remove(self.entry_file)
         # (the module of ibus 1.5.27 for GTK 4 turns the order of keys round that come while it waits for one, whatever the engine is)
-        self.environment["IBUS_ENABLE_SYNC_MODE"] = "1" if version == "4" else "0"
+        self.environment["IBUS_ENABLE_SYNC_MODE"] = mode or ("1" if version == "4" else "0")
         entry = self.start(PYTHON, os.path.join(HERE, "entry.py"), version, self.entry_file)
         if not self.is_wayland:
             window = wait_for("the window", lambda: self.told("xdotool", "search", "--onlyvisible", "--name", "composecheck trial").split())

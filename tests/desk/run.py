@@ -1,16 +1,20 @@
 #!/usr/bin/env python3
-"""run.py PROGRAM: all trials that need a desktop, on displays that nobody sees: IBus and fcitx5 on X11 and Wayland, GNOME Shell, KWin, browsers, and
-what a key takes.
-What they need of Debian is installed by apt-get where root runs this; else the command is printed. Pictures of what is pending are put into
-packages/pictures. The last line is `N passed, M failed`."""
+"""run.py [--quick] [--times COUNT] [--only NAME].. [PROGRAM]: all trials that need a desktop, on displays that nobody sees: IBus and fcitx5 on X11 and
+Wayland, GNOME Shell, KWin, browsers, and what a key takes.
+What they need of Debian is installed by apt-get where root runs this; else the command is printed. With --quick the program and the C libraries are
+first built without a proof, as `make quick` does, and what a key takes is printed, but not judged. --times runs all of it again. Pictures of what is
+pending are put into packages/pictures. The last line is `N passed, M failed`, over all times."""
+import argparse
 import os
 import re
 import shutil
 import subprocess
 import sys
+import time
 
 HERE = os.path.dirname(os.path.realpath(__file__))
 TOP = os.path.dirname(os.path.dirname(HERE))
+UNPROVED = os.path.join(TOP, "build", "unproved")
 PICTURES = os.path.join(TOP, "packages", "pictures")
 NEEDED = (
     "chromium", "cmake", "dbus-daemon", "fcitx5", "fcitx5-frontend-gtk3", "fcitx5-frontend-gtk4", "firefox-esr", "fonts-dejavu-core", "g++",
@@ -40,29 +44,59 @@ def install(packages):
     subprocess.run(command, check=True, stdout=subprocess.DEVNULL, env={**os.environ, "DEBIAN_FRONTEND": "noninteractive"})
 
 
+def build_unproved():
+    """Builds the program and the C libraries without a proof, as `make quick` does, and returns the program's path. The trials that run after it take
+    the libraries."""
+    sys.path.insert(0, os.path.dirname(HERE))
+    import run as scripts  # (the script of tests/, which has the name of this one)
+
+    program = scripts.built("composecheck")
+    if not program or not scripts.built_libraries():
+        sys.exit("nothing is tried: the program or a library is not built")
+    return program
+
+
 def count(command):
     """Runs a trial, prints what it prints, and returns its counts."""
-    counts = (0, 1)
+    counts, began = (0, 1), time.monotonic()
     with subprocess.Popen(command, stdout=subprocess.PIPE, text=True) as ran:
         for line in ran.stdout:
-            found = re.fullmatch(r"(\d+) passed, (\d+) failed\n", line)
+            found = re.fullmatch(r"(\d+) passed, (\d+) failed(?:; .*)?\n", line)
             if found:
                 counts = int(found[1]), int(found[2])
             else:
                 print(line, end="", flush=True)
+    if ran.returncode != 0 and counts[1] == 0:
+        counts = counts[0], 1
+    words = " ".join(os.path.basename(it) for it in command[1:-1])
+    print(f"== {words}: {counts[0]} passed, {counts[1]} failed, {time.monotonic() - began:.0f} s", flush=True)
     return counts
 
 
+def read_words():
+    words = argparse.ArgumentParser(usage=__doc__.partition(": ")[0], description=__doc__.partition(": ")[2])
+    words.add_argument("--quick", action="store_true", help="the program and the libraries are first built without a proof")
+    words.add_argument("--times", type=int, default=1, metavar="COUNT", help="how often all of it is run (1)")
+    words.add_argument("--only", action="append", metavar="NAME", help="of the trials those of this script, as gnome.py")
+    words.add_argument("program", nargs="?", default="composecheck", metavar="PROGRAM", help="the program (./composecheck)")
+    return words.parse_args()
+
+
 def main():
-    program = os.path.abspath(sys.argv[1])
+    given = read_words()
     lacking = missing()
     if lacking:
         install(lacking)
+    program = build_unproved() if given.quick else os.path.abspath(given.program)
     os.makedirs(PICTURES, exist_ok=True)
     passed, failed = 0, 0
-    for name, *options in TRIALS:
-        more = count([sys.executable, os.path.join(HERE, name), *options, program])
-        passed, failed = passed + more[0], failed + more[1]
+    for time_of_all in range(given.times):
+        for name, *options in TRIALS:
+            if given.only and name not in given.only:
+                continue
+            more = count([sys.executable, os.path.join(HERE, name), *options, program])
+            passed, failed = passed + more[0], failed + more[1]
+        print(f"== time {time_of_all + 1} of {given.times}: {passed} passed, {failed} failed so far", flush=True)
     print(f"{passed} passed, {failed} failed")
     return 1 if failed else 0
 
