@@ -18,7 +18,7 @@ TABLE = "/usr/share/X11/locale/en_US.UTF-8/Compose"
 BLOCK = re.compile(r"^```console\n(.*?)^```$", re.M | re.S)
 UPDATE = "composecheck-update@usr-share-X11-locale-en_US.UTF\\x2d8-Compose"
 # So many seconds may pass until a table of the system is read, by a program that is not proved too.
-LONG = 120
+LONG = 300
 
 
 class Reader(User):
@@ -29,9 +29,8 @@ class Reader(User):
         super().install(program)
 
     def paste(self, block):
-        """The status of a block, and what it prints."""
-        status, out, err = self.run("bash", "-e", "-c", block)
-        return status, out + err
+        """The status of a block, and what it prints to standard output."""
+        return self.run("bash", "-e", "-c", block)[:2]
 
     def is_active(self, *units):
         return [self.shown(it, "ActiveState") for it in units]
@@ -54,7 +53,7 @@ def check_state_home(user, block, results):
     results.expect("a table there", user.run("composecheck", "update", TABLE)[:2], (0, "stored\n"))
     results.expect("the service starts there", (until(lambda: user.types("apostrophe", "e"), "é", LONG), os.path.exists(user.path("kept/composecheck/lock"))), ("é", True))
     # (a load is stored before it is answered)
-    user.write("more", f'include "{TABLE}"\n<Multi_key> <apostrophe> <apostrophe> <apostrophe> <a> : "ⓐ"\n')
+    user.write("more", f'include "{TABLE}"\n<Multi_key> <apostrophe> <q> : "ⓠ"\n')
     status, out, _ = user.run("composecheck", "update", "--timeout", str(LONG), "more")
     results.expect("and can write there", (status, out.splitlines()[-1:]), (0, ["stored"]))
 

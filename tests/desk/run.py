@@ -1,10 +1,11 @@
 #!/usr/bin/env python3
-"""run.py [--quick] [--times COUNT] [--only NAME].. [PROGRAM]: all trials that need a desktop, on displays that nobody sees: IBus and fcitx5 on X11 and
+"""run.py [--quick] [--times COUNT] [--at-once COUNT] [--only NAME].. [PROGRAM]: all trials that need a desktop, on displays that nobody sees: IBus and fcitx5 on X11 and
 Wayland, GNOME Shell, KWin, browsers, and what a key takes.
 What they need of Debian is installed by apt-get where root runs this; else the command is printed. With --quick the program and the C libraries are
-first built without a proof, as `make quick` does, and what a key takes is printed, but not judged. --times runs all of it again. Pictures of what is
-pending are put into packages/pictures. The last line is `N passed, M failed`, over all times."""
+first built without a proof, as `make quick` does. --times runs all of it again. Pictures of what is pending are put into packages/pictures. The last
+line is `N passed, M failed`, over all times."""
 import argparse
+import concurrent.futures
 import os
 import re
 import shutil
@@ -24,8 +25,10 @@ NEEDED = (
 SHOWN = ("--pictures", PICTURES)
 TRIALS = (
     ("trial.py", *SHOWN), ("trial.py", "--fcitx5", *SHOWN), ("trial.py", "--sway", *SHOWN), ("trial.py", "--fcitx5", "--sway", *SHOWN),
-    ("gnome.py",), ("kde.py",), ("browsers.py",), ("measure.py",), ("upgrade.py",),
+    ("gnome.py",), ("kde.py",), ("browsers.py",), ("measure.py",), ("upgrade.py",), ("page.py",), ("busy.py",),
 )
+# Those for which it matters what else the machine does: they come last, one after another.
+ALONE = {"busy.py", "measure.py"}
 
 
 def missing():
@@ -57,26 +60,32 @@ def build_unproved():
 
 
 def count(command):
-    """Runs a trial, prints what it prints, and returns its counts."""
+    """Runs a trial, prints what it prints below its name, and returns its counts."""
     counts, began = (0, 1), time.monotonic()
-    with subprocess.Popen(command, stdout=subprocess.PIPE, text=True) as ran:
-        for line in ran.stdout:
-            found = re.fullmatch(r"(\d+) passed, (\d+) failed(?:; .*)?\n", line)
-            if found:
-                counts = int(found[1]), int(found[2])
-            else:
-                print(line, end="", flush=True)
-    if ran.returncode != 0 and counts[1] == 0:
-        counts = counts[0], 1
+    ran = subprocess.run(command, stdout=subprocess.PIPE, stderr=subprocess.STDOUT, text=True, errors="replace", check=False)
+    *lines, last = ran.stdout.splitlines() or [""]
+    found = re.fullmatch(r"(\d+) passed, (\d+) failed(?:; .*)?", last)
+    if found:
+        # (one that ends otherwise than by its counts has failed, whatever they are)
+        counts = int(found[1]), int(found[2]) or int(ran.returncode != 0)
     words = " ".join(os.path.basename(it) for it in command[1:-1])
-    print(f"== {words}: {counts[0]} passed, {counts[1]} failed, {time.monotonic() - began:.0f} s", flush=True)
+    print("\n".join([f"== {words}, {time.monotonic() - began:.0f} s", *lines, last]), flush=True)
     return counts
+
+
+def run_all(commands, at_once):
+    """Runs trials, so many at once, those that measure alone and last, and returns their counts."""
+    last = [it for it in commands if os.path.basename(it[1]) in ALONE]
+    with concurrent.futures.ThreadPoolExecutor(at_once) as pool:
+        counts = [*pool.map(count, [it for it in commands if it not in last])]
+    return [sum(it) for it in zip((0, 0), *counts, *map(count, last))]
 
 
 def read_words():
     words = argparse.ArgumentParser(usage=__doc__.partition(": ")[0], description=__doc__.partition(": ")[2])
     words.add_argument("--quick", action="store_true", help="the program and the libraries are first built without a proof")
     words.add_argument("--times", type=int, default=1, metavar="COUNT", help="how often all of it is run (1)")
+    words.add_argument("--at-once", type=int, default=1, metavar="COUNT", help="how many trials run side by side (1)")
     words.add_argument("--only", action="append", metavar="NAME", help="of the trials those of this script, as gnome.py")
     words.add_argument("program", nargs="?", default="composecheck", metavar="PROGRAM", help="the program (./composecheck)")
     return words.parse_args()
@@ -89,14 +98,12 @@ def main():
         install(lacking)
     program = build_unproved() if given.quick else os.path.abspath(given.program)
     os.makedirs(PICTURES, exist_ok=True)
+    commands = [[sys.executable, os.path.join(HERE, name), *options, program] for name, *options in TRIALS if not given.only or name in given.only]
     passed, failed = 0, 0
-    for time_of_all in range(given.times):
-        for name, *options in TRIALS:
-            if given.only and name not in given.only:
-                continue
-            more = count([sys.executable, os.path.join(HERE, name), *options, program])
-            passed, failed = passed + more[0], failed + more[1]
-        print(f"== time {time_of_all + 1} of {given.times}: {passed} passed, {failed} failed so far", flush=True)
+    for number in range(given.times):
+        more = run_all(commands, given.at_once)
+        passed, failed = passed + more[0], failed + more[1]
+        print(f"== all, {number + 1} of {given.times}: {more[0]} passed, {more[1]} failed", flush=True)
     print(f"{passed} passed, {failed} failed")
     return 1 if failed else 0
 

@@ -149,7 +149,9 @@ def try_focus(trials):
     expect("the other entry has the focus", focus=1)
     type_keys("e")
     expect("a sequence doesn't follow the focus", texts=["", "e"])
+    # (an application that waits for its input method gives a key to what has the focus when the answer comes, so the click waits)
     type_keys("BackSpace")
+    expect("BackSpace goes where the focus is", texts=["", ""], focus=1)
     trials.desk.click(100, 15)
     expect("back", texts=["", ""], focus=0)
 
