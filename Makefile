@@ -14,6 +14,7 @@
 # make release        what the page of a release holds, in packages/release: the archive, apt/ with the packages, sums, and with LLVM=FOLDER an archive of modules
 # make test-packages  looks at what the packages hold
 # make desk           types into windows through IBus and fcitx5, also in GNOME Shell and KWin, on displays that nobody sees (docs/TYPING.md)
+# make desk-quick     the same, on a program and libraries that are built without a proof
 # make pages          writes docs/made anew, what each crate promises and defines, from the sources: after a doc, a contract or a comment in specs/ changed
 # make names          writes the built-in names anew from HEADERS (those in packaging/xorgproto), and prints what changed
 # make compose_trials proves and builds ./compose_trials, which `make real` and `make bench` need too
@@ -190,6 +191,10 @@ test-packages: composecheck
 desk: composecheck lib
 	python3 tests/desk/run.py ./composecheck
 
+desk-quick:
+	$(NEEDS_KIT)
+	python3 tests/desk/run.py --quick
+
 pages:
 	python3 tools/pages.py
 
@@ -223,4 +228,4 @@ bench: composecheck compose_trials $(LIBRARY)
 clean:
 	rm -rf composecheck compose_trials compose_as_reader packages build crates/*/out
 
-.PHONY: all help try lib lib-client install-lib install-client install-ibus install-fcitx5 peers rim quick test test-anew test-whole install uninstall dist deb release test-packages desk pages names real bench clean
+.PHONY: all help try lib lib-client install-lib install-client install-ibus install-fcitx5 peers rim quick test test-anew test-whole install uninstall dist deb release test-packages desk desk-quick pages names real bench clean

@@ -25,6 +25,7 @@ SKIPPED = 77
 SERVICE, SOCKET = "composecheck.service", "composecheck.socket"
 
 SOURCES = ("org.gnome.desktop.input-sources", "sources")
+PRELOADED = ("org.freedesktop.ibus.general", "preload-engines")
 TAKEN_BACK = (0, "composecheck is not used any more. `use.sh` takes a Compose file into use again.\nin use: none\nservice: none runs\n", "")
 # What use.sh advises without an input method on each desktop, and where one of these runs. Each is in no other's advice.
 ADVICE = {"KDE": 'KDE: choose "Fcitx 5" in System Settings, ', "sway": 'sway: put the line "exec fcitx5 -d" into ', "": "X11: im-config -n fcitx5, "}
@@ -112,9 +113,13 @@ class User:
         given = [f"{it}={value}" for it, value in {"COMPOSECHECK": self.program, **settings}.items()]
         return self.run("env", *given, os.path.join(self.prefix, "share", "composecheck", name), *words)
 
+    def setting(self, *words):
+        """What `gsettings` does with a setting in the home, and prints."""
+        return self.run("env", "GSETTINGS_BACKEND=keyfile", "gsettings", *words)[1].strip()
+
     def sources(self):
         """The input sources of GNOME."""
-        return self.run("env", "GSETTINGS_BACKEND=keyfile", "gsettings", "get", *SOURCES)[1].strip()
+        return self.setting("get", *SOURCES)
 
     def types(self, *keys):
         """The text of the last key, typed in a session of its own; or what is refused."""
@@ -310,19 +315,25 @@ def check_two_watches(user, results):
 
 def check_sources(user, path, results):
     """In GNOME the engines of the layouts that somebody has are named, and the layouts are there again afterwards."""
-    if user.run("gsettings", "writable", *SOURCES)[1] != "true\n":
+    if user.setting("writable", *SOURCES) != "true":
         print("no input sources of GNOME here: they are not tried")
         return
     user.write("tables/Compose", THIRD)
     given = {"GSETTINGS_BACKEND": "keyfile", "XDG_CURRENT_DESKTOP": "ubuntu:GNOME"}
     chosen, engines = "[('xkb', 'de'), ('xkb', 'us+intl')]", "[('ibus', 'composecheck:de'), ('ibus', 'composecheck:us:intl')]"
-    user.run("env", "GSETTINGS_BACKEND=keyfile", "gsettings", "set", *SOURCES, chosen)
+    user.setting("set", *SOURCES, chosen)
     status, out, _ = user.script("use.sh", path, **given)
     command = re.search(r"gsettings set .*", out)
     results.expect("the engines of the layouts are named", (status, command is not None and engines in command[0]), (0, True))
     results.expect("the command sets them", (user.run("env", "GSETTINGS_BACKEND=keyfile", "sh", "-c", command[0])[0], user.sources()), (0, engines))
     results.expect("unuse.sh", user.script("unuse.sh", **given), TAKEN_BACK)
     results.expect("the layouts are there again", user.sources(), chosen)
+    if user.setting("writable", *PRELOADED) != "true":
+        print("no engines of IBus here: they are not tried")
+        return
+    for before, after in (("['composecheck:de', 'xkb:us::eng']", "['xkb:us::eng']"), ("['xkb:us::eng', 'composecheck']", "['xkb:us::eng']"), ("['composecheck']", "@as []")):
+        user.setting("set", *PRELOADED, before)
+        results.expect(f"of the engines {before}", (user.script("unuse.sh", **given)[0], user.setting("get", *PRELOADED)), (0, after))
 
 
 def check_socket(user, results):

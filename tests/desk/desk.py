@@ -20,19 +20,21 @@ from typing_service import TypingService  # noqa: E402
 # (the one that Debian's python3-gi is for)
 PYTHON = "/usr/bin/python3"
 SCHEMA = "org.freedesktop.ibus.engine.composecheck"
+# How many times as long as on a machine that does nothing else everything may take.
+PATIENCE = float(os.environ.get("DESK_PATIENCE", "1"))
 # Whether ibus-daemon has the process that shows lists.
 HAS_PANEL = "import gi; gi.require_version('IBus', '1.0'); from gi.repository import IBus; IBus.init(); print(IBus.Bus().name_has_owner('org.freedesktop.IBus.Panel'))"
 
 
 def wait_for(what, condition, seconds=20.0):
     """Returns the first true answer of the condition."""
-    end = time.monotonic() + seconds
+    end = time.monotonic() + seconds * PATIENCE
     while time.monotonic() < end:
         got = condition()
         if got:
             return got
         time.sleep(0.01)
-    raise TimeoutError(f"waited {seconds} s for {what}")
+    raise TimeoutError(f"waited {seconds * PATIENCE:.0f} s for {what}")
 
 
 class Desk:

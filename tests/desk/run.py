@@ -1,6 +1,6 @@
 #!/usr/bin/env python3
-"""run.py [--quick] [--times COUNT] [--at-once COUNT] [--only NAME].. [PROGRAM]: all trials that need a desktop, on displays that nobody sees: IBus and fcitx5 on X11 and
-Wayland, GNOME Shell, KWin, browsers, and what a key takes.
+"""run.py [--quick] [--times COUNT] [--at-once COUNT] [--patience TIMES] [--only NAME].. [PROGRAM]: all trials that need a desktop, on displays that nobody
+sees: IBus and fcitx5 on X11 and Wayland, GNOME Shell, KWin, browsers, and what a key takes.
 What they need of Debian is installed by apt-get where root runs this; else the command is printed. With --quick the program and the C libraries are
 first built without a proof, as `make quick` does. --times runs all of it again. Pictures of what is pending are put into packages/pictures. The last
 line is `N passed, M failed`, over all times."""
@@ -86,6 +86,7 @@ def read_words():
     words.add_argument("--quick", action="store_true", help="the program and the libraries are first built without a proof")
     words.add_argument("--times", type=int, default=1, metavar="COUNT", help="how often all of it is run (1)")
     words.add_argument("--at-once", type=int, default=1, metavar="COUNT", help="how many trials run side by side (1)")
+    words.add_argument("--patience", type=float, default=1, metavar="TIMES", help="how many times as long as usual something may take, as on a busy machine (1)")
     words.add_argument("--only", action="append", metavar="NAME", help="of the trials those of this script, as gnome.py")
     words.add_argument("program", nargs="?", default="composecheck", metavar="PROGRAM", help="the program (./composecheck)")
     return words.parse_args()
@@ -98,6 +99,7 @@ def main():
         install(lacking)
     program = build_unproved() if given.quick else os.path.abspath(given.program)
     os.makedirs(PICTURES, exist_ok=True)
+    os.environ["DESK_PATIENCE"] = str(given.patience)
     commands = [[sys.executable, os.path.join(HERE, name), *options, program] for name, *options in TRIALS if not given.only or name in given.only]
     passed, failed = 0, 0
     for number in range(given.times):

@@ -10,7 +10,7 @@ import sys
 import threading
 import time
 
-from desk import HERE, PYTHON, Desk, end, wait_for
+from desk import HERE, PATIENCE, PYTHON, Desk, end, wait_for
 
 MULTI, ACUTE, APOSTROPHE, F1, PAGE_DOWN = 0xFF20, 0xFE51, 0x27, 0xFFBE, 0xFF56
 # What is printed of what is logged: where the service isn't reached, where it is again, where there is no list, and where a script fails, which counts
@@ -19,7 +19,7 @@ TOLD = ("no reply", "nobody listens", "composecheck.socket answers", "not listed
 
 
 # So many seconds without a change are an end.
-STILL = 20.0
+STILL = 20.0 * PATIENCE
 
 
 class Trials:
