@@ -241,13 +241,13 @@ class Desk:
         self.run("xdotool", "key", "--delay", str(delay), *keys)
 
     def start_typing(self, *keys):
-        """Begins to press and release keys under Wayland, and returns at once; a number is a pause in milliseconds.
+        """Begins to press and release keys under Wayland, and returns at once; a number is a pause in milliseconds, in which a trial looks at what is there.
 
         All keys of a trial come from one process of wtype, since each brings a keyboard with another layout: the focus leaves for a moment, and
         that ends a sequence. So the first key waits, too. And sway 1.7 may end when a keyboard comes after another one has gone: so none goes."""
         command = ["wtype", "-d", "12", "-s", "1000"]
         for it in (*keys, 600_000):
-            command += ["-s", str(it)] if isinstance(it, int) else ["-k", it]
+            command += ["-s", str(round(it * PATIENCE))] if isinstance(it, int) else ["-k", it]
         self.start(*command)
 
     def click(self, x, y):
