@@ -254,6 +254,11 @@ def check_use(user, results):
     results.expect("nothing runs", [user.shown(it, "ActiveState") for it in (*units, SERVICE)], ["inactive"] * 3)
     results.expect("no table is left", (os.path.exists(user.state), os.path.exists(user.socket)), (False, False))
     results.expect("it can be taken back again", user.script("unuse.sh"), TAKEN_BACK)
+    # (of the names of keysyms a session knows few, unless it is given all)
+    user.write("tables/Greek", '<Greek_accentdieresis> <Greek_iota> : "\u0390"\n')
+    status, out, _ = user.script("use.sh", user.path("tables/Greek"))
+    results.expect("a sequence of keys with other names is typed", (status, out.splitlines()[:2]), (0, ["stored", "typed: Greek_accentdieresis Greek_iota -> \u0390"]))
+    results.expect("and taken back", user.script("unuse.sh"), TAKEN_BACK)
     os.remove(user.path(".XCompose"))
 
 

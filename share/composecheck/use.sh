@@ -33,7 +33,7 @@ try_typing() {
     text=$(printf '%s\n' "$line" | sed -n 's/^[^"]*"\([^"]*\)".*/\1/p')
     [ -n "$text" ] || fail "$file has no sequence with a text"
     # shellcheck disable=SC2086 # (each key is a word)
-    typed=$("$program" session --open --close "$socket" "$$" $keys 2>&1) || fail "the service doesn't type: $typed"
+    typed=$("$program" session --names builtin --open --close "$socket" "$$" $keys 2>&1) || fail "the service doesn't type: $typed"
     case $typed in
     *"\"$text\""*) printf 'typed: %s-> %s\n' "$keys" "$text" ;;
     *) fail "the service types another table: $keys should give $text, and gives: $typed" ;;

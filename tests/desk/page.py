@@ -17,7 +17,7 @@ from desk import HERE, PYTHON, end, wait_for
 TOP = os.path.dirname(os.path.dirname(HERE))
 from harness import COUNTS, Results  # noqa: E402
 from machine import Typist  # noqa: E402
-from user_manager import MANAGER, SKIPPED  # noqa: E402
+from user_manager import MANAGER, SKIPPED, TAKEN_BACK  # noqa: E402
 
 PAGE = os.path.join(TOP, "docs", "TYPING.md")
 BLOCK = re.compile(r"^```console\n(.*?)^```$", re.M | re.S)
@@ -138,7 +138,7 @@ def check_commands(person, method, results):
 def check_use(person, method, out, results):
     """use.sh stores the table, types a sequence of it, names what is to be chosen where this input method runs, and ends with what is in use."""
     printed = out.splitlines()
-    results.expect("the table is stored, and typed", (printed[0], printed[1][:7]), ("stored", "typed: "))
+    results.expect("it says which file, that it is stored, and what was typed", [it.split(":")[0] for it in printed[:3]], ["note", "stored", "typed"])
     results.expect("how to choose it", (f"{'IBus' if method == 'ibus' else 'fcitx5'}: " in out, "First install" in out, "No input method runs" in out), (True, False, False))
     status = person.run(person.program, "status")[1].splitlines()
     results.expect("what is in use", printed[-len(status):], status)
@@ -160,7 +160,7 @@ def check_typing(person, method, results):
 def check_taken_back(person, method, results):
     """unuse.sh, and apt, leave nothing."""
     status, out = person.paste("/usr/share/composecheck/unuse.sh")
-    results.expect("unuse.sh", (status, out.splitlines()[-1:]), (0, ["composecheck is not used any more. `use.sh` takes a Compose file into use again."]))
+    results.expect("unuse.sh", (status, out.splitlines()), (0, list(TAKEN_BACK[1].splitlines())))
     results.expect("no file is left in the home, but the caches of input methods", [it for it in person.files() if "/.cache/" not in it], [])
     names = subprocess.run("dpkg-query -W -f '${Package}\\n' | grep composecheck", shell=True, capture_output=True, text=True, check=False).stdout.split()
     files = [it for it in subprocess.run(["dpkg", "-L", *names], capture_output=True, text=True, check=True).stdout.split("\n") if os.path.isfile(it)]
@@ -186,7 +186,7 @@ def run_beside(folder, method):
     finally:
         person.get_up()
     if results.failed:
-        print("the manager and its services printed:", person.log()[-4000:], sep="\n")
+        print("the manager and its services printed:", *(it for it in person.log().splitlines() if "composecheck" in it), sep="\n")
     return results.end()
 
 
