@@ -24,6 +24,9 @@ LONG = 300
 class Reader(User):
     """Somebody who pastes what the page has."""
 
+    # (a program that is not proved reads a table of the system for long)
+    MOST_SECONDS = 900
+
     def install(self, program):
         self.settings["PATH"] = f"{self.prefix}/bin:{self.settings['PATH']}"
         super().install(program)

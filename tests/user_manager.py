@@ -53,6 +53,9 @@ printf 'notified %s\\n' "$@"
 class User:
     """The user of the manager: its home with the program, the units and the tables, and what it runs."""
 
+    # So many seconds may a command take.
+    MOST_SECONDS = 120
+
     def __init__(self, folder):
         self.number, self.home, self.runtime = int(os.environ["MANAGED"]), os.environ["HOME"], os.environ["XDG_RUNTIME_DIR"]
         self.folder, self.prefix, self.state = folder, self.path("prefix"), self.path(".local/state/composecheck")
@@ -89,7 +92,7 @@ class User:
     def run(self, *words):
         """Runs a command as the user, and returns its status and what it prints to standard output and standard error."""
         options = {"cwd": self.home, "env": self.settings, "user": self.number, "group": self.number, "extra_groups": []}
-        ran = subprocess.run(words, stdin=subprocess.DEVNULL, capture_output=True, text=True, timeout=120, **options)
+        ran = subprocess.run(words, stdin=subprocess.DEVNULL, capture_output=True, text=True, timeout=self.MOST_SECONDS, **options)
         return ran.returncode, ran.stdout, ran.stderr
 
     def systemctl(self, *words):

@@ -46,6 +46,8 @@ def commands(method):
 class Person(Typist):
     """Somebody at a desktop with an input method, who has a Compose file."""
 
+    MOST_SECONDS = 900
+
     def __init__(self, folder):
         super().__init__(folder)
         self.packages, self.processes = os.path.join(folder, "packages"), []
@@ -88,7 +90,7 @@ class Person(Typist):
         is_root = line.startswith("sudo ")
         who = {} if is_root else {"user": self.number, "group": self.number, "extra_groups": [], "env": self.settings}
         ran = subprocess.run(["bash", "-c", line.removeprefix("sudo ")], cwd=self.packages, stdin=subprocess.DEVNULL, stdout=subprocess.PIPE, stderr=subprocess.STDOUT,
-                             text=True, timeout=600, check=False, **who)
+                             text=True, timeout=self.MOST_SECONDS, check=False, **who)
         return ran.returncode, ran.stdout
 
     def start_window(self):
