@@ -42,7 +42,7 @@ COMPLETIONS = {
     "composecheck.fish": "share/fish/vendor_completions.d/composecheck.fish",
 }
 # The documents for those who use it, without a source tree.
-PAGES = ("FAQ", "FORMATS", "GUIDE", "MACHINES", "OUTPUT", "PROTOCOL", "READERS", "SERVICE", "TYPING")
+PAGES = (*(f"{it}.md" for it in ("FAQ", "FORMATS", "GUIDE", "MACHINES", "OUTPUT", "PROTOCOL", "READERS", "SERVICE", "TYPING")), "list.png")
 UNITS = ("composecheck.service", "composecheck.socket", "composecheck-update@.path", "composecheck-update@.service", "composecheck-update@.timer")
 # Which files of the C library programs are built with; the others are needed where they run.
 DEVELOPMENT = (".a", ".h", ".pc", "/libcomposecheck.so", "/libcomposecheck-client.so")
@@ -119,7 +119,7 @@ def files_of(program, prefix):
     for name, place in COMPLETIONS.items():
         files[place] = read(f"{TOP}/share/completions/{name}")
     for name in PAGES:
-        files[f"share/doc/composecheck/{name}.md"] = read(f"{TOP}/docs/{name}.md")
+        files[f"share/doc/composecheck/{name}"] = read(f"{TOP}/docs/{name}")
     files["share/doc/composecheck/LICENSE"] = read(f"{TOP}/LICENSE")
     return files
 
