@@ -37,6 +37,12 @@ def wait_for(what, condition, seconds=20.0):
     raise TimeoutError(f"waited {seconds * PATIENCE:.0f} s for {what}")
 
 
+def parent_of(process):
+    """The number of the process that started a process."""
+    with open(f"/proc/{process}/stat", encoding="ascii") as file:
+        return int(file.read().rpartition(")")[2].split()[1])
+
+
 class Desk:
     def __init__(self, program):
         self.service = TypingService(program)
@@ -102,7 +108,7 @@ class Desk:
         folder = tempfile.mkdtemp(prefix="desk-sway-")
         self.folders.append(folder)
         with open(os.path.join(folder, "config"), "w", encoding="utf-8") as file:
-            file.write("output HEADLESS-1 resolution 640x200\ndefault_border none\nxwayland disable\n")
+            file.write("output HEADLESS-1 resolution 640x200\ndefault_border none\nxwayland disable\ninput type:keyboard repeat_rate 0\n")
         command = ["sway", "-c", os.path.join(folder, "config")]
         if os.geteuid() == 0:
             nobody = pwd.getpwnam("nobody")
@@ -166,7 +172,8 @@ class Desk:
     def kill_engine(self):
         """Kills the process of the engine, and waits until there is another one that types."""
         before = self.engine_processes()
-        os.kill(max(before), signal.SIGKILL)
+        types, = (it for it in before if parent_of(it) in before)
+        os.kill(types, signal.SIGKILL)
         wait_for("another engine", lambda: len(set(self.engine_processes()) - set(before)) == 1)
         # (it has to tell the daemon that it is there)
         time.sleep(2)

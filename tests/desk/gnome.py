@@ -59,6 +59,8 @@ class Gnome(Desk):
         self.install_engine()
         self.run("glib-compile-schemas", f"{self.prefix}/share/glib-2.0/schemas")
         self.run("gsettings", "set", "org.gnome.desktop.input-sources", "xkb-options", "['compose:menu']")
+        # (a key that a slow machine holds down is not repeated)
+        self.run("gsettings", "set", "org.gnome.desktop.peripherals.keyboard", "repeat", "false")
         self.choose_sources([xkb("us")], xkb("us"))
         self.start("gnome-shell", "--headless", "--wayland", "--no-x11", "--virtual-monitor", "1280x720", "--wayland-display", "desk-gnome")
         wait_for("GNOME Shell", lambda: os.path.exists(self.path("desk-gnome")), 120)

@@ -24,6 +24,8 @@ class Kde(Desk):
         self.environment.update(XDG_CURRENT_DESKTOP="KDE", XDG_SESSION_TYPE="wayland", LIBGL_ALWAYS_SOFTWARE="1", KWIN_WAYLAND_NO_PERMISSION_CHECKS="1", KWIN_COMPOSE="Q")
         self.prepare_fcitx5("de")
         self.write("config/kxkbrc", "[Layout]\nUse=true\nLayoutList=de\nOptions=compose:menu\nResetOldOptions=true\n")
+        # (a key that a slow machine holds down is not repeated)
+        self.write("config/kcminputrc", "[Keyboard]\nKeyRepeat=nothing\n")
         self.write("fcitx5.sh", f"#!/bin/sh\nexec fcitx5 {' '.join(self.FCITX5)}\n")
         os.chmod(self.path("fcitx5.sh"), 0o755)
         display = self.path("desk-kwin")
