@@ -65,8 +65,11 @@ def try_browser(trials):
     expect("sequences between letters", text="aBß1ⓔxé")
     type_keys("dead_acute", "x", delay=60)
     expect("a cancelled dead key becomes an accent", text="aBß1ⓔxé´x")
-    type_keys(*["BackSpace"] * 9, delay=60)
-    expect("BackSpace erases characters", text="")
+    # (one after another: Firefox loses some that come quickly on a busy machine, through ibus' own engine too)
+    text = "aBß1ⓔxé´x"
+    for end_at in range(len(text) - 1, -1, -1):
+        type_keys("BackSpace", delay=60)
+        expect("BackSpace erases a character", text=text[:end_at])
     type_keys(*["Multi_key", "apostrophe", "e", "x", "dead_acute", "e"] * 10, delay=12)
     expect("60 keys, 12 ms apart", text="ⓔxé" * 10)
 
