@@ -44,7 +44,7 @@ class SourcePackages:
         self.words = [it for key, value in settings.items() for it in ("-o", f"{key}={value}")]
 
     def run(self, *words, where):
-        ran = subprocess.run(["apt-get", *self.words, *words], cwd=where, check=False, capture_output=True, text=True, timeout=300)
+        ran = subprocess.run(["apt-get", *self.words, *words], cwd=where, check=False, capture_output=True, text=True, timeout=1800)
         if ran.returncode:
             raise Unfetched(f"apt-get {' '.join(words)}: {(ran.stderr.splitlines() or ['failed'])[-1]}")
 
