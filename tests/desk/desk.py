@@ -252,8 +252,8 @@ class Desk:
 
         All keys of a trial come from one process of wtype, since each brings a keyboard with another layout: the focus leaves for a moment, and
         that ends a sequence. So the first key waits, too. And sway 1.7 may end when a keyboard comes after another one has gone: so none goes."""
-        command = ["wtype", "-d", "12", "-s", "1000"]
-        for it in (*keys, 600_000):
+        command = ["wtype", "-d", "12"]
+        for it in (1000, *keys, 600_000):
             command += ["-s", str(round(it * PATIENCE))] if isinstance(it, int) else ["-k", it]
         self.start(*command)
 
