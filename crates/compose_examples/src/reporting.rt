@@ -79,8 +79,11 @@ fn is_reported_of(
 fn each_sequence_is_printed_as_last_defined(rt: HostRuntime) -> Result<(), Fail> {
     let text =
         "changed: <Multi_key> <U0061> \"y\" \"z\" OLD:3 NEW:1 now: none\nremoved: <Multi_key> <b> \"b\" OLD:4 now: none\nnew start: <dead_acute> <a> \"á\" NEW:3\nadded: <Multi_key> <c> \"c\" NEW:2\ndiff: 0 kept, 1 changed, 0 waiting, 1 removed, 1 new start, 1 added, 0 accepted; 2 texts lost\n";
-    assert!(rt; is_reported(rt.alloc(), "", Form::Folded, true, text)?);
     assert!(rt; is_reported(rt.alloc(), "", Form::Lines, true, text)?);
+    let folded = format!(in rt.alloc();
+        "{text}merge: would keep 2 of OLD's sequences and add 1 of NEW's\n"
+    )?;
+    assert!(rt; is_reported(rt.alloc(), "", Form::Folded, true, &folded)?);
     Ok(())
 }
 
@@ -109,7 +112,7 @@ fn lost_text_is_typed_by_the_first_of_the_shortest(rt: HostRuntime) -> Result<()
     let old = "<a> <b> : \"x\"\n";
     let new = "<b> <c> <d> : \"x\"\n<c> <a> : \"x\"\n<b> <d> : \"x\"\n";
     let text =
-        "removed: <a> <b> \"x\" OLD:1 now: <b> <d> NEW:3\nnew start: <b> <c> <d> \"x\" NEW:1\nnew start: <c> <a> \"x\" NEW:2\nnew start: <b> <d> \"x\" NEW:3\ndiff: 0 kept, 0 changed, 0 waiting, 1 removed, 3 new starts, 0 added, 0 accepted; 0 texts lost\n";
+        "removed: <a> <b> \"x\" OLD:1 now: <b> <d> NEW:3\nnew start: <b> <c> <d> \"x\" NEW:1\nnew start: <c> <a> \"x\" NEW:2\nnew start: <b> <d> \"x\" NEW:3\ndiff: 0 kept, 0 changed, 0 waiting, 1 removed, 3 new starts, 0 added, 0 accepted; 0 texts lost\nmerge: would keep 1 of OLD's sequences and add 0 of NEW's\n";
     assert!(rt; is_reported_of(rt.alloc(), (old, new), "", Form::Folded, true, text)?);
     Ok(())
 }
