@@ -107,7 +107,7 @@ def commands():
     runs = [(it, PROGRAM) for it in ("refusals.py", "diff.py", "merge.py", "how.py", "lint.py")]
     runs += [(it, program) for it in ("cases.py", "service.py", "limits.py") for program in (PROGRAM, plain)]
     runs += [("devices.py", trials), ("calls.py", trials), ("network.py", trials)]
-    runs += [(it, PROGRAM) for it in ("once.py", "packages.py", "lex_reference.py", "own_file.py", "at_once.py", "streams.py", "update.py", "outputs.py", "ci.py", "readme.py", "client.py", "installed.py", "user_manager.py", "machine.py", "consoles.py")]
+    runs += [(it, PROGRAM) for it in ("once.py", "packages.py", "lex_reference.py", "own_file.py", "at_once.py", "streams.py", "update.py", "outputs.py", "ci.py", "readme.py", "client.py", "installed.py", "user_manager.py", "service_page.py", "machine.py", "consoles.py")]
     runs += [("snippets.py", PROGRAM), ("valid_pages.py", PROGRAM), ("makefile.py",), ("any_body.py",), ("documents.py",)]
     return [script(*it) for it in runs]
 
