@@ -61,12 +61,12 @@ was_merged payload text new sources e (b, is, same) = (text, b, is, same ∙ e)
 pub unread_merged : (a : Asked) (fresh : List (List ℕ)) (current : TableFile) (files : UpdateFiles) (decision : Decision) (outcome : Outcome) (other : Bool) (lines payload : List ℕ)
     → current.payload ≡ payload → lines ≡ files.names.lines.items → other ≡ is_other a (Some current) → IsTrue other → IsUnreadable lines payload → PrintsErrors unread InputRefused outcome
     → IsUnnoted (takings.Refused outcome) decision → BecomesMerged a fresh current files decision
-unread_merged a fresh current files decision outcome other lines payload is same o yes u prints n =
+unread_merged a fresh current files decision outcome other lines payload is same o here u prints n =
     inr (inl (
       outcome,
       n,
       (
-        subst IsTrue o yes,
+        subst IsTrue o here,
         subst (λ p. IsUnreadable files.names.lines.items p) (sym is) (subst (λ l. IsUnreadable l payload) same u),
         prints,
       ),
