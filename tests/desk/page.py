@@ -65,7 +65,7 @@ class Person(Typist):
             self.start("ibus-daemon", "--xim", "--replace")
             wait_for("ibus-daemon", lambda: self.run("ibus", "address")[1].startswith("unix:"), 60)
         else:
-            self.run("fcitx5", "-d")
+            self.start("fcitx5", "-d")
             wait_for("fcitx5", self.has_fcitx5, 60)
 
     def has_fcitx5(self):
@@ -89,9 +89,12 @@ class Person(Typist):
         """Runs a command of the page where the packages are, as root if it begins with sudo: its status, and what it prints."""
         is_root = line.startswith("sudo ")
         who = {} if is_root else {"user": self.number, "group": self.number, "extra_groups": [], "env": self.settings}
-        ran = subprocess.run(["bash", "-c", line.removeprefix("sudo ")], cwd=self.packages, stdin=subprocess.DEVNULL, stdout=subprocess.PIPE, stderr=subprocess.STDOUT,
-                             text=True, timeout=self.MOST_SECONDS, check=False, **who)
-        return ran.returncode, ran.stdout
+        # (no pipe: what goes on in the background would keep it open)
+        with tempfile.TemporaryFile("w+", encoding="utf-8") as printed:
+            ran = subprocess.run(["bash", "-c", line.removeprefix("sudo ")], cwd=self.packages, stdin=subprocess.DEVNULL, stdout=printed, stderr=subprocess.STDOUT,
+                                 timeout=self.MOST_SECONDS, check=False, **who)
+            printed.seek(0)
+            return ran.returncode, printed.read()
 
     def start_window(self):
         """A window of GTK 3 with an entry, which has the focus."""
