@@ -15,7 +15,6 @@ import time
 
 HERE = os.path.dirname(os.path.realpath(__file__))
 TOP = os.path.dirname(os.path.dirname(HERE))
-UNPROVED = os.path.join(TOP, "build", "unproved")
 PICTURES = os.path.join(TOP, "packages", "pictures")
 NEEDED = (
     "chromium", "cmake", "dbus-daemon", "fcitx5", "fcitx5-frontend-gtk3", "fcitx5-frontend-gtk4", "firefox-esr", "fonts-dejavu-core", "g++",
