@@ -248,6 +248,7 @@ def check_use(user, results):
     user.write("tables/Other", OTHER)
     status, out, err = user.script("use.sh", user.path("tables/Other"))
     results.expect("a file that changes typing is refused", (status, out.splitlines()[:1], err.startswith("use.sh: the table in use stays")), (1, ["keys Multi_key apostrophe e"], True))
+    check_other_service(user, path, results)
     check_advice(user, path, results)
     check_other_file(user, watch, results)
     check_two_watches(user, results)
@@ -272,6 +273,21 @@ def check_other_file(user, watch, results):
     results.expect("the user's own file", (status, out.splitlines()[:2]), (0, ["loaded 1", "stored"]))
     own = watch.replace("tables-Compose", ".XCompose")
     results.expect("one file is watched", [user.shown(it, "ActiveState") for it in (watch, own)], ["inactive", "active"])
+
+
+def check_other_service(user, path, results):
+    """A service that types another table than the file's is no proof that the file is in use."""
+    state, place = user.path("other-state"), os.path.join(user.runtime, "other.socket")
+    user.write("tables/Else", OTHER)
+    stored = user.run("env", "-u", "XDG_RUNTIME_DIR", user.program, "update", "--state", state, user.path("tables/Else"))
+    results.expect("another table", stored[:2], (0, "stored\n"))
+    words = [user.program, "serve", "--state", state, place]
+    with subprocess.Popen(words, stdout=subprocess.PIPE, text=True, env=user.settings, user=user.number, group=user.number, extra_groups=[]) as serving:
+        serving.stdout.readline()
+        status, out, err = user.script("use.sh", path, COMPOSECHECK_SOCKET=place)
+        results.expect("another service", (status, "typed: " in out, err.startswith("use.sh: the service types another table: ")), (1, False, True))
+        serving.terminate()
+    shutil.rmtree(state)
 
 
 def advice(out):

@@ -2,7 +2,7 @@
 """run.py [--quick] [--times COUNT] [--at-once COUNT] [--patience TIMES] [--only NAME].. [PROGRAM]: all trials that need a desktop, on displays that nobody
 sees: IBus and fcitx5 on X11 and Wayland, GNOME Shell, KWin, browsers, and what a key takes.
 What they need of Debian is installed by apt-get where root runs this; else the command is printed. With --quick the program and the C libraries are
-first built without a proof, as `make quick` does. --times runs all of it again. Pictures of what is pending are put into packages/pictures. The last
+first built without a proof, as `make quick` does, and what a key takes is not measured. --times runs all of it again. Pictures of what is pending are put into packages/pictures. The last
 line is `N passed, M failed`, over all times."""
 import argparse
 import concurrent.futures
@@ -99,7 +99,9 @@ def main():
     program = build_unproved() if given.quick else os.path.abspath(given.program)
     os.makedirs(PICTURES, exist_ok=True)
     os.environ["DESK_PATIENCE"] = str(given.patience)
-    commands = [[sys.executable, os.path.join(HERE, name), *options, program] for name, *options in TRIALS if not given.only or name in given.only]
+    # (a program that is not proved is many times slower)
+    chosen = given.only or {name for name, *_ in TRIALS} - ({"measure.py"} if given.quick else set())
+    commands = [[sys.executable, os.path.join(HERE, name), *options, program] for name, *options in TRIALS if name in chosen]
     passed, failed = 0, 0
     for number in range(given.times):
         more = run_all(commands, given.at_once)
