@@ -348,6 +348,18 @@ static MERGE: CommandRow = CommandRow {
         VERBOSE,
         NAMES,
         FRESH,
+        OptionRow {
+            name: "accept",
+            letter: None,
+            takes: Takes::Value("FILE"),
+            help: "Take the changes that FILE lists from NEW, as diff --accept reads it; refuse a line of it that lists none",
+        },
+        OptionRow {
+            name: "patch",
+            letter: None,
+            takes: Takes::Nothing,
+            help: "Print what makes the merged table of NEW's files, as a unified diff for patch -p0, in place of the table",
+        },
         OVERLAP,
         SKIP_FAULTY,
         SYSTEM,
@@ -657,9 +669,15 @@ static UPDATE: CommandRow = CommandRow {
             help: "Take the new table although typing changes if FILE lists each change, as diff --accept reads it; sessions of a running service begin anew",
         },
         OptionRow {
+            name: "merge",
+            letter: None,
+            takes: Takes::NothingWith(&["accept"]),
+            help: "Take what the new table adds, and leave out what would change anybody's typing",
+        },
+        OptionRow {
             name: "back",
             letter: None,
-            takes: Takes::NothingWith(&["accept", "fresh", "names", "repertoire"]),
+            takes: Takes::NothingWith(&["accept", "fresh", "merge", "names", "repertoire"]),
             help: "Take back the table before the last change, in the place of FILE; sessions begin anew",
         },
         OptionRow {

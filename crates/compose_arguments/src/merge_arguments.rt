@@ -12,6 +12,10 @@ pub struct MergeArguments<'a> {
     pub new: TypeTable<'a>,
     /// Whether faulty lines of both are skipped.
     pub skip_faulty: bool,
+    /// The path of the list of changes that are taken from the new table, if it is given.
+    pub accept: Option<&'a str>,
+    /// Whether a patch of the new files is printed in place of the merged table.
+    pub patch: bool,
 }
 
 /// Returns the arguments of `merge`, if none is missing.
@@ -21,6 +25,8 @@ pub fn merge_arguments<'a>(given: &ArgMatches<'a>) -> Option<MergeArguments<'a>>
         old: TypeTable::File(one_table(&pair, pair.old, pair.old_root)),
         new: TypeTable::File(one_table(&pair, pair.new, pair.new_root)),
         skip_faulty: given.get_flag("skip-faulty"),
+        accept: given.get_str("accept"),
+        patch: given.get_flag("patch"),
     })
 }
 

@@ -11,6 +11,8 @@ pub struct UpdateArguments<'a> {
     pub repertoire: Option<&'a str>,
     /// The path of the list of intended changes, if it is given.
     pub accept: Option<&'a str>,
+    /// Whether the new table is merged into the table in use.
+    pub merge: bool,
     /// Where the table in use is kept and served, and how it is taken into use.
     pub taking: TakingArguments<'a>,
     /// The folder of the system's tables, if it is given; otherwise the environment decides.
@@ -40,6 +42,7 @@ pub fn update_arguments<'a>(given: &ArgMatches<'a>) -> Option<UpdateArguments<'a
         file: given.get_str("FILE")?,
         repertoire: given.get_str("repertoire"),
         accept: given.get_str("accept"),
+        merge: given.get_flag("merge"),
         taking: taking_arguments(given)?,
         system: given.get_str("system"),
         locale: given.get_str("locale"),
