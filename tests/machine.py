@@ -229,7 +229,7 @@ def check_own_table(user, packages, deb, results):
     packages.own('<Multi_key> <asterisk> <asterisk> : "★"\n')
     results.expect("the machine has a new one", '<Multi_key> <asterisk> <asterisk> : "★"\n' in table(), True)
     until(lambda: user.shown(watch, "InactiveEnterTimestampMonotonic") != before, True)
-    results.expect("it is judged", "keys Multi_key plus\n" in user.log(), True)
+    results.expect("it is judged", 'left out: <Multi_key> <plus> "±"' in user.log(), True)
     results.expect("his own stays, and nothing is shown", (user.in_use(), user.types("plus"), user.shows()), (user.path("own"), "+", seen))
 
 

@@ -30,6 +30,8 @@ from harness import Results
 OLD = '<Multi_key> <apostrophe> <e> : "ⓔ"\n<dead_acute> <e> : "é"\n'
 FOLLOWS = OLD + '<Multi_key> <apostrophe> <a> : "ⓐ"\n'
 OTHER = OLD.replace("ⓔ", "ê")
+# An upgrade that takes a sequence away, changes one, and adds two: one of them begins with a new key.
+UPGRADE = '<Multi_key> <apostrophe> <e> : "ê"\n<Multi_key> <apostrophe> <a> : "ⓐ"\n<dead_caron> <c> : "č"\n'
 STARTS = OLD + '<dead_caron> <c> : "č"\n'
 BEHIND = '<Multi_key> <plus> : "±"\n'
 MULTI_KEY, UNICODE = 0xFF20, 0x1000000
@@ -313,6 +315,81 @@ def try_fresh(program, tell):
     with Room(program) as room:
         tell.expect("a table with an include", room.update("behind"), (0, "stored\n", ""))
         tell.expect("both files are kept", sorted(room.kept()), sorted([OLD + 'include "more"\n', BEHIND]))
+
+
+def merged(room):
+    """The table of `old` with `upgrade` merged into it, as `merge` prints it."""
+    kept = f'<dead_acute> <e> : "é"  # {room.path(".", "old")}:2\n<Multi_key> <apostrophe> <e> : "ⓔ"  # {room.path(".", "old")}:1\n'
+    return kept + '<Multi_key> <apostrophe> <a> : "ⓐ"  # upgrade:2\n'
+
+
+def try_merge(program, tell):
+    """What an upgrade adds is taken, and what would change typing is left out, with a note."""
+    with Room(program) as room:
+        room.write("upgrade", UPGRADE)
+        room.write("less", '<dead_acute> <e> : "é"\n')
+        tell.expect("the first table is taken as it is", (room.update("old", "--merge"), room.kept()), ((0, "stored\n", ""), [OLD]))
+        tell.expect("the same table once more", room.update("old", "--merge"), (0, "unchanged\n", ""))
+        other = f'left out: <Multi_key> <apostrophe> <e> "ê" upgrade:1: it has another text, "ⓔ" {room.path(".", "old")}:1\n'
+        start = 'left out: <dead_caron> <c> "č" upgrade:3: dead_caron begins nothing in OLD\n'
+        notes = start + other + "merge: 2 kept, 1 taken, 2 left out; --fresh dead_caron takes 1 more\n"
+        before = room.all_bytes()
+        tell.expect("--dry-run", room.update("upgrade", "--merge", "--dry-run"), (0, "would be stored\n", notes))
+        tell.expect("a table that takes away everything", room.update("less", "--merge"), (0, "unchanged\n", "merge: 2 kept, 0 taken, 0 left out\n"))
+        tell.expect("a refused table, in the same words", room.update("faulty", "--merge"), room.update("faulty"))
+        tell.expect("a key that isn't fresh", room.update("upgrade", "--merge", "--fresh", "dead_acute"), room.update("upgrade", "--fresh", "dead_acute"))
+        tell.expect("--accept is another wish", room.update("upgrade", "--merge", "--accept", "/dev/null")[0], 2)
+        tell.expect("nothing has changed", room.all_bytes(), before)
+        tell.expect("an upgrade is merged", room.update("upgrade", "--merge"), (0, "stored\n", notes))
+        tell.expect("the merged table and the upgrade are kept", (room.kept(), room.kept("previous")), ([merged(room), UPGRADE], [OLD]))
+        tell.expect("the same upgrade once more", (room.update("upgrade", "--merge"), room.kept()), ((0, "unchanged\n", ""), [merged(room), UPGRADE]))
+        tell.expect("without the option it is refused", room.update("upgrade")[0], 1)
+        room.write("upgrade", UPGRADE + "\n")
+        said = [it for it in room.status()[1].splitlines() if not it.startswith(("stored", "before", "names"))]
+        wanted = [f"in use: {room.path('upgrade')} (merged)", "sequences: 3", "files: 1", f"changed since: {room.path('upgrade')}", "service: none runs"]
+        tell.expect("status", said, wanted)
+        room.write("later", '<Multi_key> <apostrophe> <b> : "ⓑ"\ninclude "more"\n')
+        status, out, err = room.update("later", "--merge")
+        tell.expect("a later one", (status, out, err), (0, "stored\n", "merge: 3 kept, 2 taken, 0 left out\n"))
+        tell.expect("its files are kept behind it", (len(room.kept()), "files: 2\n" in room.status()[1], room.kept()[0].count("\n")), (3, True, 5))
+        tell.expect("the table before it", (room.update("--back"), room.kept()[1:]), ((0, "stored\n", MEANT), [UPGRADE]))
+    with Room(program) as room:
+        room.write("upgrade", UPGRADE)
+        room.update("old")
+        notes = f'left out: <Multi_key> <apostrophe> <e> "ê" upgrade:1: it has another text, "ⓔ" {room.path(".", "old")}:1\nmerge: 2 kept, 2 taken, 1 left out\n'
+        tell.expect("with a fresh key", room.update("upgrade", "--merge", "--fresh", "dead_caron"), (0, "stored\n", notes + MEANT))
+        tell.expect("its sequence is taken", '<dead_caron> <c> : "č"  # upgrade:3\n' in room.kept()[0], True)
+        room.write("a", "keys 0x20 0x7e\nkeys 0xff20 0xff20\nU+2260\n")
+        tell.expect("a character that can't be typed", room.update("old", "--merge", "--repertoire", "a")[:2], (1, "unreachable U+2260\n"))
+    with Room(program) as room:
+        os.makedirs(room.path("system", "en"))
+        room.write(os.path.join("system", "en", "Compose"), UPGRADE)
+        room.write("upgrade", UPGRADE)
+        room.update("old")
+        words = ["sh", os.path.join(TOP, "share", "composecheck", "update.sh")]
+        environment = {"PATH": os.environ["PATH"], "COMPOSECHECK": program}
+        for file, status, kept in (("upgrade", 1, 1), ("system/en/Compose", 0, 2)):
+            ran = subprocess.run([*words, file, "--state", "state", "--system", "system"], cwd=room.folder, env=environment, capture_output=True, text=True, timeout=120)
+            tell.expect(f"update.sh of {file}", (ran.returncode, len(room.kept())), (status, kept))
+
+
+def try_merge_beside(program, tell):
+    """A service takes a merged table while a sequence is typed."""
+    with Room(program) as room:
+        room.write("upgrade", UPGRADE)
+        room.update("old")
+        room.start("--fresh", "")
+        client = pend(room)
+        client.key(9, 0x27)
+        status, out, err = room.update("upgrade", "--merge")
+        tell.expect("a merge beside a service", (status, bool(STORED.fullmatch(out)), err.splitlines()[-1:]), (0, True, ["merge: 2 kept, 1 taken, 2 left out; --fresh dead_caron takes 1 more"]))
+        tell.expect("it is stored by the service", room.kept(), [merged(room), UPGRADE])
+        tell.expect("a sequence that had begun", client.key(9, 0x65).text, "ⓔ")
+        client.disconnect()
+        tell.expect("a new one", room.typed(0x27, 0x61), "ⓐ")
+        tell.expect("its line", room.lines()[2:], [f"loaded: 3 sequences, 2 before; from {room.path('upgrade')} (merged)"])
+        tell.expect("the same upgrade once more", room.update("upgrade", "--merge"), (0, "unchanged\n", ""))
+        tell.expect("a restart types it", (room.start("--fresh", ""), room.typed(0x27, 0x61)), (True, "ⓐ"))
 
 
 def try_places(program, tell):

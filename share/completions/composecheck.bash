@@ -33,7 +33,7 @@ _composecheck() {
         how) options="--names --from --repertoire --first --format --skip-faulty --strict --overlap --system --locale --root --help" ;;
         list) options="--names --prefix --text --next --sort --as --format --skip-faulty --strict --overlap --system --locale --root --help" ;;
         lint) options="--names --reader --all --accept --write-accept --format --skip-faulty --system --locale --root --verbose --help" ;;
-        update) options="--names --fresh --repertoire --accept --back --dry-run --state --socket --timeout --system --locale --verbose --help" ;;
+        update) options="--names --fresh --repertoire --accept --merge --back --dry-run --state --socket --timeout --system --locale --verbose --help" ;;
         status) options="--state --socket --format --help" ;;
         manifest) options="--system --locale --root --verbose --help" ;;
         serve) options="--files --names --fresh --state --at-once --unsent --idle --own-sessions --mode --replace --unlink --overlap --system --locale --root --verbose --help" ;;

@@ -28,6 +28,7 @@ complete -c composecheck -n "__fish_seen_subcommand_from make" -l all -d "All ch
 complete -c composecheck -n "__fish_seen_subcommand_from update status serve" -l state -x -a "(__fish_complete_directories)" -d "Folder of the table in use"
 complete -c composecheck -n "__fish_seen_subcommand_from how update" -l repertoire -r -F -d "The characters that people need"
 complete -c composecheck -n "__fish_seen_subcommand_from update status" -l socket -r -F -d "The socket of the running service"
+complete -c composecheck -n "__fish_seen_subcommand_from update" -l merge -d "Take what the new table adds, and leave out what would change typing"
 complete -c composecheck -n "__fish_seen_subcommand_from update" -l back -d "Take back the table before the last change"
 complete -c composecheck -n "__fish_seen_subcommand_from update" -l dry-run -d "Print what would become of the file"
 complete -c composecheck -n "__fish_seen_subcommand_from update" -l timeout -x -d "Seconds to wait for a running service"

@@ -10,7 +10,9 @@ use compose_find::beside;
 use compose_input::Fault;
 use compose_read::Sources;
 use compose_report::Outcome;
-use compose_service_runs::{Change, ServiceState, Status, StoredSummary, status_outcome};
+use compose_service_runs::{
+    Change, ServiceState, Status, StoredSummary, is_merged, status_outcome,
+};
 use compose_table_file::{StoredTable, file_path, plain_path};
 use compose_tree::{BuildTable, TableFault, read_first_table};
 use jiff::Timestamp;
@@ -59,14 +61,15 @@ fn summary_of<T: BuildTable>(
     let Ok(bundle) = read_bundle(alloc, stored.payload) else {
         return Err(Fault::refused("state", format!(in alloc; "{path}: 1 Form")));
     };
+    let made = usize::from(is_merged(alloc, &bundle.sources)?);
     if let Some(changes) = changes {
-        add_changes(rt, &bundle.sources, changes)?;
+        add_changes(rt, &bundle.sources, made, changes)?;
     }
     Ok(Some(StoredSummary {
         origin: plain_path(alloc, bundle.sources.name(0).unwrap_or(""))?,
         stored: date_of(rt, path)?,
         sequences: sequences_of::<T>(alloc, path, &bundle.sources, &stored)?,
-        files: bundle.sources.count(),
+        files: bundle.sources.count().saturating_sub(made),
         names: name_count(&stored.names),
     }))
 }
@@ -115,13 +118,15 @@ fn time_of(rt: &impl Files, path: &str) -> Option<Timestamp> {
     Timestamp::from_second(i64::try_from(since.as_secs()).ok()?).ok()
 }
 
-/// Adds which of the files of these sources have changed since the table was stored.
+/// Adds which of the files of these sources have changed since the table was stored. The first ones,
+/// so many, are no files: `update` made them.
 fn add_changes(
     rt: &(impl Files + AllocGlobal),
     sources: &Sources,
+    made: usize,
     changes: &mut Vec<Change>,
 ) -> Result<(), Fault> {
-    for index in 0..sources.count() {
+    for index in made..sources.count() {
         if let Some(change) = change_of(rt, sources, index)? {
             changes.push(change)?;
         }

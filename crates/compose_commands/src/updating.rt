@@ -17,7 +17,8 @@ use compose_read::SourceFault;
 use compose_report::{Form, Outcome};
 use compose_runs::UpdateFiles;
 use compose_service_runs::{
-    HandOver, Handed, TableFolder, Taking, Wanted, decide_taking, take_alone, take_running,
+    Decision, HandOver, Handed, TableFolder, Taking, Wanted, decide_taking, take_alone,
+    take_running,
 };
 use compose_table_file::{named_from, read_table};
 use compose_tree::BuildTable;
@@ -176,6 +177,7 @@ pub fn update_files<'a, T: BuildTable, F: Folder>(
     let note = String::from_str(rt.alloc(), &read.new.note)?;
     let used = used_folder(rt, &folder, socket.as_deref(), &arguments.taking);
     let wanted = Wanted {
+        merge: arguments.merge,
         fresh,
         has_names: !names.is_empty(),
         has_repertoire: arguments.repertoire.is_some(),
@@ -288,22 +290,28 @@ fn take_once<T: BuildTable, R: Clock + Files<File = File> + Net + AllocGlobal>(
     match writer_of(used, arguments)? {
         Writer::Here(_lock) => {
             settle_next(rt, folder)?;
-            let taking = wished::<T>(rt, folder, wish)?;
-            taken_here(used, taking)
+            let Decision { taking, notes } = wished::<T>(rt, folder, wish)?;
+            noted_first(rt.alloc(), &notes, taken_here(used, taking)?)
         }
         Writer::Service(service) => {
-            let taking = wished::<T>(rt, folder, wish)?;
-            taken_by_service(used, service, taking)
+            let Decision { taking, notes } = wished::<T>(rt, folder, wish)?;
+            noted_first(rt.alloc(), &notes, taken_by_service(used, service, taking)?)
         }
     }
 }
 
-/// Returns what becomes of the table that is to be taken into use, by the table in use.
+/// Returns the outcome with these notes before its own.
+fn noted_first(alloc: Global, notes: &str, outcome: Outcome) -> Result<Outcome, Fault> {
+    let notes = format!(in alloc; "{notes}{}", outcome.notes)?;
+    Ok(outcome.with_notes(notes))
+}
+
+/// Returns what is decided about the table that is to be taken into use, by the table in use.
 fn wished<T: BuildTable>(
     rt: &(impl Files + AllocGlobal),
     folder: &StateFolder,
     wish: &mut Wish<'_>,
-) -> Result<Taking, Fault> {
+) -> Result<Decision, Fault> {
     let wanted = match wish {
         Wish::Files(_, wanted) => *wanted,
         Wish::Back => return previous(rt, folder),
@@ -319,9 +327,12 @@ fn wished<T: BuildTable>(
 
 /// Returns the table before the last change, as it is taken into use again.
 /// Errors: a refusal of `state` if none is kept.
-fn previous(rt: &(impl Files + AllocGlobal), folder: &StateFolder) -> Result<Taking, Fault> {
+fn previous(rt: &(impl Files + AllocGlobal), folder: &StateFolder) -> Result<Decision, Fault> {
     match read_if_there(rt, &folder.previous)? {
-        Some(file) => Ok(Taking::Meant { file }),
+        Some(file) => Ok(Decision {
+            taking: Taking::Meant { file },
+            notes: String::new(rt.alloc()),
+        }),
         None => Err(no_previous(rt.alloc(), folder)),
     }
 }
@@ -395,15 +406,16 @@ fn taken_by_service<R: Clock + Files<File = File> + Net + AllocGlobal>(
 }
 
 /// Returns what would become of a table, as it is printed.
-fn would_be(alloc: Global, taking: Taking) -> Result<Outcome, Fault> {
+fn would_be(alloc: Global, decision: Decision) -> Result<Outcome, Fault> {
+    let Decision { taking, notes } = decision;
     let line = match taking {
-        Taking::Refused(outcome) => return Ok(outcome),
+        Taking::Refused(outcome) => return noted_first(alloc, &notes, outcome),
         Taking::Same => "unchanged\n",
         Taking::Follows { .. } => "would be stored\n",
         Taking::Meant { .. } => "would be stored, and sessions would begin anew\n",
     };
     let line = String::from_str(alloc, line)?;
-    Ok(Outcome::of_output(alloc, line, Ended::Yes))
+    Ok(Outcome::of_output(alloc, line, Ended::Yes).with_notes(notes))
 }
 
 /// Returns who may write the table in use: this update, if it gets the lock, or the service that has

@@ -37,5 +37,7 @@ pub use one_table::is_refused;
 pub use options::Options;
 pub use stored::read_stored;
 pub use typing::{run_type, run_type_file};
-pub use updating::{IntendedChanges, UpdateFiles, UpdateRun, run_update};
+pub use updating::{
+    IntendedChanges, UpdateFiles, UpdateRun, refused_outcome, run_update, source_names,
+};
 pub use written_keys::{borrowed, key_names};

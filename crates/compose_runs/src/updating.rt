@@ -356,8 +356,9 @@ fn intended_answer<T: BuildTable>(
     diff_migration::<T>(alloc, &input)
 }
 
-/// Returns the names of the sources.
-fn source_names<'a>(alloc: Global, sources: &'a Sources) -> Result<Vec<&'a str>, AllocError>
+/// Returns the names of the sources, in their order. O(sources).
+/// Errors: `AllocError` if memory runs out.
+pub fn source_names<'a>(alloc: Global, sources: &'a Sources) -> Result<Vec<&'a str>, AllocError>
     ensures { IfOk result
         (λ names. map (λ name. name.now) names.items ≡ map (λ source. source.name) sources.now) }
 {
@@ -432,8 +433,9 @@ fn update_done(
 }
 
 /// Returns the outcome of a refused input. The new table stands for both tables, since the one in
-/// use was read when it was taken into use.
-fn refused_outcome(
+/// use was read when it was taken into use. O(bytes of the files).
+/// Errors: `AllocError` if memory runs out.
+pub fn refused_outcome(
     alloc: Global,
     files: &UpdateFiles,
     fresh: &[&str],

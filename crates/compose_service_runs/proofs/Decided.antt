@@ -76,10 +76,10 @@ becomes a fresh current files meant kept run (takings.Meant file) m k ran (store
 -- ---- the names and the repertoire of the files
 
 -- the files have the names and the repertoire that they need, once both are set
-pub needed_by : (has_names has_repertoire : Bool) (a : Asked) (current : TableFile) (old between new : UpdateFiles) → a ≡ record { has_names = has_names; names = old.names.lines.items; has_repertoire = has_repertoire; repertoire = old.repertoire.items }
+pub needed_by : (merges has_names has_repertoire : Bool) (a : Asked) (current : TableFile) (old between new : UpdateFiles) → a ≡ record { merges = merges; has_names = has_names; names = old.names.lines.items; has_repertoire = has_repertoire; repertoire = old.repertoire.items }
     → NeedsNames (has_names || is_empty current.names) current.names old between → NeedsRepertoire has_repertoire current.repertoire between new
     → Needs (names_needed a (Some current)) (needed a (Some current)) old new
-needed_by has_names has_repertoire a current old between new e n r =
+needed_by merges has_names has_repertoire a current old between new e n r =
     subst (λ (x : Asked). Needs (names_needed x (Some current)) (needed x (Some current)) old new) (sym e)
     (record {
       lines = ap (λ (x : NameFiles). x.lines.items) r.names ∙ n.lines_are;

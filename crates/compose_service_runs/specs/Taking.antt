@@ -25,8 +25,12 @@ use Rattle.compose_runs.specs.declared.updating.UpdateFiles.{UpdateFiles}
 use Rattle.compose_runs.specs.declared.updating.UpdateRun.{UpdateRun}
 use Rattle.compose_runs.specs.declared.updating.UpdateRun.TheVariants as runs
 use Rattle.compose_service_runs.specs.Clients.{IsExchange, LoadsTable}
+use Rattle.compose_service_runs.specs.Merged.{IsMergedInto, WasMergedWith}
 use Rattle.compose_service_runs.specs.Turns.{Turn}
 use Rattle.compose_service_runs.specs.declared.client.ClientRequests.{ClientRequests}
+use Rattle.compose_service_runs.specs.declared.merged.MergedUpdate.{MergedUpdate}
+use Rattle.compose_service_runs.specs.declared.merged.MergedUpdate.TheVariants as merges
+use Rattle.compose_service_runs.specs.declared.taking.Decision.{Decision}
 use Rattle.compose_service_runs.specs.declared.taking.Handed.{Handed}
 use Rattle.compose_service_runs.specs.declared.taking.Handed.TheVariants.{Taken, Waits, Unwritten}
 use Rattle.compose_service_runs.specs.declared.taking.Taking.{Taking}
@@ -46,16 +50,17 @@ IsInUse (Ok None) current = current ≡ None
 IsInUse (Ok (Some bytes)) (Some table) = FileHas bytes.items table
 IsInUse stored current = ⊥
 
--- what an update was given: names and a repertoire, each with whether it was; without an option the
--- names are the built-in ones
+-- what an update was given: whether to merge, and names and a repertoire, each with whether it was;
+-- without an option the names are the built-in ones
 pub record Asked : Type 0 where
+  pub merges : Bool
   pub has_names : Bool
   pub names : List ℕ
   pub has_repertoire : Bool
   pub repertoire : List ℕ
 
 abbrev pub asked_by : Wanted → UpdateFiles → Asked
-asked_by wanted files = record { has_names = wanted.has_names; names = files.names.lines.items; has_repertoire = wanted.has_repertoire; repertoire = files.repertoire.items }
+asked_by wanted files = record { merges = wanted.merge; has_names = wanted.has_names; names = files.names.lines.items; has_repertoire = wanted.has_repertoire; repertoire = files.repertoire.items }
 
 -- the lines of names as a file keeps them: none if they are those of the built-in names
 abbrev pub kept_names : List ℕ → List ℕ
@@ -150,6 +155,43 @@ Becomes a fresh current files (takings.Refused outcome) =
     Decides (is_meant a fresh current) (fresh_of current) (IsUpdateRun files fresh (payload_of current)) files (takings.Refused outcome) ⊎ IsUnread a current files outcome
 Becomes a fresh current files taking = Decides (is_meant a fresh current) (fresh_of current) (IsUpdateRun files fresh (payload_of current)) files taking
 
+-- this becomes of a table, and nothing is said of it
+pub record IsUnnoted (taking : Taking) (decision : Decision) : Type 0 where
+  pub taken : decision.taking ≡ taking
+  pub unsaid : string_bytes decision.notes ≡ []
+
+-- the table in use has the sources of these files, or was merged with them
+abbrev pub IsFrom : TableFile → List Source → Type 0
+IsFrom current new = HasSources (Some current) new ⊎ WasMergedWith current.payload new
+
+-- what becomes of the merged table; what is left out is said
+abbrev pub BecomesOf : Asked → List (List ℕ) → TableFile → MergedUpdate → Decision → Type 0
+BecomesOf a fresh current (merges.Merged files report) decision = Becomes a fresh (Some current) files decision.taking × (decision.notes ≡ report)
+BecomesOf a fresh current (merges.Refused outcome) decision = IsUnnoted (takings.Refused outcome) decision
+
+-- if a table is merged into the one in use, that may be from the same files, with nothing else asked
+-- for; or it can't be read by the names that were given; otherwise the merged table is decided on in
+-- the place of the new one
+abbrev pub BecomesMerged : Asked → List (List ℕ) → TableFile → UpdateFiles → Decision → Type 0
+BecomesMerged a fresh current files decision =
+    (IsUnnoted takings.Same decision × IsFrom current files.new.sources × IsFalse (is_meant a fresh (Some current)))
+    ⊎ ((outcome : Outcome) × IsUnnoted (takings.Refused outcome) decision × IsUnread a (Some current) files outcome)
+    ⊎ ((merged : MergedUpdate) × IsMergedInto current.payload files fresh merged × BecomesOf a fresh current merged decision)
+
+-- what becomes of the table of these files itself; nothing is said of it
+abbrev pub BecomesUnsaid : Asked → List (List ℕ) → Option TableFile → UpdateFiles → Decision → Type 0
+BecomesUnsaid a fresh current files decision = Becomes a fresh current files decision.taking × (string_bytes decision.notes ≡ [])
+
+-- beside a table in use, by whether the new one is merged into it
+abbrev pub BecomesBeside : Bool → Asked → List (List ℕ) → TableFile → UpdateFiles → Decision → Type 0
+BecomesBeside false a fresh current files decision = BecomesUnsaid a fresh (Some current) files decision
+BecomesBeside true a fresh current files decision = BecomesMerged a fresh current files decision
+
+-- the decision about the table of these files; without a table in use there is no merge
+abbrev pub IsDecision : Asked → List (List ℕ) → Option TableFile → UpdateFiles → Decision → Type 0
+IsDecision a fresh None files decision = BecomesUnsaid a fresh None files decision
+IsDecision a fresh (Some current) files decision = BecomesBeside a.merges a fresh current files decision
+
 -- of the files only the lines of the names and the repertoire change: the names to those by which
 -- the table is read, the repertoire to what people need
 pub record Needs (names repertoire : List ℕ) (old new : UpdateFiles) : Type 0 where
@@ -159,18 +201,18 @@ pub record Needs (names repertoire : List ℕ) (old new : UpdateFiles) : Type 0 
   pub characters : new.repertoire.items ≡ repertoire
 
 -- what becomes of the table of these files, by the bytes of the file of the table in use
-pub record DecidesTaking (a : Asked) (fresh : List (List ℕ)) (stored : Result (Option (Vec ℕ Global)) Fault) (old new : UpdateFiles) (taking : Taking) : Type 0 where
+pub record DecidesTaking (a : Asked) (fresh : List (List ℕ)) (stored : Result (Option (Vec ℕ Global)) Fault) (old new : UpdateFiles) (decision : Decision) : Type 0 where
   pub current : Option TableFile
   pub in_use : IsInUse stored current
   pub needs : Needs (names_needed a current) (needed a current) old new
-  pub becomes : Becomes a fresh current new taking
+  pub becomes : IsDecision a fresh current new decision
 
 -- ---- definitions for private functions
 
 -- the same beside a table in use
-pub record DecidesBeside (a : Asked) (fresh : List (List ℕ)) (current : TableFile) (old new : UpdateFiles) (taking : Taking) : Type 0 where
+pub record DecidesBeside (a : Asked) (fresh : List (List ℕ)) (current : TableFile) (old new : UpdateFiles) (decision : Decision) : Type 0 where
   pub needs : Needs (names_needed a (Some current)) (needed a (Some current)) old new
-  pub becomes : Becomes a fresh (Some current) new taking
+  pub becomes : IsDecision a fresh (Some current) new decision
 
 -- of the files the names change to those with these lines, unless they stay
 pub record NeedsNames (stay : Bool) (lines : List ℕ) (old new : UpdateFiles) : Type 0 where

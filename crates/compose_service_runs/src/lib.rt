@@ -11,6 +11,8 @@
 #![tactic(auto)]
 
 mod client;
+mod law;
+mod merged;
 mod peer;
 mod serving;
 mod status;
@@ -18,10 +20,12 @@ mod status_json;
 mod taking;
 
 pub use client::{ClientRequests, load_requests, run_exchange, run_load, run_session};
+pub use law::law_taking;
+pub use merged::is_merged;
 pub use peer::Peer;
 pub use serving::start_service;
 pub use status::{Change, ServiceState, Status, StoredSummary, status_outcome};
 pub use taking::{
-    HandOver, Handed, TableFolder, Taking, Wanted, decide_taking, kept_names, take_alone,
+    Decision, HandOver, Handed, TableFolder, Taking, Wanted, decide_taking, kept_names, take_alone,
     take_running,
 };

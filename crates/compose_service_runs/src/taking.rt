@@ -10,9 +10,10 @@ ghost use Rattle.compose_table_file.specs.Reading.{table_of};
 ghost use Rattle.compose_report.specs.Outcomes.{PrintsErrors};
 ghost use Rattle.compose_service_runs.specs.Taking as words;
 ghost use Rattle.compose_model.specs.Step.{is_empty};
-ghost use Rattle.compose_service_runs.specs.Taking.{Asked, Becomes, Decides, DecidesBeside, DecidesTaking, IsFile, IsHandedOver, IsLoad, IsLoaded, IsRefusedTable, IsUnreadable, NeedsNames, NeedsRepertoire, OnOkOk, PrintsNoted, Stores, TakesHere, TakesRunning, asked_by, more};
+ghost use Rattle.compose_service_runs.specs.Taking.{Asked, Becomes, BecomesBeside, BecomesMerged, Decides, DecidesBeside, DecidesTaking, IsFile, IsDecision, IsFrom, IsHandedOver, IsLoad, IsLoaded, IsRefusedTable, IsUnnoted, IsUnreadable, NeedsNames, NeedsRepertoire, OnOkOk, PrintsNoted, Stores, TakesHere, TakesRunning, asked_by, more};
 
 use crate::client::{ClientRequests, load_requests, run_exchange};
+use crate::merged::{MergedUpdate, merge_into, was_merged_with};
 use crate::peer::Peer;
 use builtin_names::builtin_names;
 use compose_answer::Ended;
@@ -65,9 +66,20 @@ pub enum Taking {
     },
 }
 
+/// What is decided about a new table.
+#[derive(Drop)]
+pub struct Decision {
+    /// What becomes of it.
+    pub taking: Taking,
+    /// Lines for people: what is left out of it, if it was merged into the table in use.
+    pub notes: String,
+}
+
 /// What an update asks for, besides the files that it reads.
 #[derive(Clone, Copy)]
 pub struct Wanted<'a> {
+    /// Whether the new table is merged into the one in use.
+    pub merge: bool,
     /// The key names of the fresh keysyms: new sequences may start with these.
     pub fresh: &'a [&'a str],
     /// Whether names were given; otherwise they are those of the table in use.
@@ -113,19 +125,21 @@ pub trait HandOver {
 /// Returns what becomes of the table of these files, if these are the bytes of the file of the table
 /// in use, which is `None` if no table is. A table that can't be read is never taken for none. Of the
 /// files only the names and the repertoire change: to those of the table in use, if none were given.
-/// Both tables are read by these names. Takes the time of `run_update`.
+/// Both tables are read by these names. If a merge is wanted and a table is in use, the merged table
+/// takes the place of the new one. Takes the time of `run_update`, and of `merge_tables` for a merge.
 /// Errors: why the table in use can't be read; a refusal of `state` if the bytes are no such file, or
-/// if the new file would be too large; a refusal of `load` if the new table is too large for one;
-/// `NoMemory` if memory runs out.
+/// if the new file would be too large; a refusal of `load` if the new table is too large for one; a
+/// refusal of `merged` if the merged table can't be kept with its files; `NoMemory` if memory runs
+/// out.
 pub fn decide_taking<T: BuildTable>(
     alloc: Global,
     files: &mut UpdateFiles,
     wanted: Wanted<'_>,
     stored: Result<Option<Vec<u8>>, Fault>,
-) -> Result<Taking, Fault>
+) -> Result<Decision, Fault>
     ensures taking { IfOk result
-        (λ taking. DecidesTaking (asked_by wanted.entry files.old)
-        (map (λ name. name.now) wanted.entry.fresh.now) stored files.old files.exit.now taking) }
+        (λ decision. DecidesTaking (asked_by wanted.entry files.old)
+        (map (λ name. name.now) wanted.entry.fresh.now) stored files.old files.exit.now decision) }
     ensures unread { IfErr stored (λ fault. result ≡ Err fault) }
 {
     match stored {
@@ -138,18 +152,29 @@ pub fn decide_taking<T: BuildTable>(
     }
 }
 
+/// Returns the decision that this becomes of a table, without notes.
+fn unnoted(alloc: Global, taking: Taking) -> Decision
+    ensures { IsUnnoted taking result }
+{
+    Decision {
+        taking,
+        notes: String::new(alloc),
+    }
+}
+
 /// Returns what becomes of the table of these files, if none is in use.
 fn decide_first<T: BuildTable>(
     alloc: Global,
     files: &UpdateFiles,
     wanted: Wanted<'_>,
-) -> Result<Taking, Fault>
+) -> Result<Decision, Fault>
     ensures { IfOk result
-        (λ taking. Becomes (asked_by wanted.entry files.now)
-        (map (λ name. name.now) wanted.entry.fresh.now) None files.now taking) }
+        (λ decision. IsDecision (asked_by wanted.entry files.now)
+        (map (λ name. name.now) wanted.entry.fresh.now) None files.now decision) }
 {
     let run = run_update::<T>(alloc, files, wanted.fresh, None)?;
-    taking_of(alloc, files, &[], false, run)
+    let taking = taking_of(alloc, files, &[], false, run)?;
+    Ok(unnoted(alloc, taking))
 }
 
 /// Returns what becomes of the table of these files, if this one is in use.
@@ -158,11 +183,11 @@ fn decide_beside<T: BuildTable>(
     files: &mut UpdateFiles,
     wanted: Wanted<'_>,
     current: StoredTable<'_>,
-) -> Result<Taking, Fault>
+) -> Result<Decision, Fault>
     ensures { IfOk result
-        (λ taking. DecidesBeside (asked_by wanted.entry files.old)
+        (λ decision. DecidesBeside (asked_by wanted.entry files.old)
         (map (λ name. name.now) wanted.entry.fresh.now) (table_of current.entry) files.old
-        files.exit.now taking) }
+        files.exit.now decision) }
 {
     let is_other = is_other(wanted, files, &current);
     let StoredTable {
@@ -180,6 +205,72 @@ fn decide_beside<T: BuildTable>(
 /// Returns what becomes of the table of these files, which have the names and what people need, if
 /// the table with this payload is in use, whose loads may list these keysyms as fresh.
 fn decide_needed<T: BuildTable>(
+    alloc: Global,
+    files: &UpdateFiles,
+    wanted: Wanted<'_>,
+    is_other: bool,
+    fresh: &[Keysym],
+    payload: &[u8],
+) -> Result<Decision, Fault>
+    ensures { (a : Asked) (current : TableFile) → current.payload ≡ payload.now
+        → current.fresh ≡ fresh.now → is_other ≡ words.is_other a (Some current)
+        → IfOk result
+        (λ decision. BecomesBeside wanted.entry.merge a (map (λ name. name.now) wanted.entry.fresh.now)
+        current files.now decision) }
+{
+    if wanted.merge {
+        return decide_merged::<T>(alloc, files, wanted, is_other, fresh, payload);
+    }
+    let taking = decide_new::<T>(alloc, files, wanted, is_other, fresh, payload)?;
+    Ok(unnoted(alloc, taking))
+}
+
+/// Returns the same, if the table of these files is merged into the one in use.
+fn decide_merged<T: BuildTable>(
+    alloc: Global,
+    files: &UpdateFiles,
+    wanted: Wanted<'_>,
+    is_other: bool,
+    fresh: &[Keysym],
+    payload: &[u8],
+) -> Result<Decision, Fault>
+    ensures { (a : Asked) (current : TableFile) → current.payload ≡ payload.now
+        → current.fresh ≡ fresh.now → is_other ≡ words.is_other a (Some current)
+        → IfOk result
+        (λ decision. BecomesMerged a (map (λ name. name.now) wanted.entry.fresh.now) current
+        files.now decision) }
+{
+    let is_meant = is_meant(is_other, wanted.fresh);
+    if !is_meant && is_known(alloc, &files.new.sources, payload) {
+        return Ok(unnoted(alloc, Taking::Same));
+    }
+    if is_other && is_unreadable::<T>(alloc, &files.names.lines, payload) {
+        return Ok(unnoted(alloc, Taking::Refused(unread_outcome(alloc)?)));
+    }
+    match merge_into::<T>(alloc, files, wanted.fresh, payload)? {
+        MergedUpdate::Merged { files, report } => {
+            let taking = decide_new::<T>(alloc, &files, wanted, is_other, fresh, payload)?;
+            Ok(Decision {
+                taking,
+                notes: report,
+            })
+        }
+        MergedUpdate::Refused(outcome) => Ok(unnoted(alloc, Taking::Refused(outcome))),
+    }
+}
+
+/// Returns whether the table in use, which has this payload, has these sources or was merged with
+/// them. If memory runs out, it is taken for another one.
+fn is_known(alloc: Global, new: &Sources, payload: &[u8]) -> bool
+    ensures { (current : TableFile) → current.payload ≡ payload.now → IsTrue result
+        → IsFrom current new.now }
+{
+    is_same(alloc, new, payload) || was_merged_with(alloc, new, payload)
+}
+
+/// Returns what becomes of the table of these files, if it is to take the place of the one in use,
+/// which has this payload, and whose loads may list these keysyms as fresh.
+fn decide_new<T: BuildTable>(
     alloc: Global,
     files: &UpdateFiles,
     wanted: Wanted<'_>,
@@ -301,7 +392,7 @@ fn stored_table(alloc: Global, stored: &[u8]) -> Result<StoredTable<'_>, Fault>
 }
 
 /// Returns whether the payload has these sources. If memory runs out, it is taken for another one.
-fn is_same(alloc: Global, new: &Sources, payload: &[u8]) -> bool
+pub(crate) fn is_same(alloc: Global, new: &Sources, payload: &[u8]) -> bool
     ensures { IsTrue result
         → (bundle : Bundle) × IsBundle payload.now bundle × (bundle.sources ≡ new.now) }
 {

@@ -1,14 +1,18 @@
-use Rattle.std.proofs.Common.{◌≡◌, sym, subst, map}
+use Rattle.std.proofs.Common.{map}
 use Rattle.std.specs.Prelude.{Some}
 use Rattle.compose_report.proofs.Results.{ok_map}
-use Rattle.compose_runs.specs.Updating.{IsUpdateRun}
-use Rattle.compose_service_runs.specs.Taking.{Becomes, Decides}
-use Rattle.compose_service_runs.proofs.Decided.{becomes}
+use Rattle.compose_service_runs.specs.Taking.{BecomesBeside, BecomesMerged}
+use Rattle.compose_service_runs.proofs.Merges.{beside_merged, beside_unsaid, unsaid}
 use Rattle.compose_service_runs.proofs.taking.decide_needed.Goals as goal
+
+pub returns-then-wanted : goal.returns-then-wanted
+returns-then-wanted g c = λ a current is kept other.
+    let fresh = map (λ name. name.now) c.args.wanted.fresh.now in let files = c.args.files.now in let merge = c.args.wanted.merge in
+    ok_map (BecomesMerged a fresh current files) (BecomesBeside merge a fresh current files) c.decide_merged.result
+    (λ decision becomes. beside_merged merge a fresh current files decision c.if-wanted.true becomes) (c.decide_merged.ensures a current is kept other)
 
 pub returns : goal.returns
 returns g c = λ a current is kept other.
-    let fresh = map (λ name. name.now) c.args.wanted.fresh.now in let files = c.args.files.now in let run = c.in_ok-run.run' in let meant = c.is_meant-is_meant.result in
-    ok_map (Decides meant c.args.fresh.now (λ r. r ≡ run) files) (Becomes a fresh (Some current) files) c.taking_of.result
-    (λ taking d. becomes a fresh (Some current) files meant c.args.fresh.now run taking (c.is_meant-is_meant.ensures a current other) (sym kept)
-    (subst (λ payload. IsUpdateRun files fresh (Some payload) run) (sym is) c.in_ok-run.ensures.run) d) c.taking_of.ensures
+    let fresh = map (λ name. name.now) c.args.wanted.fresh.now in let files = c.args.files.now in
+    beside_unsaid c.args.wanted.merge a fresh current files c.unnoted.result c.if-wanted.false
+    (unsaid a fresh (Some current) files c.in_ok-taking.taking c.unnoted.result c.unnoted.ensures (c.in_ok-taking.ensures a current is kept other))

@@ -1,0 +1,18 @@
+use Rattle.std.proofs.Common.{map, inr, refl}
+use Rattle.compose_service_runs.specs.declared.merged.MergedUpdate.TheVariants as merges
+use Rattle.compose_service_runs.proofs.Merges.{known_same, merged_of}
+use Rattle.compose_service_runs.proofs.taking.decide_merged.Goals as goal
+
+pub returns-then-is_known : goal.returns-then-is_known
+returns-then-is_known g c = λ a current is kept other.
+    known_same a (map (λ name. name.now) c.args.wanted.fresh.now) current c.args.files.now c.unnoted.result c.is_meant-is_meant.result (c.is_meant-is_meant.ensures a current other)
+    c.if-not-is_meant.true c.unnoted.ensures (c.is_known.ensures current is c.if-is_known.true)
+
+pub returns-in_ok-taking-in-Merged : goal.returns-in_ok-taking-in-Merged
+returns-in_ok-taking-in-Merged g c = λ a current is kept other.
+    let fresh = map (λ name. name.now) c.args.wanted.fresh.now in let merged = merges.Merged c.in-Merged.files c.in-Merged.report in
+    inr (inr (
+      merged,
+      merged_of current c.args.payload.now c.args.files.now fresh c.in_ok-files.field-0 merged is c.in-Merged.is c.in_ok-files.ensures,
+      (c.in_ok-taking-in-Merged.ensures a current is kept other, refl),
+    ))
