@@ -74,6 +74,7 @@ never_intended files fresh meant (Err (differing.Accept fault)) run stored certi
 replaced : (given : GivenUpdate) (files : UpdateFiles) (fresh : List (List ℕ)) (meant : Option IntendedChanges) (current : Option (List Source)) (decided : Result Update UpdateFault) (run : UpdateRun)
     (stored : Kept) (certificate : Option (String Global)) → Updates given decided → IsDecisionDone files fresh meant current decided run → run ≡ Replaced stored certificate
     → Replaces given stored.items (option_map string_bytes certificate)
+  unfolding stored_in certificate_in
 replaced given files fresh meant current (Ok (updates.Replaced s c)) run stored certificate is done e =
     let same : Replaced s c ≡ Replaced stored certificate = sym done ∙ e in
     subst (λ x. Replaces given stored.items (option_map string_bytes x)) (ap (λ r. certificate_in r c) same)
@@ -89,14 +90,14 @@ replaced given files fresh meant current (Err faults.TooLarge) run stored certif
 by_move : (files : UpdateFiles) (fresh : List (List ℕ)) (payload : List ℕ) (current : Option (List Source)) (certificate : Option (List ℕ)) → IsCurrent (Some payload) current
     → IsMove (update_given files fresh current) certificate → FollowsInUse files fresh payload
 by_move files fresh payload current None (bundle, is, e) move = let clash : None ≡ Some bundle.sources = sym move ∙ e in absurd (cc)
-by_move files fresh payload current (Some text) (bundle, is, e) (old, has, needs, made, spells) =
+by_move files fresh payload current (Some text) (bundle, is, e) (old, has, made) =
     let same : old ≡ bundle.sources = ap (λ (o : Option (List Source)). unwrap_or o []) (sym has ∙ e) in
     record {
       in_use = bundle;
       is = is;
-      needs = needs;
-      read = subst (λ (s : List Source). make_parts (move_from (update_given files fresh (Some s)) s) files.repertoire.items ≡ Ok needs) same made;
-      follows = spells.made.follows;
+      needs = made.0;
+      read = subst (λ (s : List Source). make_parts (move_from (update_given files fresh (Some s)) s) files.repertoire.items ≡ Ok made.0) same made.1;
+      follows = made.2.made.follows;
     }
 
 pub followed : (files : UpdateFiles) (fresh : List (List ℕ)) (payload : List ℕ) (stored : Kept) (certificate : Option (String Global)) → IsUpdateRun files fresh (Some payload) (Replaced stored certificate)
