@@ -39,12 +39,12 @@ abbrev Kept : Type 0
 Kept = Vec ℕ Global
 
 -- what a run that replaces the table in use stores, and by what a service loads it
-stored_in : UpdateRun → Kept → Kept
+abbrev stored_in : UpdateRun → Kept → Kept
 stored_in (Replaced stored certificate) other = stored
 stored_in (Meant stored) other = other
 stored_in (Refused outcome) other = other
 
-certificate_in : UpdateRun → Option (String Global) → Option (String Global)
+abbrev certificate_in : UpdateRun → Option (String Global) → Option (String Global)
 certificate_in (Replaced stored certificate) other = certificate
 certificate_in (Meant stored) other = other
 certificate_in (Refused outcome) other = other
@@ -74,7 +74,6 @@ never_intended files fresh meant (Err (differing.Accept fault)) run stored certi
 replaced : (given : GivenUpdate) (files : UpdateFiles) (fresh : List (List ℕ)) (meant : Option IntendedChanges) (current : Option (List Source)) (decided : Result Update UpdateFault) (run : UpdateRun)
     (stored : Kept) (certificate : Option (String Global)) → Updates given decided → IsDecisionDone files fresh meant current decided run → run ≡ Replaced stored certificate
     → Replaces given stored.items (option_map string_bytes certificate)
-  unfolding stored_in certificate_in
 replaced given files fresh meant current (Ok (updates.Replaced s c)) run stored certificate is done e =
     let same : Replaced s c ≡ Replaced stored certificate = sym done ∙ e in
     subst (λ x. Replaces given stored.items (option_map string_bytes x)) (ap (λ r. certificate_in r c) same)
