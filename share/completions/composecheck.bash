@@ -29,7 +29,7 @@ _composecheck() {
         explain) options="--files --names --fresh --all --overlap --system --locale --root --verbose --help" ;;
         make) options="--files --names --fresh --all --output --overlap --system --locale --root --verbose --help" ;;
         diff) options="--verbose --names --fresh --overlap --accept --write-accept --no-fold --lost --format --color --skip-faulty --system --locale --root --help" ;;
-        merge) options="--verbose --names --fresh --overlap --skip-faulty --system --locale --root --help" ;;
+        merge) options="--verbose --names --fresh --overlap --accept --patch --skip-faulty --system --locale --root --help" ;;
         how) options="--names --from --repertoire --first --format --skip-faulty --strict --overlap --system --locale --root --help" ;;
         list) options="--names --prefix --text --next --sort --as --format --skip-faulty --strict --overlap --system --locale --root --help" ;;
         lint) options="--names --reader --all --accept --write-accept --format --skip-faulty --system --locale --root --verbose --help" ;;

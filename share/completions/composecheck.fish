@@ -44,6 +44,8 @@ complete -c composecheck -n "__fish_seen_subcommand_from diff merge how list lin
 complete -c composecheck -n "__fish_seen_subcommand_from how list type" -l strict -d "Take faulty lines as a fault of the table"
 complete -c composecheck -n "__fish_seen_subcommand_from lint" -l reader -x -a "libX11 libxkbcommon gtk3 gtk4" -d "Another reader of Compose files"
 complete -c composecheck -n "__fish_seen_subcommand_from diff update" -l accept -r -F -d "The changes that are meant"
+complete -c composecheck -n "__fish_seen_subcommand_from merge" -l accept -r -F -d "The changes that are taken too"
+complete -c composecheck -n "__fish_seen_subcommand_from merge" -l patch -d "Print a patch of the new files"
 complete -c composecheck -n "__fish_seen_subcommand_from diff" -l write-accept -d "Print the list that accepts the changes"
 complete -c composecheck -n "__fish_seen_subcommand_from lint" -l accept -r -F -d "The findings that are accepted"
 complete -c composecheck -n "__fish_seen_subcommand_from lint" -l write-accept -d "Print the list that accepts the findings"

@@ -11,7 +11,9 @@ use std::alloc::{AllocError, Global};
 
 /// Returns the sequences in order, in which [`is_listed`] finds them. O(n log n) comparisons of
 /// sequences.
-pub(crate) fn in_order<'a>(
+///
+/// Errors: `AllocError` if memory runs out.
+pub fn in_order<'a>(
     alloc: Global,
     sequences: &'a [Vec<Keysym>],
 ) -> Result<Vec<&'a [Keysym]>, AllocError>
@@ -40,7 +42,7 @@ fn lent<'a>(alloc: Global, sequences: &'a [Vec<Keysym>]) -> Result<Vec<&'a [Keys
 
 /// Whether the sequence is among these, which are in order. O(log sequences) comparisons of
 /// sequences.
-pub(crate) fn is_listed(sorted: &[&[Keysym]], sequence: &[Keysym]) -> bool
+pub fn is_listed(sorted: &[&[Keysym]], sequence: &[Keysym]) -> bool
     requires { IsSorted (on (λ t. t.now) (slice_cmp nat_cmp)) sorted.now }
     ensures { result ≡ words.is_listed (map (λ t. t.now) sorted.now) sequence.now }
 {

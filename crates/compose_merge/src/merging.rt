@@ -110,8 +110,11 @@ pub fn merge<T: BuildTable>(
     Ok(rows)
 }
 
-/// Builds the table of the sequences that are kept.
-fn build_kept<T: BuildTable>(
+/// Builds the table of the sequences of the old one that are kept: that are not accepted. O(n log
+/// accepted ones) comparisons of sequences for n old ones, and the time of building it.
+///
+/// Errors: `TooLarge` if they have too many nodes; or `NoMemory`.
+pub fn build_kept<T: BuildTable>(
     alloc: Global,
     accepted: &[Vec<Keysym>],
     old: &Sequences,
@@ -208,8 +211,10 @@ fn does_take(fate: Fate) -> bool
     matches!(fate, Fate::Taken)
 }
 
-/// Returns the first keysyms of the sequences.
-fn first_keys(alloc: Global, sequences: &[Vec<Keysym>]) -> Result<Vec<Keysym>, AllocError>
+/// Returns the first keysyms of the sequences. O(sequences).
+///
+/// Errors: `AllocError` if memory runs out.
+pub fn first_keys(alloc: Global, sequences: &[Vec<Keysym>]) -> Result<Vec<Keysym>, AllocError>
     ensures { IfOk result (λ keys. keys.items ≡ words.first_keys (listed_keys sequences.now)) }
 {
     let mut keys = Vec::new(alloc);

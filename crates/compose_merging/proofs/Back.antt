@@ -14,7 +14,9 @@ use Rattle.compose_tree.specs.TableReturns.{NoTable, TableReturns, too_many_node
 use Rattle.compose_tree.specs.Targets.{max_nodes}
 use Rattle.compose_tree.specs.declared.reading.TableFault.{TableFault}
 use Rattle.compose_tree.specs.declared.reading.TableFault.TheVariants as table_faults
-use Rattle.compose_merging.specs.Printed.{ReadsBack, ReadsRows, source_of}
+use Rattle.compose_tree.proofs.FirstSource.{root_named}
+use Rattle.compose_merging.specs.Faults.{raised}
+use Rattle.compose_merging.specs.Printed.{FailsFrom, IsRoot, ReadsFrom, ReadsRows}
 use Rattle.compose_merging.specs.Settled.{rows_by, rows_of, settled_rows}
 
 -- ---- rows, however many nodes they have
@@ -51,53 +53,51 @@ pub rows_are : (names : KeysymNames) (sources : List Source) (root : List ℕ) (
 rows_are names sources root rule (Ok rows) h table e = ok_same rows table (rows_of names sources root rule) h (unbound rule (definitions_of names sources root) table e)
 rows_are names sources root rule (Err fault) h table e = tt
 
--- ---- the text of a merged table
+-- ---- sources that are read from their first one
 
--- the table that is read, if these rows are read
-table_read : (names : KeysymNames) (text : List ℕ) (rows : List Definition) → ReadsRows names text rows → first_table names (source_of text) Refuse ≡ bounded (Ok rows)
-table_read names text rows r = by_bound Refuse (definitions_of names (source_of text) (codes "merged")) rows r
+module _ (names : KeysymNames) (sources : List Source) (root : List ℕ) (first : IsRoot sources root) where
+  -- the table that is read, if these rows are read
+  table_read : (rows : List Definition) → ReadsRows names sources root rows → first_table names sources Refuse ≡ bounded (Ok rows)
+  table_read rows r = sym (root_named names sources root Refuse first) ∙ by_bound Refuse (definitions_of names sources root) rows r
 
-few : (rows : List Definition) → nat_le (length (nodes rows)) max_nodes ≡ true → bounded (Ok rows) ≡ Ok rows
-few rows h = ap (λ b. let r : Result (List Definition) NoTable = cond b (Ok rows) (Err too_many_nodes) in r) h
+  -- and the rows, if this table is read
+  rows_read : (table : List Definition) → first_table names sources Refuse ≡ Ok table → ReadsRows names sources root table
+  rows_read table e = unbound Refuse (definitions_of names sources root) table (root_named names sources root Refuse first ∙ e)
 
--- rows that are read, are those of the definitions, and have not too many nodes
-pub reads_back : (names : KeysymNames) (definitions : List Definition) (text : List ℕ) (read rows : List Definition) → settled Refuse definitions ≡ Ok rows → ReadsRows names text read → read ≡ rows
-    → nat_le (length (nodes read)) max_nodes ≡ true → ReadsBack names definitions text
-reads_back names definitions text read rows settles r same h =
-    record { rows = read; settles = settles ∙ ap Ok (sym same); read = table_read names text read r ∙ few read h }
+  few : (rows : List Definition) → nat_le (length (nodes rows)) max_nodes ≡ true → bounded (Ok rows) ≡ Ok rows
+  few rows h = ap (λ b. let r : Result (List Definition) NoTable = cond b (Ok rows) (Err too_many_nodes) in r) h
 
--- other rows
-pub not_back : (names : KeysymNames) (definitions : List Definition) (text : List ℕ) (read rows : List Definition) → settled Refuse definitions ≡ Ok rows → ReadsRows names text read → read ≢ rows
-    → ReadsBack names definitions text → ⊥
-not_back names definitions text read rows settles r other b =
-    other (ok_same read b.rows (rows_of names (source_of text) (codes "merged") Refuse) r (unbound Refuse (definitions_of names (source_of text) (codes "merged")) b.rows b.read)
-    ∙ ok_same b.rows rows (settled Refuse definitions) b.settles settles)
+  -- rows that are read, are those of the definitions, and have not too many nodes
+  pub reads_from : (definitions read rows : List Definition) → settled Refuse definitions ≡ Ok rows → ReadsRows names sources root read → read ≡ rows
+      → nat_le (length (nodes read)) max_nodes ≡ true → ReadsFrom names definitions sources
+  reads_from definitions read rows settles r same h = record { rows = read; settles = settles ∙ ap Ok (sym same); read = table_read read r ∙ few read h }
 
--- nothing is read
-pub unread_back : (names : KeysymNames) (definitions : List Definition) (text : List ℕ) → ((rows : List Definition) → first_table names (source_of text) Refuse ≢ Ok rows)
-    → ReadsBack names definitions text → ⊥
-unread_back names definitions text none b = none b.rows b.read
+  -- other rows
+  pub not_from : (definitions read rows : List Definition) → settled Refuse definitions ≡ Ok rows → ReadsRows names sources root read → read ≢ rows → ReadsFrom names definitions sources → ⊥
+  not_from definitions read rows settles r other b =
+      other (ok_same read b.rows (rows_of names sources root Refuse) r (rows_read b.rows b.read) ∙ ok_same b.rows rows (settled Refuse definitions) b.settles settles)
 
-no_fault : (fault : TableFault) (table : List Definition) → TableReturns (λ (rows : List Definition). rows) (Err fault) (Ok table) → (fault ≡ table_faults.NoMemory → ⊥) → ⊥
-no_fault (table_faults.Read fault) table h other = search rules
-no_fault (table_faults.Settle fault) table h other = search rules
-no_fault (table_faults.Build fault) table h other = search rules
-no_fault table_faults.NoMemory table h other = other refl
+  no_fault : (fault : TableFault) (table : List Definition) → TableReturns (λ (rows : List Definition). rows) (Err fault) (Ok table) → (fault ≡ table_faults.NoMemory → ⊥) → ⊥
+  no_fault (table_faults.Read fault) table h other = search rules
+  no_fault (table_faults.Settle fault) table h other = search rules
+  no_fault (table_faults.Build fault) table h other = search rules
+  no_fault table_faults.NoMemory table h other = other refl
 
-module _ (names : KeysymNames) (text : List ℕ) (r : Result (List Definition) TableFault) where
-  pub read_are : TableReturns (λ (rows : List Definition). rows) r (rows_of names (source_of text) (codes "merged") Refuse) → IfOk r (λ rows. ReadsRows names text rows)
-  read_are = go r
-    where
-      go : (x : Result (List Definition) TableFault) → TableReturns (λ (rows : List Definition). rows) x (rows_of names (source_of text) (codes "merged") Refuse) → IfOk x (λ rows. ReadsRows names text rows)
-      go (Ok rows) h = h
-      go (Err fault) h = tt
+  -- nothing is read
+  pub unread_from : (fault : TableFault) → TableReturns (λ (rows : List Definition). rows) (Err fault) (rows_of names sources root Refuse) → fault ≢ table_faults.NoMemory
+      → (definitions : List Definition) → ReadsFrom names definitions sources → ⊥
+  unread_from fault h other definitions b =
+      no_fault fault b.rows (subst (λ (x : Result (List Definition) NoTable). TableReturns (λ (rows : List Definition). rows) (Err fault) x) (rows_read b.rows b.read) h) other
 
-  pub unread : TableReturns (λ (rows : List Definition). rows) r (rows_of names (source_of text) (codes "merged") Refuse)
-      → IfErr r (λ fault. fault ≢ table_faults.NoMemory → (rows : List Definition) → first_table names (source_of text) Refuse ≢ Ok rows)
-  unread = go r
-    where
-      go : (x : Result (List Definition) TableFault) → TableReturns (λ (rows : List Definition). rows) x (rows_of names (source_of text) (codes "merged") Refuse)
-          → IfErr x (λ fault. fault ≢ table_faults.NoMemory → (rows : List Definition) → first_table names (source_of text) Refuse ≢ Ok rows)
-      go (Ok rows) h = tt
-      go (Err fault) h = λ other rows e.
-          no_fault fault rows (subst (λ (x : Result (List Definition) NoTable). TableReturns (λ (rows : List Definition). rows) (Err fault) x) (unbound Refuse (definitions_of names (source_of text) (codes "merged")) rows e) h) other
+  -- the result of reading them
+  pub read_are : (r : Result (List Definition) TableFault) → TableReturns (λ (rows : List Definition). rows) r (rows_of names sources root Refuse)
+      → IfOk r (λ rows. ReadsRows names sources root rows)
+  read_are (Ok rows) h = h
+  read_are (Err fault) h = tt
+
+  pub fault_from : (fault : TableFault) → TableReturns (λ (rows : List Definition). rows) (Err fault) (rows_of names sources root Refuse) → (definitions : List Definition)
+      → FailsFrom names definitions sources (raised fault)
+  fault_from (table_faults.Read fault) h definitions = unread_from (table_faults.Read fault) h (λ e. cc) definitions
+  fault_from (table_faults.Settle fault) h definitions = unread_from (table_faults.Settle fault) h (λ e. cc) definitions
+  fault_from (table_faults.Build fault) h definitions = unread_from (table_faults.Build fault) h (λ e. cc) definitions
+  fault_from table_faults.NoMemory h definitions = refl

@@ -1,6 +1,11 @@
+pub mod Accepting
 pub mod Rows
 pub mod Back
 pub mod Both
+pub mod Closing
+pub mod Kept
+pub mod Planned
 pub mod Read
+pub mod Reading
 pub mod Skips
 pub mod Steps

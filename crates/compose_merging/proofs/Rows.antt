@@ -1,12 +1,14 @@
 -- The rows of tables, one by one.
-use Rattle.std.proofs.Common.{◌≡◌, ◌≢◌, ℕ, ◌+◌, ◌<◌, List, [], ◌∷◌, ◌++◌, length, take, sym, ◌∙◌, ap, ap₂}
+use Rattle.std.proofs.Common.{◌≡◌, ◌≢◌, ℕ, ◌+◌, ◌<◌, List, [], ◌∷◌, ◌++◌, get_or, length, take, sym, ◌∙◌, ap, ap₂}
 use Rattle.std.specs.Prelude.{Some, slice_get}
 use Rattle.std.specs.Option.{option_map}
-use Rattle.std.proofs.lemmas.List.{take_more, append-nil, map-append}
-use Rattle.std.proofs.lemmas.Option.{same_Some}
+use Rattle.std.proofs.lemmas.List.{take_more, map-append, get_or-map}
+use Rattle.std.proofs.lemmas.Option.{same_Some, slice_get-get_or}
 use Rattle.keysym_core.specs.Names.{KeysymNames}
 use Rattle.compose_model.specs.Table.{Definition}
-use Rattle.compose_merge.specs.Merged.{free_keys}
+use Rattle.compose_model.specs.Nodes.{leaves}
+use Rattle.compose_read.specs.Settle.{IsSettled}
+use Rattle.compose_tree.proofs.Adding.{leaves_are}
 use Rattle.compose_merge.proofs.Rows.{row_at}
 use Rattle.compose_merging.specs.Treatments.{treatment, treatments}
 
@@ -34,14 +36,22 @@ other_text a b i t v t_is v_is other e = other (same_Some t v (sym t_is ∙ ap (
 
 -- ---- what becomes of each row
 
-module _ (names : KeysymNames) (fresh : List ℕ) (old new : List Definition) (i : ℕ) (s t : List ℕ) (below : i < length new)
+module _ (names : KeysymNames) (fresh keys : List ℕ) (base new : List Definition) (i : ℕ) (s t : List ℕ) (below : i < length new)
     (s_is : option_map (λ (d : Definition). d.sequence) (slice_get new i) ≡ Some s) (t_is : option_map (λ (d : Definition). d.text) (slice_get new i) ≡ Some t) where
   -- with the row at this index
-  pub treated_more : treatments names fresh old (take (i + 1) new) ≡ treatments names fresh old (take i new) ++ treatment names fresh old (record { sequence = s; text = t }) ∷ []
+  pub treated_more : treatments names fresh keys base (take (i + 1) new)
+      ≡ treatments names fresh keys base (take i new) ++ treatment names fresh keys base (record { sequence = s; text = t }) ∷ []
   treated_more =
       let one : Definition = record { sequence = s; text = t } in
-      ap (treatments names fresh old) (take_more new i one below ∙ ap (λ d. take i new ++ d ∷ []) (row_at new i s t below s_is t_is)) ∙ map-append (treatment names fresh old) (take i new) (one ∷ [])
+      ap (treatments names fresh keys base) (take_more new i one below ∙ ap (λ d. take i new ++ d ∷ []) (row_at new i s t below s_is t_is)) ∙ map-append (treatment names fresh keys base) (take i new) (one ∷ [])
 
--- with no keys given up, the fresh ones are free
-pub free_fresh : (fresh : List ℕ) (base : List Definition) → free_keys fresh [] base ≡ fresh
-free_fresh fresh base = append-nil fresh
+-- ---- the leaf of a row
+
+module _ (rows : List Definition) (settled : IsSettled rows) (i : ℕ) (s : List ℕ) (below : i < length rows)
+    (s_is : option_map (λ (d : Definition). d.sequence) (slice_get rows i) ≡ Some s) where
+  -- is the one with its index
+  pub leaf_of_row : get_or (leaves rows) i [] ≡ s
+  leaf_of_row =
+      let d : Definition = get_or rows i (record { sequence = s; text = [] }) in
+      let here : d.sequence ≡ s = same_Some d.sequence s (ap (option_map (λ (d : Definition). d.sequence)) (sym (slice_get-get_or rows i (record { sequence = s; text = [] }) below)) ∙ s_is) in
+      ap (λ (ls : List (List ℕ)). get_or ls i []) (leaves_are rows settled.rise) ∙ get_or-map (λ (d : Definition). d.sequence) rows i (record { sequence = s; text = [] }) [] below ∙ here

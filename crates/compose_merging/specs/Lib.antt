@@ -1,7 +1,13 @@
+pub mod Accepting
 pub mod Settled
 pub mod Treatments
 pub mod Printed
 pub mod Faults
 pub mod Merges
 pub mod Steps
+pub mod Reading
+pub mod Plan
+pub mod Patches
+pub mod Lists
+pub mod Wishes
 pub mod Runs

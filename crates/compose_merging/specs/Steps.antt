@@ -12,6 +12,9 @@ use Rattle.compose_migration.specs.declared.refusal.Refusal.{Refusal}
 use Rattle.compose_places.specs.Placed.{HasLines}
 use Rattle.compose_places.specs.declared.placed.PlacedTable.{PlacedTable}
 use Rattle.compose_diff_rows.specs.Answers.{compared}
+use Rattle.compose_tree.specs.declared.table.LeafId.{LeafId}
+use Rattle.compose_diff_rows.specs.Rows.{Written}
+use Rattle.compose_merging.specs.Printed.{listed_as}
 use Rattle.compose_merging.specs.Treatments.{is_the_taken, is_left_out}
 use Rattle.compose_merging.specs.declared.asking.MergeInput.{MergeInput}
 use Rattle.compose_merging.specs.declared.asking.Merging.{Merging}
@@ -40,8 +43,13 @@ abbrev pub AreRows : {T : Type 0} → (T → List Definition) → Side T → Typ
 AreRows view side = side.rows ≡ view side.listed.table.now
 
 -- the merge with this text, and the numbers of sequences
-pub record IsTold (old : List Definition) (treatments : List Treatment) (text : List ℕ) (merging : Merging) : Type 0 where
+pub record IsTold (kept : List LeafId) (treatments : List Treatment) (text : List ℕ) (merging : Merging) : Type 0 where
   pub table : string_bytes merging.table ≡ text
-  pub kept : merging.kept ≡ length old
+  pub kept : merging.kept ≡ length kept
   pub taken : merging.taken ≡ length (filter is_the_taken treatments)
   pub left_out : merging.left_out ≡ length (filter is_left_out treatments)
+
+-- the table is listed as it is written so, with its rows
+pub record IsSideOf {T : Type 0} (view : T → List Definition) (written : Written) (side : Side T) : Type 0 where
+  pub listed : listed_as view side.listed ≡ written
+  pub rows : AreRows view side

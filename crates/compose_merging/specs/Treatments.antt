@@ -1,12 +1,14 @@
--- What becomes of each sequence of the new table, if all of the old one are kept (this project's
+-- What becomes of each sequence of the new table beside what is kept of the old one (this project's
 -- profile).
-use Rattle.std.specs.Prelude.{ℕ, Bool, true, false, if◌then◌else◌, List, [], ◌∷◌, map, get_or}
+use Rattle.std.specs.Prelude.{ℕ, Bool, true, false, not, if◌then◌else◌, List, [], ◌∷◌, map, get_or}
 use Rattle.std.specs.Option.{option_map_or}
 use Rattle.keysym_core.specs.Names.{KeysymNames}
 use Rattle.compose_model.specs.Table.{Definition, same, text_at}
+use Rattle.compose_merge.specs.Merged.{first_keys, free_keys, is_listed, kept}
 use Rattle.compose_merge.specs.Place.{fate}
 use Rattle.compose_merge.specs.declared.fate.Fate.{Fate}
 use Rattle.compose_merge.specs.declared.fate.Fate.TheVariants as fates
+use Rattle.compose_lookup.specs.TextIndex.{sequence_at}
 use Rattle.compose_tree.specs.declared.table.LeafId.{LeafId}
 use Rattle.compose_merging.specs.declared.treatment.Cause.TheVariants as causes
 use Rattle.compose_merging.specs.declared.treatment.Treatment.{Treatment}
@@ -16,7 +18,7 @@ use Rattle.compose_merging.specs.declared.treatment.Treatment.TheVariants.{Same,
 abbrev pub has_text : List Definition → Definition → Bool
 has_text table d = option_map_or (same d.text) (text_at table d.sequence) false
 
--- by its fate, and by whether the old table has the sequence with this text
+-- by its fate, and by whether the sequence is kept with this text
 abbrev pub treatment_by : Fate → Bool → Treatment
 treatment_by fates.Taken has = Taken
 treatment_by fates.Same has = if has then Same else LeftOut causes.OtherText
@@ -24,11 +26,16 @@ treatment_by fates.Shorter has = LeftOut causes.Shorter
 treatment_by fates.Longer has = LeftOut causes.Longer
 treatment_by fates.Starts has = LeftOut causes.NewStart
 
-abbrev pub treatment : KeysymNames → List ℕ → List Definition → Definition → Treatment
-treatment names fresh old d = treatment_by (fate names fresh old (d ∷ []) d.sequence) (has_text old d)
+-- beside the sequences of the base, if these first keys are given up
+abbrev pub treatment : KeysymNames → List ℕ → List ℕ → List Definition → Definition → Treatment
+treatment names fresh keys base d = treatment_by (fate names (free_keys fresh keys base) base (d ∷ []) d.sequence) (has_text base d)
 
-abbrev pub treatments : KeysymNames → List ℕ → List Definition → List Definition → List Treatment
-treatments names fresh old new = map (treatment names fresh old) new
+abbrev pub treatments : KeysymNames → List ℕ → List ℕ → List Definition → List Definition → List Treatment
+treatments names fresh keys base new = map (treatment names fresh keys base) new
+
+-- beside what is kept of the old table, if these sequences are accepted
+abbrev pub treated : KeysymNames → List ℕ → List (List ℕ) → List Definition → List Definition → List Treatment
+treated names fresh accepted old new = treatments names fresh (first_keys accepted) (kept accepted old) new
 
 abbrev pub is_the_taken : Treatment → Bool
 is_the_taken Taken = true
@@ -41,3 +48,7 @@ is_left_out _ = false
 -- the leaf of the new table is taken, if these are the treatments of its leaves
 abbrev pub is_taken_leaf : List Treatment → LeafId → Bool
 is_taken_leaf treatments leaf = is_the_taken (get_or treatments leaf.0 Same)
+
+-- the leaf of the old table is kept: its sequence is not accepted
+abbrev pub is_kept_leaf : List (List ℕ) → List Definition → LeafId → Bool
+is_kept_leaf accepted table leaf = not (is_listed accepted (sequence_at table leaf))

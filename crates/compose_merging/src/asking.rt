@@ -1,5 +1,7 @@
 //! The input of a merge, what it gives, and why it gives nothing.
 use compose_answer::Refusal;
+use compose_diff::AcceptFault;
+use compose_diff_rows::DiffFault;
 use compose_merge::MergeFault;
 use compose_migration::MigrationInput;
 use std::alloc::{AllocError, AllocFailed};
@@ -14,6 +16,8 @@ pub struct MergeInput<'a, 'w> {
     pub old_paths: &'a [&'a str],
     /// The path of each source of the new table, in the order of the sources.
     pub new_paths: &'a [&'a str],
+    /// The list of changes that are taken from the new table, as `diff` reads it; empty for none.
+    pub accepted: &'a [u8],
 }
 
 /// The merge of two tables.
@@ -22,7 +26,7 @@ pub struct Merging {
     /// The merged table, as a Compose file without includes: a line for each sequence, with its
     /// place as a comment.
     pub table: String,
-    /// The number of sequences of the old table, all of which are kept.
+    /// The number of sequences of the old table that are kept: of all whose change isn't accepted.
     pub kept: usize,
     /// The number of sequences that are taken from the new table.
     pub taken: usize,
@@ -38,6 +42,9 @@ pub enum MergingFault {
     /// A part of the input is refused, or memory ran out.
     #[error("{0}")]
     Input(Refusal),
+    /// The list of changes that are taken is refused.
+    #[error("refused: accept: {0}")]
+    Accept(AcceptFault),
     /// The merged table has more than 100,000 sequences, or more than 1,048,576 nodes.
     #[error("refused: merged: 1 TooLarge")]
     TooLarge,
@@ -54,6 +61,20 @@ impl From<Refusal> for MergingFault {
 
     fn from(refusal: Refusal) -> MergingFault {
         MergingFault::Input(refusal)
+    }
+}
+
+impl From<DiffFault> for MergingFault {
+    ghost use Rattle.std.specs.Prelude.{◌≡◌};
+    ghost use Rattle.compose_merging.specs.Faults.{diff_raised};
+
+    ghost from_gives = { λ fault e. e ≡ diff_raised fault };
+
+    fn from(fault: DiffFault) -> MergingFault {
+        match fault {
+            DiffFault::Input(refusal) => MergingFault::Input(refusal),
+            DiffFault::Accept(fault) => MergingFault::Accept(fault),
+        }
     }
 }
 

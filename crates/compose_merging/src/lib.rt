@@ -13,9 +13,14 @@
 //! ```
 #![tactic(auto)]
 
+mod accepting;
 mod asking;
 mod fresh;
+mod joining;
+mod list_refusal;
 mod merging;
+mod patching;
+mod plan;
 mod printed;
 mod reasons;
 mod report;
@@ -24,7 +29,9 @@ mod same_rows;
 mod settled;
 mod sides;
 mod treatment;
+mod wish;
 
 pub use asking::{MergeInput, Merging, MergingFault};
 pub use merging::merge_tables;
+pub use patching::{Patching, patch_tables};
 pub use running::run_merge;

@@ -1,150 +1,132 @@
 //! The merge: both tables are read, merged, printed, and read once more.
-ghost use Rattle.std.specs.Prelude.{◌≡◌, IfErr, IfOk, IsTrue, List, Ok, string_bytes};
-ghost use Rattle.compose_model.specs.Certificate.{keys_rise};
+ghost use Rattle.std.specs.Prelude.{◌≡◌, IfErr, IfOk, List, Ok, map};
 ghost use Rattle.compose_model.specs.Table.{Definition};
 ghost use Rattle.compose_tree.specs.TableReturns.{first_table};
-ghost use Rattle.compose_merging.specs.Merges.{AnswersMerge, Merges, asked};
-ghost use Rattle.compose_merging.specs.Printed.{listed_as};
-ghost use Rattle.compose_merging.specs.Steps.{AreRows, IsPlaced, IsTold, ReturnsFresh, placed_parts};
+ghost use Rattle.compose_places.specs.Placed.{HasLines};
+ghost use Rattle.compose_diff_rows.specs.Answers.{written_in};
+ghost use Rattle.compose_merging.specs.Merges.{AnswersMerge, IsListChecked, asked};
+ghost use Rattle.compose_merging.specs.Reading.{AnswersRead};
+ghost use Rattle.compose_merging.specs.Steps.{IsPlaced, IsSideOf, ReturnsFresh, placed_parts};
 
+use crate::accepting::{accepted_sequences, check_list};
 use crate::asking::{MergeInput, Merging, MergingFault};
-use crate::fresh::fresh_keys;
-use crate::printed::{check_back, table_text};
-use crate::report::{Totals, push_all_left_out, push_totals};
+use crate::joining::{MergedTable, merge_sides};
 use crate::settled::read_settled;
 use crate::sides::Side;
-use crate::treatment::{Treatment, count_left_out, count_taken, treatments};
 use compose_answer::Refusal;
 use compose_fresh::check_fresh;
 use compose_listing::ListedTable;
-use compose_merge::merge;
 use compose_migration::{Migration, TableInput};
 use compose_places::PlacedTable;
 use compose_read::Sequences;
 use compose_tree::{BuildTable, ComposeTable, TableFault};
 use keysym_core::{Keysym, Names};
-use std::alloc::{AllocError, Global};
+use std::alloc::Global;
 
 /// Merges two tables: the merged table as a Compose file, and what is left out of the new one.
 ///
 /// Costs as much as reading both tables twice, once with their places, and merging them, and
-/// reading what is printed; and O(rows of the old table) for each line of the report.
+/// reading what is printed; and O(rows of the old table) for each line of the report. With a list of
+/// changes also as much as `diff`.
 ///
 /// Errors: `Input` with the first part that is refused, in the order names, key names, old table,
-/// new table, fresh keysyms, or if memory runs out; `TooLarge` if the merged table is too large for
-/// a table; `NotReadBack` if what would be printed is not read as the merged table.
+/// new table, fresh keysyms, or if memory runs out; `Accept` if a line of the list of changes is not
+/// in its form or names none of them; `TooLarge` if the merged table is too large for a table;
+/// `NotReadBack` if what would be printed is not read as the merged table.
 pub fn merge_tables<T: BuildTable>(
     alloc: Global,
     input: &MergeInput<'_, '_>,
 ) -> Result<Merging, MergingFault>
     ensures { AnswersMerge (asked input.now) result }
 {
+    check_list::<T>(alloc, input)?;
     match Migration::<PlacedTable<'_, T>>::read(alloc, input.tables) {
-        Ok(migration) => merge_read(alloc, input, &migration),
+        Ok(migration) => merge_migration(alloc, input, &migration),
         Err(refusal) => Err(MergingFault::Input(refusal)),
     }
 }
 
-/// Does the same, once both tables are read.
-fn merge_read<T: BuildTable>(
+/// Does the same, once both tables and the list are read.
+fn merge_migration<T: BuildTable>(
     alloc: Global,
     input: &MergeInput<'_, '_>,
     migration: &Migration<PlacedTable<'_, T>>,
 ) -> Result<Merging, MergingFault>
-    requires { IsPlaced T.definitions input.now migration.now }
+    requires placed { IsPlaced T.definitions input.now migration.now }
+    requires list { IsListChecked (asked input.now) }
     ensures { AnswersMerge (asked input.now) result }
 {
-    let fresh = fresh_keysyms(alloc, migration)?;
-    let old = rows_of(alloc, &migration.names, input.tables.old)?;
-    let new = rows_of(alloc, &migration.names, input.tables.new)?;
-    let old_side = Side {
-        listed: ListedTable {
-            names: &migration.names,
-            table: &migration.old.table,
-            lines: &migration.old.lines,
-            paths: input.old_paths,
-        },
-        rows: old,
-    };
-    let new_side = Side {
-        listed: ListedTable {
-            names: &migration.names,
-            table: &migration.new.table,
-            lines: &migration.new.lines,
-            paths: input.new_paths,
-        },
-        rows: new,
-    };
-    merge_sides(alloc, &migration.names, &fresh, &old_side, &new_side)
+    let read = merge_read(alloc, input, migration)?;
+    Ok(read.merged.merging)
+}
+
+/// Both tables that were read, and what is merged of them.
+#[derive(Drop)]
+pub(crate) struct ReadMerge<'a, T> {
+    /// The old table.
+    pub(crate) old: Side<'a, T>,
+    /// The new table.
+    pub(crate) new: Side<'a, T>,
+    /// The merge.
+    pub(crate) merged: MergedTable<T>,
 }
 
 /// Merges two tables that were read.
-fn merge_sides<T: BuildTable>(
+pub(crate) fn merge_read<'a, T: BuildTable>(
     alloc: Global,
-    names: &Names,
-    fresh: &[Keysym],
-    old: &Side<'_, T>,
-    new: &Side<'_, T>,
-) -> Result<Merging, MergingFault>
-    requires rise { IsTrue (keys_rise fresh.now) }
-    requires old { AreRows T.definitions old.now }
-    requires new { AreRows T.definitions new.now }
-    ensures { Merges names.now fresh.now (listed_as T.definitions old.now.listed)
-        (listed_as T.definitions new.now.listed) result }
+    input: &MergeInput<'a, '_>,
+    migration: &'a Migration<PlacedTable<'a, T>>,
+) -> Result<ReadMerge<'a, T>, MergingFault>
+    requires placed { IsPlaced T.definitions input.now migration.now }
+    requires list { IsListChecked (asked input.now) }
+    ensures { AnswersRead T.definitions (asked input.now) migration.now.names result }
 {
-    // The contract of this call says that the old table has not too many nodes.
-    let _ = old.listed.table.node_count();
-    let rows = merge::<T>(alloc, names, fresh, &[], &old.rows, &new.rows)?;
-    let treatments = treatments(alloc, old.listed.table, names, fresh, &new.rows)?;
-    let table = table_text(alloc, &old.listed, &new.listed, &treatments)?;
-    check_back::<T>(alloc, names, &table, &rows)?;
-    Ok(told(alloc, names, old, new, &treatments, table)?)
+    let names = &migration.names;
+    let fresh = fresh_keysyms(alloc, migration)?;
+    let old = side_of(
+        alloc,
+        names,
+        &migration.old,
+        input.tables.old,
+        input.old_paths,
+    )?;
+    let new = side_of(
+        alloc,
+        names,
+        &migration.new,
+        input.tables.new,
+        input.new_paths,
+    )?;
+    let accepted = accepted_sequences(alloc, names, &fresh, input.accepted, &old, &new)?;
+    let merged = merge_sides(alloc, names, &fresh, &accepted, &old, &new)?;
+    Ok(ReadMerge { old, new, merged })
 }
 
-/// Returns the merge with this table, and the report of it.
-fn told<T: ComposeTable>(
+/// Returns a table that was read, with its rows and the paths of its sources.
+fn side_of<'a, T: ComposeTable>(
     alloc: Global,
-    names: &Names,
-    old: &Side<'_, T>,
-    new: &Side<'_, T>,
-    treatments: &[Treatment],
-    table: String,
-) -> Result<Merging, AllocError>
-    ensures { IfOk result
-        (λ merging. IsTold old.now.rows treatments.now (string_bytes table) merging) }
+    names: &'a Names,
+    placed: &'a PlacedTable<'a, T>,
+    input: TableInput<'_>,
+    paths: &'a [&'a str],
+) -> Result<Side<'a, T>, Refusal>
+    requires read { first_table names.now input.entry.sources.now input.entry.rule
+        ≡ Ok (T.definitions placed.now.table) }
+    requires lines { HasLines T.definitions names.now input.entry.sources.now placed.now }
+    ensures side { IfOk result
+        (λ side. IsSideOf T.definitions
+        (written_in names.now input.entry.sources.now (map (λ path. path.now) paths.now)
+        (T.definitions placed.now.table)) side) }
+    ensures memory { IfErr result (λ refusal. refusal ≡ Refusal.NoMemory) }
 {
-    let kept = old.rows.len();
-    let taken = count_taken(treatments);
-    let left_out = count_left_out(treatments);
-    let totals = Totals {
-        kept,
-        taken,
-        left_out,
+    let rows = rows_of(alloc, names, input)?;
+    let listed = ListedTable {
+        names,
+        table: &placed.table,
+        lines: &placed.lines,
+        paths,
     };
-    let report = report_text(alloc, names, old, new, treatments, totals)?;
-    Ok(Merging {
-        table,
-        kept,
-        taken,
-        left_out,
-        report,
-    })
-}
-
-/// Returns the report.
-fn report_text<T: ComposeTable>(
-    alloc: Global,
-    names: &Names,
-    old: &Side<'_, T>,
-    new: &Side<'_, T>,
-    treatments: &[Treatment],
-    totals: Totals,
-) -> Result<String, AllocError> {
-    let mut report = String::new(alloc);
-    push_all_left_out(alloc, &mut report, old, new, treatments)?;
-    let fresh = fresh_keys(alloc, old.listed.table, &new.rows, treatments)?;
-    push_totals(alloc, &mut report, names, totals, &fresh)?;
-    Ok(report)
+    Ok(Side { listed, rows })
 }
 
 /// Returns the fresh keysyms of a migration in rising order, each once, if the old table has none

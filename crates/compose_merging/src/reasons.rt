@@ -1,10 +1,11 @@
 //! Why a sequence of the new table is left out, in words.
+use crate::report::KeptSides;
 use crate::sides::Side;
 use crate::treatment::Cause;
 use compose_lex::quote;
 use compose_read::Sequences;
 use compose_shown::Shown;
-use compose_tree::ComposeTable;
+use compose_tree::{ComposeTable, LeafId};
 use keysym_core::Keysym;
 use std::alloc::{AllocError, Global};
 use std::fmt::Write;
@@ -13,17 +14,17 @@ use std::fmt::Write;
 pub(crate) fn push_left_out<T: ComposeTable>(
     alloc: Global,
     report: &mut String,
-    old: &Side<'_, T>,
-    new: &Side<'_, T>,
+    sides: &KeptSides<'_, T>,
     row: usize,
     cause: Cause,
 ) -> Result<(), AllocError> {
+    let new = sides.new;
     report.push_str("left out:")?;
     push_keys(report, new, row)?;
     push_text(alloc, report, new, row)?;
     push_place(report, new, row)?;
     report.push_str(":")?;
-    push_reason(alloc, report, old, new, row, cause)?;
+    push_reason(alloc, report, sides, row, cause)?;
     report.push('\n')
 }
 
@@ -31,15 +32,14 @@ pub(crate) fn push_left_out<T: ComposeTable>(
 fn push_reason<T: ComposeTable>(
     alloc: Global,
     report: &mut String,
-    old: &Side<'_, T>,
-    new: &Side<'_, T>,
+    sides: &KeptSides<'_, T>,
     row: usize,
     cause: Cause,
 ) -> Result<(), AllocError> {
     match cause {
-        Cause::NewStart => push_start(report, new, row),
+        Cause::NewStart => push_start(report, sides.new, row),
         Cause::OtherText | Cause::Shorter | Cause::Longer => {
-            push_beside(alloc, report, old, new, row, cause)
+            push_beside(alloc, report, sides, row, cause)
         }
     }
 }
@@ -63,14 +63,14 @@ fn push_start<T: ComposeTable>(
 fn push_beside<T: ComposeTable>(
     alloc: Global,
     report: &mut String,
-    old: &Side<'_, T>,
-    new: &Side<'_, T>,
+    sides: &KeptSides<'_, T>,
     row: usize,
     cause: Cause,
 ) -> Result<(), AllocError> {
-    let Some(other) = row_beside(&old.rows, &new.rows, row) else {
+    let Some(other) = row_beside(sides, row) else {
         return Ok(());
     };
+    let old = sides.old;
     match cause {
         Cause::OtherText => push_other_text(alloc, report, old, other),
         Cause::Longer => push_beginning(alloc, report, old, other),
@@ -117,24 +117,30 @@ fn push_longer<T: ComposeTable>(
     push_place(report, old, row)
 }
 
-/// Returns the first row of the old table that has the same sequence as this row of the new one, or
-/// the beginning of it, or goes on from it. O(rows).
-fn row_beside(old: &Sequences, new: &Sequences, row: usize) -> Option<usize> {
-    if row >= new.len() {
+/// Returns the first row that is kept of the old table and has the same sequence as this row of the
+/// new one, or the beginning of it, or goes on from it. O(rows).
+fn row_beside<T: ComposeTable>(sides: &KeptSides<'_, T>, row: usize) -> Option<usize> {
+    if row >= sides.new.rows.len() {
         return None;
     }
-    first_beside(old, new.sequence(row))
+    first_beside(&sides.old.rows, sides.kept, sides.new.rows.sequence(row))
 }
 
-/// Returns the first row whose sequence is the beginning of this one, or goes on from it, or is it.
-fn first_beside(rows: &Sequences, sequence: &[Keysym]) -> Option<usize> {
-    for index in 0..rows.len() {
-        let other = rows.sequence(index);
-        if other.starts_with(sequence) || sequence.starts_with(other) {
+/// Returns the first of these rows whose sequence is the beginning of this one, or goes on from it,
+/// or is it.
+fn first_beside(rows: &Sequences, kept: &[LeafId], sequence: &[Keysym]) -> Option<usize> {
+    for leaf in kept {
+        let index = leaf.0 as usize;
+        if index < rows.len() && is_beside(rows.sequence(index), sequence) {
             return Some(index);
         }
     }
     None
+}
+
+/// Whether one sequence is the beginning of the other, or the same.
+fn is_beside(one: &[Keysym], other: &[Keysym]) -> bool {
+    one.starts_with(other) || other.starts_with(one)
 }
 
 /// Appends the keys of a row as they are written, each in brackets and after a blank.

@@ -1,15 +1,31 @@
 //! What is left out of the new table, for people.
+ghost use Rattle.std.specs.Prelude.{◌<◌, IsTrue, length};
+ghost use Rattle.compose_model.specs.Certificate.{keys_rise};
+
 use crate::fresh::{FreshKeys, joined_names};
 use crate::reasons::push_left_out;
 use crate::sides::Side;
-use crate::treatment::{Cause, Treatment};
-use compose_tree::ComposeTable;
-use keysym_core::Names;
+use crate::treatment::{Cause, Treatment, is_taken};
+use compose_merge::{Fate, fate_of, in_order, is_listed};
+use compose_read::Sequences;
+use compose_tree::{ComposeTable, LeafId};
+use keysym_core::{Keysym, Names};
 use std::alloc::{AllocError, Global};
 use std::fmt::Write;
 
 /// The greatest number of lines for one cause.
 const MOST_LINES: usize = 20;
+
+/// Both tables, and what is kept of the old one.
+#[derive(Drop)]
+pub(crate) struct KeptSides<'s, T> {
+    /// The old table.
+    pub(crate) old: &'s Side<'s, T>,
+    /// Its leaves that are kept.
+    pub(crate) kept: &'s [LeafId],
+    /// The new table.
+    pub(crate) new: &'s Side<'s, T>,
+}
 
 /// How many sequences are left out, for each cause.
 #[derive(Clone, Copy, Debug)]
@@ -68,6 +84,52 @@ pub(crate) struct Totals {
     pub(crate) kept: usize,
     pub(crate) taken: usize,
     pub(crate) left_out: usize,
+    /// How many are taken since their first key was given up with an accepted change.
+    pub(crate) let_in: usize,
+}
+
+/// Returns how many sequences are taken only since their first key begins nothing any more, as the
+/// change of another sequence with it is accepted. O(keysyms of the new table × log edges of a node +
+/// n log accepted ones) for n sequences.
+pub(crate) fn count_let_in<T: ComposeTable>(
+    alloc: Global,
+    base: &T,
+    names: &Names,
+    fresh: &[Keysym],
+    accepted: &[Vec<Keysym>],
+    new: &Sequences,
+    treatments: &[Treatment],
+) -> Result<usize, AllocError>
+    requires { IsTrue (keys_rise fresh.now) }
+{
+    let sorted = in_order(alloc, accepted)?;
+    let listed = sorted.as_slice();
+    let mut count = 0usize;
+    for index in 0..new.len() {
+        if let Some(treatment) = treatments.get(index)
+            && is_taken(*treatment)
+            && !is_listed(listed, new.sequence(index))
+            && starts(base, names, fresh, new, index)
+        {
+            count = count.saturating_add(1);
+        }
+    }
+    Ok(count)
+}
+
+/// Whether a sequence of the new table is a new start if no key is given up.
+fn starts<T: ComposeTable>(
+    base: &T,
+    names: &Names,
+    fresh: &[Keysym],
+    new: &Sequences,
+    index: usize,
+) -> bool
+    requires rise { IsTrue (keys_rise fresh.now) }
+    requires within { index < length new.now }
+{
+    let (sequence, text) = (new.sequence(index), new.text(index));
+    !sequence.is_empty() && fate_of(base, names, fresh, &[], sequence, text) == Fate::Starts
 }
 
 /// Appends a line for each sequence of the new table that is left out, in their order: the first 20
@@ -75,15 +137,14 @@ pub(crate) struct Totals {
 pub(crate) fn push_all_left_out<T: ComposeTable>(
     alloc: Global,
     report: &mut String,
-    old: &Side<'_, T>,
-    new: &Side<'_, T>,
+    sides: &KeptSides<'_, T>,
     treatments: &[Treatment],
 ) -> Result<(), AllocError> {
     let mut counts = LeftOutCounts::NONE;
     for (row, treatment) in treatments.iter().enumerate() {
         if let Treatment::LeftOut(cause) = treatment {
             if counts.of(*cause) < MOST_LINES {
-                push_left_out(alloc, report, old, new, row, *cause)?;
+                push_left_out(alloc, report, sides, row, *cause)?;
             }
             counts = counts.with(*cause);
         }
@@ -124,7 +185,11 @@ pub(crate) fn push_totals(
         kept,
         taken,
         left_out,
+        let_in,
     } = totals;
+    if let_in > 0 {
+        writeln!(report, "taken with a key that you accepted: {let_in}")?;
+    }
     write!(
         report,
         "merge: {kept} kept, {taken} taken, {left_out} left out"

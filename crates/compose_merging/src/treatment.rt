@@ -1,8 +1,7 @@
 //! What a merge does with each sequence of the new table.
-ghost use Rattle.std.specs.Prelude.{◌≡◌, ◌<◌, [], ◌∷◌, IfOk, IsTrue, MatchOption, false, filter, length, true};
+ghost use Rattle.std.specs.Prelude.{◌≡◌, ◌<◌, IfOk, IsTrue, MatchOption, false, filter, length, true};
 ghost use Rattle.compose_model.specs.Certificate.{keys_rise};
 ghost use Rattle.compose_model.specs.Table.{is_sequence};
-ghost use Rattle.compose_merge.specs.Place.{fate};
 ghost use Rattle.compose_read.specs.Settle.{IsSettled};
 ghost use Rattle.compose_tree.specs.Targets.{leaf_number};
 ghost use Rattle.compose_merging.specs.Treatments as words;
@@ -16,20 +15,20 @@ use std::alloc::{AllocError, Global};
 /// Why a sequence of the new table is left out.
 #[derive(Clone, Copy, Debug, PartialEq, Eq, Drop)]
 pub enum Cause {
-    /// The old table has it with another text.
+    /// It is kept with another text.
     OtherText,
-    /// It is the beginning of a sequence of the old table.
+    /// It is the beginning of a sequence that is kept.
     Shorter,
-    /// It goes on from a sequence of the old table, which would wait.
+    /// It goes on from a sequence that is kept, which would wait.
     Longer,
-    /// Its first key begins nothing in the old table.
+    /// Its first key begins nothing that is kept.
     NewStart,
 }
 
 /// What a merge does with a sequence of the new table.
 #[derive(Clone, Copy, Debug, PartialEq, Eq, Drop)]
 pub enum Treatment {
-    /// The old table has it, with the same text.
+    /// It is kept, with the same text.
     Same,
     /// The merged table takes it.
     Taken,
@@ -37,45 +36,48 @@ pub enum Treatment {
     LeftOut(Cause),
 }
 
-/// Returns what becomes of each sequence of the new table, in their order, if all of the old one
-/// are kept. O(keysyms of the new table × log edges of a node).
+/// Returns what becomes of each sequence of the new table, in their order, if those of `base` are
+/// kept, and these first keys are given up. O(keysyms of the new table × log edges of a node + keys
+/// given up).
 pub(crate) fn treatments<T: ComposeTable>(
     alloc: Global,
-    old: &T,
+    base: &T,
     names: &Names,
     fresh: &[Keysym],
+    given_up: &[Keysym],
     new: &Sequences,
 ) -> Result<Vec<Treatment>, AllocError>
     requires { IsTrue (keys_rise fresh.now) }
     ensures { IfOk result
         (λ treatments. treatments.items
-        ≡ words.treatments names.now fresh.now (T.definitions old.now) new.now) }
+        ≡ words.treatments names.now fresh.now given_up.now (T.definitions base.now) new.now) }
 {
     let mut treatments = Vec::with_capacity(alloc, new.len())?;
     for index in 0..new.len() {
         let (sequence, text) = (new.sequence(index), new.text(index));
-        treatments.push(treatment_of(old, names, fresh, sequence, text))?;
+        treatments.push(treatment_of(base, names, fresh, given_up, sequence, text))?;
     }
     Ok(treatments)
 }
 
 /// Returns what becomes of a sequence of the new table with this text.
 fn treatment_of<T: ComposeTable>(
-    old: &T,
+    base: &T,
     names: &Names,
     fresh: &[Keysym],
+    given_up: &[Keysym],
     sequence: &[Keysym],
     text: &str,
 ) -> Treatment
     requires rise { IsTrue (keys_rise fresh.now) }
     requires some { 0 < length sequence.now }
     ensures { result
-        ≡ words.treatment names.now fresh.now (T.definitions old.now)
+        ≡ words.treatment names.now fresh.now given_up.now (T.definitions base.now)
         (record { sequence = sequence.now; text = text.now }) }
 {
-    match fate_beside(old, names, fresh, sequence, text) {
+    match fate_of(base, names, fresh, given_up, sequence, text) {
         Fate::Taken => Treatment::Taken,
-        Fate::Same if has_text(old, sequence, text) => Treatment::Same,
+        Fate::Same if has_text(base, sequence, text) => Treatment::Same,
         Fate::Same => Treatment::LeftOut(Cause::OtherText),
         Fate::Shorter => Treatment::LeftOut(Cause::Shorter),
         Fate::Longer => Treatment::LeftOut(Cause::Longer),
@@ -83,25 +85,8 @@ fn treatment_of<T: ComposeTable>(
     }
 }
 
-/// Returns the fate of a sequence with this text beside all of the old table.
-fn fate_beside<T: ComposeTable>(
-    old: &T,
-    names: &Names,
-    fresh: &[Keysym],
-    sequence: &[Keysym],
-    text: &str,
-) -> Fate
-    requires rise { IsTrue (keys_rise fresh.now) }
-    requires some { 0 < length sequence.now }
-    ensures { result
-        ≡ fate names.now fresh.now (T.definitions old.now)
-        (record { sequence = sequence.now; text = text.now } ∷ []) sequence.now }
-{
-    fate_of(old, names, fresh, &[], sequence, text)
-}
-
 /// Whether the table has the sequence with this text. O(keysyms × log edges of a node).
-fn has_text<T: ComposeTable>(table: &T, sequence: &[Keysym], text: &str) -> bool
+pub(crate) fn has_text<T: ComposeTable>(table: &T, sequence: &[Keysym], text: &str) -> bool
     ensures { result
         ≡ words.has_text (T.definitions table.now)
         (record { sequence = sequence.now; text = text.now }) }
@@ -115,7 +100,7 @@ fn has_text<T: ComposeTable>(table: &T, sequence: &[Keysym], text: &str) -> bool
 }
 
 /// Returns the leaf with this sequence, if the table has it. O(keysyms × log edges of a node).
-fn leaf_of<T: ComposeTable>(table: &T, sequence: &[Keysym]) -> Option<LeafId>
+pub(crate) fn leaf_of<T: ComposeTable>(table: &T, sequence: &[Keysym]) -> Option<LeafId>
     requires { IsSettled (T.definitions table.now) }
     ensures { MatchOption result (is_sequence (T.definitions table.now) sequence.now ≡ false)
         (λ leaf. (is_sequence (T.definitions table.now) sequence.now ≡ true)

@@ -1,9 +1,16 @@
+use Rattle.std.specs.Prelude.{Ok}
 use Rattle.compose_migration.specs.Values.{given_of}
 use Rattle.compose_diff_rows.proofs.Joining.{unread_refused}
+use Rattle.compose_merging.specs.Merges.{AnswersMerge, asked}
+use Rattle.compose_merging.proofs.Reading.{handed_on}
 use Rattle.compose_merging.proofs.merging.merge_tables.Goals as goal
 
-pub merge_read-requires : goal.merge_read-requires
-merge_read-requires g c =
+pub returns-in_err-check_list : goal.returns-in_err-check_list
+returns-in_err-check_list g c =
+    handed_on (asked c.args.input.now) c.from_residual.result c.in_err-check_list.field-0.0 c.from_residual.ensures.1 c.in_err-check_list.ensures.fault (AnswersMerge (asked c.args.input.now)) (λ e h. h)
+
+pub merge_migration-requires-clause-placed : goal.merge_migration-requires-clause-placed
+merge_migration-requires-clause-placed g c =
     let read = c.in-Ok.ensures.parts in record {
       expected = read.0;
       read = read.1;

@@ -14,5 +14,5 @@ loop-index-preserved g c =
     let below : c.loop-index.index < length c.args.new.now = let e = c.len-index-end.ensures.count in omega (arith, c.loop-index-test.true) in
     c.in_ok-push.ensures.items
     ∙ ap₂ (λ (ts : List Treatment) (t : Treatment). ts ++ t ∷ []) c.loop-index.invariant c.treatment_of.ensures
-    ∙ sym (treated_more c.args.names.now c.args.fresh.now (g.T.ComposeTable.definitions c.args.old.now) c.args.new.now c.loop-index.index c.sequence-sequence.result.now c.text-text.result.now below
+    ∙ sym (treated_more c.args.names.now c.args.fresh.now c.args.given_up.now (g.T.ComposeTable.definitions c.args.base.now) c.args.new.now c.loop-index.index c.sequence-sequence.result.now c.text-text.result.now below
     c.sequence-sequence.ensures c.text-text.ensures)

@@ -4,4 +4,4 @@ use Rattle.compose_merging.proofs.treatment.treatments.Given as goal
 
 -- those of the rows so far
 abbrev pub invariant-loop-index : goal.invariant-loop-index
-invariant-loop-index g l = l.treatments.items ≡ treatments l.names l.fresh (g.T.ComposeTable.definitions l.old) (take l.index l.new)
+invariant-loop-index g l = l.treatments.items ≡ treatments l.names l.fresh l.given_up (g.T.ComposeTable.definitions l.base) (take l.index l.new)

@@ -1,0 +1,250 @@
+//! The patch of the new table's files that makes the merged table of them.
+ghost use Rattle.std.specs.Prelude.{◌≡◌, IfOk, List, Ok, OnOk, length, map};
+ghost use Rattle.compose_migration.specs.Values.{given_of};
+ghost use Rattle.compose_model.specs.Table.{Definition};
+ghost use Rattle.compose_model.specs.declared.Rule.TheVariants.{Refuse};
+ghost use Rattle.compose_read.specs.Settle.{settled};
+ghost use Rattle.compose_merging.specs.Merges.{IsListChecked, asked};
+ghost use Rattle.compose_merging.specs.Patches as words;
+ghost use Rattle.compose_merging.specs.Patches.{AnswersPatch};
+ghost use Rattle.compose_merging.specs.Plan as plan;
+ghost use Rattle.compose_merging.specs.Printed.{listed_as};
+ghost use Rattle.compose_merging.specs.Steps.{AreRows, IsPlaced};
+
+use crate::accepting::check_list;
+use crate::asking::{MergeInput, Merging, MergingFault};
+use crate::merging::{ReadMerge, merge_read};
+use crate::plan::{add_lines, file_edits, missing_lines};
+use crate::printed::check_sources;
+use compose_migration::Migration;
+use compose_patch::{Edit, LineChange, has_changes, new_form, push_diff};
+use compose_places::PlacedTable;
+use compose_read::Sources;
+use compose_shown::Shown;
+use compose_tree::BuildTable;
+use keysym_core::Names;
+use std::alloc::{AllocError, Global};
+use std::fmt::Write;
+
+/// A patch of the new table's files.
+#[derive(Drop)]
+pub struct Patching {
+    /// The merge of both tables.
+    pub merging: Merging,
+    /// The unified diff of the files. Once it is applied, they are read to the merged table.
+    pub patch: String,
+    /// Lines for people: which files are changed, and how many lines of each.
+    pub files: String,
+}
+
+/// Merges two tables as [`merge_tables`](crate::merge_tables) does, and makes of the new table's files
+/// those of the merged one: each line of a sequence that the merged table doesn't have is deleted, and
+/// the old table's lines that are missing then are added at the end of the first file. The files are
+/// read once more, and have to be the merged table. Takes the time of `merge_tables`, and of reading
+/// the files once more.
+///
+/// Errors: those of `merge_tables`; `NotReadBack` also if the files would not be read as the merged
+/// table.
+pub fn patch_tables<T: BuildTable>(
+    alloc: Global,
+    input: &MergeInput<'_, '_>,
+) -> Result<Patching, MergingFault>
+    ensures { AnswersPatch (asked input.now) result }
+{
+    check_list::<T>(alloc, input)?;
+    match Migration::<PlacedTable<'_, T>>::read(alloc, input.tables) {
+        Ok(migration) => patch_migration(alloc, input, &migration),
+        Err(refusal) => Err(MergingFault::Input(refusal)),
+    }
+}
+
+/// Does the same, once both tables and the list are read.
+fn patch_migration<T: BuildTable>(
+    alloc: Global,
+    input: &MergeInput<'_, '_>,
+    migration: &Migration<PlacedTable<'_, T>>,
+) -> Result<Patching, MergingFault>
+    requires placed { IsPlaced T.definitions input.now migration.now }
+    requires list { IsListChecked (asked input.now) }
+    ensures { AnswersPatch (asked input.now) result }
+{
+    let read = merge_read(alloc, input, migration)?;
+    let files = planned_files(alloc, input, &migration.names, &read)?;
+    let sources = input.tables.new.sources;
+    let patch = checked_patch(
+        alloc,
+        &migration.names,
+        sources,
+        input.new_paths,
+        &files,
+        &read,
+    )?;
+    Ok(Patching {
+        merging: read.merged.merging,
+        patch,
+        files: files_text(alloc, input.new_paths, &files)?,
+    })
+}
+
+/// Returns the lines of each file of the new table: without those of sequences that the merged table
+/// doesn't have, and with those of the old one that are missing.
+fn planned_files<'a, T: BuildTable>(
+    alloc: Global,
+    input: &MergeInput<'a, '_>,
+    names: &Names,
+    read: &ReadMerge<'_, T>,
+) -> Result<Vec<Vec<Edit<'a>>>, AllocError>
+    requires { AreRows T.definitions read.now.old }
+    ensures { IfOk result
+        (λ files. words.files_of files.items
+        ≡ plan.planned_files names.now (T.definitions read.now.merged.table)
+        (given_of input.now.tables).new.sources
+        (plan.missing_lines (given_of input.now.tables).old.sources
+        (listed_as T.definitions read.now.old.listed) read.now.merged.kept.items
+        (T.definitions read.now.new.listed.table.now))) }
+{
+    let (of_old, of_new) = (input.tables.old.sources, input.tables.new.sources);
+    let lines = missing_lines(
+        alloc,
+        of_old,
+        &read.old,
+        &read.merged.kept,
+        read.new.listed.table,
+    )?;
+    let mut files = edited_files(alloc, names, &read.merged.table, of_new)?;
+    add_to_first(&mut files, &lines)?;
+    Ok(files)
+}
+
+/// Returns the unified diff of these files, if they are read to the merged table once they are
+/// patched.
+fn checked_patch<T: BuildTable>(
+    alloc: Global,
+    names: &Names,
+    sources: &Sources<'_>,
+    paths: &[&str],
+    files: &[Vec<Edit<'_>>],
+    read: &ReadMerge<'_, T>,
+) -> Result<String, MergingFault>
+    requires { length files.now ≡ length sources.now }
+    ensures { (definitions : List Definition) → settled Refuse definitions ≡ Ok read.now.merged.rows
+        → words.ChecksPatch names.now definitions sources.now (map (λ path. path.now) paths.now)
+        (words.files_of files.now) result }
+{
+    let after = patched_sources(alloc, sources, files)?;
+    let root = after.name(0).unwrap_or("");
+    let _table: T = check_sources(alloc, names, &after, root, &read.merged.rows)?;
+    let text = patch_text(alloc, paths, files)?;
+    match String::from_utf8(text) {
+        Ok(patch) => Ok(patch),
+        Err(_) => Err(MergingFault::NotReadBack),
+    }
+}
+
+/// Returns the lines of each file of the new table, of which those are deleted whose sequences the
+/// merged table doesn't have.
+fn edited_files<'a, T: BuildTable>(
+    alloc: Global,
+    names: &Names,
+    merged: &T,
+    sources: &'a Sources<'_>,
+) -> Result<Vec<Vec<Edit<'a>>>, AllocError>
+    ensures { IfOk result
+        (λ files. words.files_of files.items
+        ≡ map (λ s. plan.file_edits names.now (T.definitions merged.now) s.bytes) sources.now) }
+{
+    let mut files = Vec::new(alloc);
+    for index in 0..sources.count() {
+        files.push(file_edits(alloc, names, merged, sources.bytes(index))?)?;
+    }
+    Ok(files)
+}
+
+/// Adds the lines at the end of the first file.
+fn add_to_first<'a>(files: &mut Vec<Vec<Edit<'a>>>, lines: &[&'a [u8]]) -> Result<(), AllocError>
+    ensures { OnOk result
+        (words.files_of files.new.items
+        ≡ plan.with_first (words.files_of files.old.items) (map (λ line. line.now) lines.now)) }
+{
+    if let Some(edits) = files.first_mut() {
+        add_lines(edits, lines)?;
+    }
+    Ok(())
+}
+
+/// Returns the sources as they are once they are patched.
+fn patched_sources(
+    alloc: Global,
+    sources: &Sources<'_>,
+    files: &[Vec<Edit<'_>>],
+) -> Result<Sources<'static>, AllocError>
+    requires { length files.now ≡ length sources.now }
+    ensures { IfOk result
+        (λ after. after ≡ words.patched_sources sources.now (words.files_of files.now)) }
+{
+    let mut after = Sources::new(alloc);
+    for (index, edits) in files.iter().enumerate() {
+        let bytes = new_form(alloc, edits)?;
+        let name = sources.name(index).unwrap_or("");
+        if after.add(name, bytes).is_err() {
+            return Err(AllocError);
+        }
+    }
+    Ok(after)
+}
+
+/// Returns the unified diff of the files at these paths. A path that several sources have comes once.
+fn patch_text(alloc: Global, paths: &[&str], files: &[Vec<Edit<'_>>]) -> Result<Vec<u8>, AllocError>
+    ensures { IfOk result
+        (λ text. text.items
+        ≡ words.diffs_of (map (λ path. path.now) paths.now) (words.files_of files.now)
+        (length files.now)) }
+{
+    let mut text = Vec::new(alloc);
+    for (index, edits) in files.iter().enumerate() {
+        if let Some(path) = new_path(paths, index) {
+            push_diff(alloc, &mut text, path, edits)?;
+        }
+    }
+    Ok(text)
+}
+
+/// Returns the path of a source, unless one before it has the same.
+fn new_path<'a>(paths: &[&'a str], index: usize) -> Option<&'a str> {
+    let path = paths.get(index)?;
+    if paths[..index].contains(path) {
+        return None;
+    }
+    Some(path)
+}
+
+/// Returns a line for each file that is changed: how many of its lines are deleted, and how many
+/// added.
+fn files_text(
+    alloc: Global,
+    paths: &[&str],
+    files: &[Vec<Edit<'_>>],
+) -> Result<String, AllocError> {
+    let mut text = String::new(alloc);
+    for (index, edits) in files.iter().enumerate() {
+        if has_changes(edits)
+            && let Some(path) = new_path(paths, index)
+        {
+            push_counts(&mut text, path, edits)?;
+        }
+    }
+    Ok(text)
+}
+
+/// Appends how many lines of the file at this path are deleted and added.
+fn push_counts(text: &mut String, path: &str, edits: &[Edit<'_>]) -> Result<(), AllocError> {
+    let path = Shown(path);
+    let deleted = count_of(edits, LineChange::Deleted);
+    let added = count_of(edits, LineChange::Added);
+    writeln!(text, "patch: {path}: {deleted} deleted, {added} added")
+}
+
+/// Returns to how many lines this happens.
+fn count_of(edits: &[Edit<'_>], change: LineChange) -> usize {
+    edits.iter().filter(|edit| edit.change == change).count()
+}

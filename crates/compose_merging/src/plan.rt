@@ -1,0 +1,206 @@
+//! Which lines of the new table's files a patch deletes and adds.
+ghost use Rattle.std.specs.Prelude.{◌≡◌, IfOk, OnOk, map};
+ghost use Rattle.std.specs.Option.{option_map};
+ghost use Rattle.compose_read.specs.Lines as sources;
+ghost use Rattle.compose_places.specs.Events.{line_events};
+ghost use Rattle.compose_merging.specs.Plan as words;
+ghost use Rattle.compose_merging.specs.Printed.{listed_as};
+ghost use Rattle.compose_merging.specs.Steps.{AreRows};
+
+use crate::sides::Side;
+use crate::treatment::has_text;
+use arrayvec::ArrayVec;
+use compose_lex::{LineContent, lex_line_into};
+use compose_patch::{Edit, LineChange, first_line_kept};
+use compose_places::{DefinitionPlace, Events, leaf_named};
+use compose_read::Sources;
+use compose_text::first_line;
+use compose_tree::{ComposeTable, LeafId};
+use keysym_core::Names;
+use std::alloc::{AllocError, Global};
+
+/// Returns the lines of a file of the new table: each is kept, unless it defines a sequence that the
+/// merged table doesn't have. O(bytes + keysyms × log edges of a node).
+pub(crate) fn file_edits<'a, T: ComposeTable>(
+    alloc: Global,
+    names: &Names,
+    merged: &T,
+    bytes: &'a [u8],
+) -> Result<Vec<Edit<'a>>, AllocError>
+    ensures { IfOk result
+        (λ edits. edits.items
+        ≡ words.file_edits names.now (T.definitions merged.now) bytes.now) }
+{
+    let mut edits = Vec::new(alloc);
+    let mut rest = bytes;
+    while let Some((line, behind)) = first_line_kept(rest) {
+        edits.push(checked_line(names, merged, line))?;
+        rest = behind;
+    }
+    Ok(edits)
+}
+
+/// Returns a line as one that is deleted, if it defines a sequence that the merged table doesn't
+/// have.
+fn checked_line<'a, T: ComposeTable>(names: &Names, merged: &T, line: Edit<'a>) -> Edit<'a>
+    ensures { result ≡ words.checked_line names.now (T.definitions merged.now) line.entry }
+{
+    if is_lacking(names, merged, without_mark(line.line)) {
+        return Edit {
+            change: LineChange::Deleted,
+            ..line
+        };
+    }
+    line
+}
+
+/// Whether the line is a definition, and the table has no sequence with its keys.
+fn is_lacking<T: ComposeTable>(names: &Names, table: &T, line: &[u8]) -> bool
+    ensures { result ≡ words.is_lacking names.now (T.definitions table.now) line.now }
+{
+    match line_keys(line) {
+        Some(keys) => leaf_named(names, table, keys.as_slice()).is_none(),
+        None => false,
+    }
+}
+
+/// Returns the names of the keys of a line, if it is a definition.
+fn line_keys(line: &[u8]) -> Option<Events<'_>>
+    ensures { option_map (λ keys. map (λ key. key.now) keys.items) result ≡ line_events line.now }
+{
+    let Ok(text) = str::from_utf8(line) else {
+        return None;
+    };
+    let mut events = ArrayVec::new();
+    match lex_line_into(text, &mut events) {
+        Ok(LineContent::Production { .. }) => Some(events),
+        _ => None,
+    }
+}
+
+/// Returns the bytes without a UTF-8 byte order mark at their start, as a file may have it.
+fn without_mark(bytes: &[u8]) -> &[u8]
+    ensures { result.now ≡ sources.without_mark bytes.now }
+{
+    bytes.strip_prefix(&[0xef, 0xbb, 0xbf]).unwrap_or(bytes)
+}
+
+/// Returns the lines of the old table's files for those of its leaves that are kept and that the new
+/// table doesn't give with the same text, in the order of these leaves. O(bytes of the files + keysyms ×
+/// log edges of a node).
+pub(crate) fn missing_lines<'a, T: ComposeTable>(
+    alloc: Global,
+    sources: &'a Sources<'_>,
+    old: &Side<'_, T>,
+    kept: &[LeafId],
+    new: &T,
+) -> Result<Vec<&'a [u8]>, AllocError>
+    requires { AreRows T.definitions old.now }
+    ensures { IfOk result
+        (λ lines. map (λ line. line.now) lines.items
+        ≡ words.missing_lines sources.now (listed_as T.definitions old.now.listed) kept.now
+        (T.definitions new.now)) }
+{
+    let files = all_lines(alloc, sources)?;
+    let mut lines = Vec::new(alloc);
+    for leaf in kept {
+        let row = leaf.0 as usize;
+        if row < old.rows.len() && !has_text(new, old.rows.sequence(row), old.rows.text(row)) {
+            lines.push(line_at(&files, old, row))?;
+        }
+    }
+    Ok(lines)
+}
+
+/// Returns the line that counts for a row, as it is in its file; nothing without one.
+fn line_at<'a, T: ComposeTable>(
+    files: &[Vec<&'a [u8]>],
+    side: &Side<'_, T>,
+    row: usize,
+) -> &'a [u8] {
+    match side.line(row) {
+        Some(line) => line_of(files, line.place()),
+        None => &[],
+    }
+}
+
+/// Returns the line at this place; nothing if there is none.
+fn line_of<'a>(files: &[Vec<&'a [u8]>], place: DefinitionPlace) -> &'a [u8] {
+    if let Some(lines) = files.get(place.source)
+        && let Some(index) = place.line.checked_sub(1)
+        && let Some(line) = lines.get(index)
+    {
+        return line;
+    }
+    &[]
+}
+
+/// Returns the lines of each source.
+fn all_lines<'a>(
+    alloc: Global,
+    sources: &'a Sources<'_>,
+) -> Result<Vec<Vec<&'a [u8]>>, AllocError> {
+    let mut files = Vec::new(alloc);
+    for index in 0..sources.count() {
+        files.push(lines_of(alloc, without_mark(sources.bytes(index)))?)?;
+    }
+    Ok(files)
+}
+
+/// Returns the lines of a file.
+fn lines_of(alloc: Global, bytes: &[u8]) -> Result<Vec<&[u8]>, AllocError> {
+    let mut lines = Vec::new(alloc);
+    let mut rest = bytes;
+    while let Some((line, behind)) = first_line(rest) {
+        lines.push(line)?;
+        rest = behind;
+    }
+    Ok(lines)
+}
+
+/// Adds these lines after all others. If no newline ends the last one of the new form, it gets one.
+/// O(lines).
+pub(crate) fn add_lines<'a>(edits: &mut Vec<Edit<'a>>, lines: &[&'a [u8]]) -> Result<(), AllocError>
+    ensures { OnOk result
+        (edits.new.items
+        ≡ words.with_lines edits.old.items (map (λ line. line.now) lines.now)) }
+{
+    if lines.is_empty() {
+        return Ok(());
+    }
+    end_last(edits)?;
+    for line in lines {
+        edits.push(added_line(line))?;
+    }
+    Ok(())
+}
+
+/// Ends the last line with a newline, if it is kept and has none.
+fn end_last(edits: &mut Vec<Edit<'_>>) -> Result<(), AllocError>
+    ensures { OnOk result (edits.new.items ≡ words.end_last edits.old.items) }
+{
+    match edits.pop() {
+        Some(last) if !last.is_ended && last.change == LineChange::Kept => {
+            let line = last.line;
+            edits.push(Edit {
+                change: LineChange::Deleted,
+                ..last
+            })?;
+            edits.push(added_line(line))?;
+        }
+        Some(last) => edits.push(last)?,
+        None => {}
+    }
+    Ok(())
+}
+
+/// Returns a line that is added.
+fn added_line(line: &[u8]) -> Edit<'_>
+    ensures { result ≡ words.added_line line.now }
+{
+    Edit {
+        change: LineChange::Added,
+        line,
+        is_ended: true,
+    }
+}

@@ -1,0 +1,3 @@
+pub mod Lines
+pub mod Edits
+pub mod Hunks
