@@ -191,8 +191,8 @@ pub fn leaf_named<T: ComposeTable>(names: &Names, table: &T, keys: &[&str]) -> O
     leaf_of(table, sequence.as_slice())
 }
 
-/// Returns the keysyms of these names, if each has one.
-fn sequence_named(names: &Names, keys: &[&str]) -> Option<Sequence>
+/// Returns the keysyms of these names, if each has one. O(keys) look-ups of names.
+pub fn sequence_named(names: &Names, keys: &[&str]) -> Option<Sequence>
     requires { length keys.now ≤ 32 }
     ensures { option_map (λ sequence. sequence.items) result
         ≡ words.sequence_named names.now (map (λ key. key.now) keys.now) }

@@ -35,7 +35,7 @@ mod placed;
 mod places;
 mod sequence_list;
 
-pub use counting::{CountingLine, leaf_named};
+pub use counting::{CountingLine, leaf_named, sequence_named};
 pub use events::{Events, written_events};
 pub use last::last_definitions;
 pub use placed::{PlacedTable, read_placed_table};
