@@ -40,21 +40,23 @@ use Rattle.compose_diff.specs.declared.row.DiffRow.{DiffRow}
 use Rattle.compose_diff.specs.declared.overlaps.Overlaps.{Overlaps}
 use Rattle.compose_diff.specs.declared.row.TextPlace.{TextPlace}
 use Rattle.compose_diff_rows.specs.Answers.{Asked, IsDiff, IsFormAnswer, AreRows, overlaps_in, compared, compared_parts, old_written, new_written, reports_kept}
+use Rattle.compose_diff_rows.specs.Taken.{merge_text}
 use Rattle.compose_diff_rows.specs.Following.{IsYes, AreMeant, entry_text, reported_text, is_named, is_meant}
 use Rattle.compose_diff_rows.specs.Rows.{ReportedRow, Written, reported_row, reported_entry, row_of, kept_row, kept_rows, reported_rows, is_reported, is_reported_of}
 use Rattle.compose_diff_rows.specs.declared.asking.Form.{Form}
 
 -- ---- yes, by the rows that are left
 
-yes_is : (form : Form) (lost_alone : Bool) (overlaps : Overlaps) (rows left : List DiffRow) (answer : Answer) → IsFormAnswer form lost_alone overlaps rows left answer → IsYes answer ↔ loses_nothing left ≡ true
-yes_is form lost_alone overlaps rows left (Yes text) reported = ((λ yes. reported.0), (λ none. tt))
-yes_is form lost_alone overlaps rows left (No text) reported = ((λ yes. absurd yes), (λ none. clash (loses_nothing left) none reported.0))
+yes_is : (form : Form) (lost_alone : Bool) (overlaps : Overlaps) (last : List ℕ) (rows left : List DiffRow) (answer : Answer)
+    → IsFormAnswer form lost_alone overlaps last rows left answer → IsYes answer ↔ loses_nothing left ≡ true
+yes_is form lost_alone overlaps last rows left (Yes text) reported = ((λ yes. reported.0), (λ none. tt))
+yes_is form lost_alone overlaps last rows left (No text) reported = ((λ yes. absurd yes), (λ none. clash (loses_nothing left) none reported.0))
   where
     clash : (b : Bool) → b ≡ true → not b ≡ true → ⊥
     clash true e f = cc
     clash false e f = cc
-yes_is form lost_alone overlaps rows left (Invalid fault) reported = absurd reported
-yes_is form lost_alone overlaps rows left (FreshNotAllowed keysym) reported = absurd reported
+yes_is form lost_alone overlaps last rows left (Invalid fault) reported = absurd reported
+yes_is form lost_alone overlaps last rows left (FreshNotAllowed keysym) reported = absurd reported
 
 same_lines : (lines read : List Line) (bytes : List ℕ) → accepted_of bytes ≡ Ok lines → accepted_of bytes ≡ Ok read → lines ≡ read
 same_lines lines read bytes f g = go (sym f ∙ g)
@@ -216,7 +218,7 @@ module _ (asked : Asked) (e : Explainable) where
   -- yes exactly if each harmful change is named
   pub meant_is : (answer : Answer) (lines : List Line) → IsDiff asked e answer → accepted_of asked.accepted ≡ Ok lines → IsYes answer ↔ AreMeant asked e lines
   meant_is answer lines diff read =
-      let yes = yes_is asked.form asked.lost_alone (overlaps_in asked e) diff.rows diff.left answer diff.reported in
+      let yes = yes_is asked.form asked.lost_alone (overlaps_in asked e) (merge_text asked.form e) diff.rows diff.left answer diff.reported in
       let all : loses_nothing diff.left ≡ list_all passes_here (map reported_row diff.are.reported) =
       ap loses_nothing (left_is diff.lines diff.rows diff.left diff.leaves) ∙ left_passes diff.lines diff.rows
       ∙ ap (λ (ls : List Line). list_all (passes ls) diff.rows) (same_lines diff.lines lines asked.accepted diff.read read) ∙ rows_pass lines diff.rows diff.are in (

@@ -7,3 +7,4 @@ pub mod Following
 pub mod FirstTyping
 pub mod LongerNow
 pub mod LostTexts
+pub mod Taken

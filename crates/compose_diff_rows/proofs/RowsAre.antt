@@ -1,5 +1,5 @@
 -- The reported rows and the kept ones are the rows of what is compared.
-use Rattle.std.proofs.Common.{◌≡◌, List, ◌++◌, Bool, map, subst, ◌∙◌, ap₂}
+use Rattle.std.proofs.Common.{◌≡◌, ℕ, List, ◌++◌, Bool, map, subst, ◌∙◌, ap₂}
 use Rattle.std.specs.Prelude.{Result, Ok, Err}
 use Rattle.std.specs.List.Sorted.{IsPermutation}
 use Rattle.compose_places.specs.Counting.{AreLines}
@@ -8,9 +8,10 @@ use Rattle.compose_answer.specs.declared.answer.Answer.{Answer}
 use Rattle.compose_diff.specs.Accepted.{Line}
 use Rattle.compose_diff.specs.Order.{AreInOrder}
 use Rattle.compose_diff.specs.declared.row.DiffRow.{DiffRow}
-use Rattle.compose_diff_rows.specs.Answers.{Asked, AreTables, AreSorted, AreRows, overlaps_in, reports_kept, old_written, new_written}
+use Rattle.compose_diff_rows.specs.Answers.{Asked, AreTables, AreSorted, AreRows, IsFormAnswer, overlaps_in, reports_kept, old_written, new_written}
 use Rattle.compose_diff_rows.specs.Rows.{ReportedRow, Reported, Written, reported_row, reported_of, is_reported_of, old_reported, new_reported, old_row, new_row, kept_rows}
-use Rattle.compose_diff_rows.specs.Steps.{AnswersForm, AnswersCompared}
+use Rattle.compose_diff_rows.specs.Taken.{merge_text}
+use Rattle.compose_diff_rows.specs.Steps.{AnswersWhole, AnswersCompared}
 use Rattle.compose_diff_rows.specs.declared.asking.DiffFault.{DiffFault}
 use Rattle.compose_diff_rows.specs.declared.asking.DiffFault.TheVariants.{Input, Accept}
 use Rattle.compose_diff_rows.proofs.RowsSoFar.{old_rows_are, new_rows_are}
@@ -40,7 +41,9 @@ module _ (asked : Asked) (e : Explainable) where
         })))
 
   -- what is reported of these rows is reported of what is compared
-  pub rows_reported : (lines : List Line) (rows : List DiffRow) → AreTables e → AreRows asked e rows → (r : Result Answer DiffFault) → AnswersForm asked.form asked.lost_alone (overlaps_in asked e) lines rows r → AnswersCompared asked e lines r
-  rows_reported lines rows tables are (Ok answer) h = (rows, tables, are, h)
-  rows_reported lines rows tables are (Err (Input refusal)) h = h
-  rows_reported lines rows tables are (Err (Accept fault)) h = (rows, are, h)
+  pub rows_reported : (last : List ℕ) → last ≡ merge_text asked.form e → (lines : List Line) (rows : List DiffRow) → AreTables e → AreRows asked e rows → (r : Result Answer DiffFault)
+      → AnswersWhole asked.form asked.lost_alone (overlaps_in asked e) last lines rows r → AnswersCompared asked e lines r
+  rows_reported last is lines rows tables are (Ok answer) h =
+      (rows, tables, are, h.0, h.1, subst (λ (it : List ℕ). IsFormAnswer asked.form asked.lost_alone (overlaps_in asked e) it rows h.0 answer) is h.2)
+  rows_reported last is lines rows tables are (Err (Input refusal)) h = h
+  rows_reported last is lines rows tables are (Err (Accept fault)) h = (rows, are, h)

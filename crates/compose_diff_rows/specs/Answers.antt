@@ -31,6 +31,7 @@ use Rattle.compose_diff.specs.declared.overlaps.Overlaps.{Overlaps}
 use Rattle.compose_diff.specs.declared.row.DiffRow.{DiffRow}
 use Rattle.compose_page.specs.Page.{page_text}
 use Rattle.compose_diff_rows.specs.Rows.{Written, reported_row, reported_rows, kept_rows}
+use Rattle.compose_diff_rows.specs.Taken.{merge_text}
 use Rattle.compose_diff_rows.specs.declared.asking.Form.{Form}
 use Rattle.compose_diff_rows.specs.declared.asking.Form.TheVariants.{Folded, Lines, Json, AcceptList, Page}
 use Rattle.compose_diff_rows.specs.declared.asking.DiffInput.{DiffInput}
@@ -132,14 +133,15 @@ form_text Json lost_alone overlaps rows left = json_answer lost_alone overlaps r
 form_text AcceptList lost_alone overlaps rows left = accept_lines (shown_rows lost_alone left)
 form_text (Page markup folds) lost_alone overlaps rows left = page_text markup (record { folds = folds; lost_alone = lost_alone }) overlaps rows left
 
--- yes if each of the rows that are left is harmless
-abbrev pub IsFormAnswer : Form → Bool → Overlaps → List DiffRow → List DiffRow → Answer → Type 0
-IsFormAnswer form lost_alone overlaps rows left (Yes text) = IsTrue (loses_nothing left) × (string_bytes text ≡ form_text form lost_alone overlaps rows left)
-IsFormAnswer form lost_alone overlaps rows left (No text) = IsTrue (not (loses_nothing left)) × (string_bytes text ≡ form_text form lost_alone overlaps rows left)
-IsFormAnswer form lost_alone overlaps rows left (Invalid fault) = ⊥
-IsFormAnswer form lost_alone overlaps rows left (FreshNotAllowed keysym) = ⊥
+-- yes if each of the rows that are left is harmless; otherwise a last line follows
+abbrev pub IsFormAnswer : Form → Bool → Overlaps → List ℕ → List DiffRow → List DiffRow → Answer → Type 0
+IsFormAnswer form lost_alone overlaps last rows left (Yes text) = IsTrue (loses_nothing left) × (string_bytes text ≡ form_text form lost_alone overlaps rows left)
+IsFormAnswer form lost_alone overlaps last rows left (No text) = IsTrue (not (loses_nothing left)) × (string_bytes text ≡ form_text form lost_alone overlaps rows left ++ last)
+IsFormAnswer form lost_alone overlaps last rows left (Invalid fault) = ⊥
+IsFormAnswer form lost_alone overlaps last rows left (FreshNotAllowed keysym) = ⊥
 
--- the answer on what is compared: the rows that are left are those that no line accepts
+-- the answer on what is compared: the rows that are left are those that no line accepts, and the
+-- last line says what a merge of both tables has
 pub record IsDiff (asked : Asked) (e : Explainable) (answer : Answer) : Type 0 where
   pub lines : List Line
   pub rows : List DiffRow
@@ -148,7 +150,7 @@ pub record IsDiff (asked : Asked) (e : Explainable) (answer : Answer) : Type 0 w
   pub read : accepted_of asked.accepted ≡ Ok lines
   pub are : AreRows asked e rows
   pub leaves : left_of lines rows ≡ Ok left
-  pub reported : IsFormAnswer asked.form asked.lost_alone (overlaps_in asked e) rows left answer
+  pub reported : IsFormAnswer asked.form asked.lost_alone (overlaps_in asked e) (merge_text asked.form e) rows left answer
 
 -- a line of the list of intended changes matches none of the rows
 pub record IsStale (asked : Asked) (e : Explainable) (line : ℕ) : Type 0 where

@@ -3,10 +3,12 @@ ghost use Rattle.std.specs.Prelude.{◌≡◌, ◌++◌, Bool, List, map, IfOk, 
 ghost use Rattle.std.specs.List.Sorted.{IsPermutation};
 ghost use Rattle.compose_model.specs.Certificate.{keys_rise};
 ghost use Rattle.compose_diff_rows.specs.Answers as answers;
-ghost use Rattle.compose_diff_rows.specs.Answers.{AnswersDiff, IsFormAnswer, asked, form_text};
+ghost use Rattle.compose_diff_rows.specs.Answers.{AnswersDiff, asked, form_text};
 ghost use Rattle.compose_diff_rows.specs.Rows as words;
-ghost use Rattle.compose_diff_rows.specs.Steps.{ReturnsFresh, IsPlaced, AnswersCompared, AnswersForm, placed_parts};
+ghost use Rattle.compose_diff_rows.specs.Steps.{ReturnsFresh, IsPlaced, IsRowsAnswer, AnswersCompared, AnswersForm, AnswersWhole, placed_parts};
+ghost use Rattle.compose_diff_rows.specs.Taken as merges;
 ghost use Rattle.compose_diff_rows.specs.declared.asking.Form.{Form};
+ghost use Rattle.compose_diff.specs.Accepted.{Line};
 ghost use Rattle.compose_diff.specs.Lost as lost;
 ghost use Rattle.compose_diff.specs.Order.{AreInOrder};
 ghost use Rattle.compose_diff.specs.declared.overlaps.Overlaps.{Overlaps};
@@ -15,6 +17,7 @@ ghost use Rattle.compose_diff.specs.declared.row.DiffRow.{DiffRow};
 use crate::asking::{DiffFault, DiffInput, Form};
 use crate::reported::{ReportedSequence, lost_texts, reported_of_new, reported_of_old};
 use crate::rows::{add_kept_rows, reported_rows};
+use crate::taken::count_taken;
 use crate::written::WrittenTable;
 use compose_answer::{Answer, Refusal};
 use compose_compare::compare;
@@ -125,14 +128,42 @@ fn answer_tables<T: ComposeTable>(
         old: migration.old.overlaps,
         new: migration.new.overlaps,
     };
-    answer_rows(
-        alloc,
-        &rows,
-        accepted,
-        input.form,
-        input.lost_alone,
-        overlaps,
-    )
+    let added = count_taken(names, comparison.new_changes(), old.table, &new);
+    let last = merge_line(alloc, input.form, old.table.leaf_count(), added)?;
+    let (form, lost_alone) = (input.form, input.lost_alone);
+    let answered = answer_rows(alloc, &rows, accepted, form, lost_alone, overlaps);
+    with_last(answered, &last)
+}
+
+/// Returns the line about `merge`, if it is printed in this form: how many sequences of both tables
+/// the merged one has.
+fn merge_line(alloc: Global, form: Form, kept: u32, added: u32) -> Result<String, AllocError>
+    ensures { IfOk result (λ line. string_bytes line ≡ merges.merge_line form kept added) }
+{
+    match form {
+        Form::Folded => format!(in alloc;
+            "merge: would keep {kept} of OLD's sequences and add {added} of NEW's\n"
+        ),
+        Form::Lines | Form::Json | Form::AcceptList | Form::Page { .. } => Ok(String::new(alloc)),
+    }
+}
+
+/// Returns the answer with this last line, if people lose something by it.
+fn with_last(answered: Result<Answer, DiffFault>, last: &str) -> Result<Answer, DiffFault>
+    ensures { (form : Form) (lost_alone : Bool) (overlaps : Overlaps) (lines : List Line)
+        (rows : List DiffRow) → AnswersForm form lost_alone overlaps lines rows answered
+        → AnswersWhole form lost_alone overlaps last.now lines rows result }
+{
+    match answered {
+        Ok(Answer::No(mut text)) => {
+            text.push_str(last)?;
+            Ok(Answer::No(text))
+        }
+        Ok(Answer::Yes(text)) => Ok(Answer::Yes(text)),
+        Ok(Answer::Invalid(fault)) => Ok(Answer::Invalid(fault)),
+        Ok(Answer::FreshNotAllowed(keysym)) => Ok(Answer::FreshNotAllowed(keysym)),
+        Err(fault) => Err(fault),
+    }
 }
 
 /// Returns whether kept sequences are reported too.
@@ -231,7 +262,7 @@ fn shown_rows<'r>(
 fn answer_on(rows: &[DiffRow<'_>], text: String) -> Answer
     ensures { (form : Form) (lost_alone : Bool) (overlaps : Overlaps) (all : List DiffRow)
         → string_bytes text ≡ form_text form lost_alone overlaps all rows.now
-        → IsFormAnswer form lost_alone overlaps all rows.now result }
+        → IsRowsAnswer form lost_alone overlaps all rows.now result }
 {
     if loses_nothing(rows) {
         return Answer::Yes(text);

@@ -28,6 +28,7 @@ mod asking;
 mod longer;
 mod reported;
 mod rows;
+mod taken;
 mod typing;
 mod written;
 

@@ -211,7 +211,10 @@ fn reported_at<'a, T: ComposeTable>(
 
 /// Returns the names of the keys of this leaf, as they are written in the line that counts; none
 /// without a line.
-fn keys_at<'a, T: ComposeTable>(written: &WrittenTable<'a, T>, leaf: LeafId) -> Events<'a>
+pub(crate) fn keys_at<'a, T: ComposeTable>(
+    written: &WrittenTable<'a, T>,
+    leaf: LeafId,
+) -> Events<'a>
     ensures { map (λ key. key.now) result.items
         ≡ option_map_or (λ line. line.keys) (get_or written.now.lines.now leaf.0 None) [] }
 {

@@ -32,6 +32,7 @@ mod place;
 pub use fate::{Fate, fate_of};
 pub use listed::{in_order, is_listed};
 pub use merging::{MergeFault, build_kept, first_keys, merge};
+pub use place::{Place, place_of};
 
 /// The merged table follows the old one if nothing is accepted. Otherwise it follows what is kept
 /// of the old one, on keys without the freed ones. It has each sequence that is kept with its text,
