@@ -262,6 +262,26 @@ def counts_of(rows, accepted=0):
     return "diff: " + ", ".join(parts)
 
 
+def cause(old, new, fresh, sequence):
+    """Why a merge leaves out a sequence of the new table; None if it is taken, and "" if the old table has the same."""
+    if sequence in old:
+        return "" if old[sequence] == new[sequence] else "text"
+    if any(it.startswith(sequence) for it in old):
+        return "shorter"
+    if any(sequence.startswith(it) for it in old):
+        return "longer"
+    is_known = sequence[0] in fresh or any(it[0] == sequence[0] for it in old)
+    return None if is_known or sequence == sequence[0] and new[sequence] == OWN_TEXT[sequence] else "start"
+
+
+def merge_lines(old, new, fresh, rows):
+    """The last line of folded ones, if people lose something: what a merge of both tables would have."""
+    if all(it["change"] in ("kept", "added") for it in rows):
+        return []
+    added = sum(cause(old.texts, new.texts, fresh, it) is None for it in new.texts)
+    return [f"merge: would keep {len(old.texts)} of OLD's sequences and add {added} of NEW's"]
+
+
 class Trial:
     """Runs of the program on pairs of tables."""
 
@@ -306,10 +326,11 @@ class Trial:
             ran = self.run(folder, "--no-fold", *options)
             self.expect(f"{number}: lines", [*map(line_of, rows_in_order(rows)), *overlaps, counts_of(rows)], ran.stdout.splitlines())
             ran = self.run(folder, *options)
-            self.expect(f"{number}: folded lines", [*folded_lines(rows, rows), *overlaps, counts_of(rows)], ran.stdout.splitlines())
+            last = merge_lines(old, new, fresh, rows)
+            self.expect(f"{number}: folded lines", [*folded_lines(rows, rows), *overlaps, counts_of(rows), *last], ran.stdout.splitlines())
             lost = [it for it in rows if is_lost(it)]
             ran = self.run(folder, "--lost", *options)
-            self.expect(f"{number}: folded lost ones", [*folded_lines(rows, lost), *overlaps, counts_of(rows)], ran.stdout.splitlines())
+            self.expect(f"{number}: folded lost ones", [*folded_lines(rows, lost), *overlaps, counts_of(rows), *last], ran.stdout.splitlines())
             ran = self.run(folder, "--no-fold", "--lost", *options)
             self.expect(f"{number}: lost ones", [*map(line_of, rows_in_order(lost)), *overlaps, counts_of(rows)], ran.stdout.splitlines())
             self.expect(f"{number}: status with --lost", 1 if losses else 0, ran.returncode)

@@ -12,7 +12,7 @@ import subprocess
 import sys
 import tempfile
 
-from diff import NUMBER, OWN_TEXT, WRITTEN, line_of, quoted, random_pair, told
+from diff import NUMBER, WRITTEN, cause, line_of, quoted, random_pair, told
 from harness import Results
 
 SEED = 31
@@ -27,18 +27,6 @@ MORE = {
 
 def in_order(sequences):
     return sorted(sequences, key=lambda it: [NUMBER[key] for key in it])
-
-
-def cause(old, new, fresh, sequence):
-    """Why a sequence of the new table is left out; None if it is taken, and "" if the old table has the same."""
-    if sequence in old:
-        return "" if old[sequence] == new[sequence] else "text"
-    if any(it.startswith(sequence) for it in old):
-        return "shorter"
-    if any(sequence.startswith(it) for it in old):
-        return "longer"
-    is_known = sequence[0] in fresh or any(it[0] == sequence[0] for it in old)
-    return None if is_known or sequence == sequence[0] and new[sequence] == OWN_TEXT[sequence] else "start"
 
 
 def keys(table, sequence):

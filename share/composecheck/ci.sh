@@ -296,6 +296,8 @@ compare() {
     if [ -e "$list" ]; then note_intended "$locale" "$list" "$@"; fi
     if [ $form != text ]; then
         if [ -e "$list" ]; then set -- "$@" --accept "$list"; fi
+        # (only folded lines say what a merge would keep and add)
+        diff_locale "$locale" "$@" 2> /dev/null | sed -n '/^merge: /p' >> "$room/changes/$locale"
         diff_locale "$locale" "$@" --format $form > "$room/pages/$locale" 2> /dev/null || :
     fi
     if grep '^note: .* lies outside of ' "$room/errors" > "$room/notes"; then
@@ -441,7 +443,7 @@ print_lines() {
     level=$1
     shift
     awk -v level="$level" -v form=$form "$grouping"'
-        /^(diff|overlaps): / { next }
+        /^(diff|overlaps|merge): / { next }
         { locale = substr(FILENAME, 3) }
         !($0 in locales) { lines[++count] = $0 }
         { locales[$0] = with(locales[$0], locale) }
@@ -588,6 +590,13 @@ print_counts() (
         }' ./*
 )
 
+# Prints how many sequences of all locales whose people lose some `composecheck merge` would keep and add, if there is one.
+print_merges() {
+    merges=$(awk '/^merge: / { kept += $4; added += $10; locales++ }
+        END { if (locales) printf "merge: would keep %d of OLD'"'"'s sequences and add %d of NEW'"'"'s, in %d locale%s", kept, added, locales, locales == 1 ? "" : "s" }' "$@")
+    if [ -n "$merges" ]; then print_words "$merges"; fi
+}
+
 # Prints all that was found of the locales that were compared, and their number.
 print_compared() {
     set -- "$room/changes"/*
@@ -608,6 +617,7 @@ print_compared() {
     1) print_words '1 locale was compared.' ;;
     *) print_words "$# locales were compared." ;;
     esac
+    if [ $# != 0 ]; then print_merges "$@"; fi
 }
 
 # Prints the whole report, of the options for `diff`.

@@ -27,7 +27,7 @@ static DRAFTS: [DraftRow; 6] = [
 ];
 
 /// Returns the keysyms with these numbers.
-fn keysyms(alloc: Global, numbers: &[u32]) -> Result<Vec<Keysym>, AllocError> {
+pub fn keysyms(alloc: Global, numbers: &[u32]) -> Result<Vec<Keysym>, AllocError> {
     let mut keysyms = Vec::new(alloc);
     for number in numbers {
         keysyms.push(Keysym::new(*number).unwrap_or_default())?;

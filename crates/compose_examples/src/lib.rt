@@ -56,6 +56,8 @@ mod losing;
 #[cfg(test)]
 mod making;
 #[cfg(test)]
+mod merging;
+#[cfg(test)]
 mod messages;
 #[cfg(test)]
 mod paging;

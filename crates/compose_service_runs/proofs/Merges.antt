@@ -1,9 +1,15 @@
 -- What becomes of a table that may be merged into the one in use.
-use Rattle.std.proofs.Common.{◌≡◌, ◌∙◌, sym, subst, ℕ, Bool, true, false, List, map, inl, inr, string_bytes}
-use Rattle.std.specs.Prelude.{Option, Some, Result, IsTrue}
+use Rattle.std.proofs.Common.{◌≡◌, ◌∙◌, refl, sym, ap, subst, [], ℕ, Bool, true, false, List, map, inl, inr, string_bytes}
+use Rattle.std.specs.Prelude.{Option, Some, Result, Ok, Err, IsTrue}
 use Rattle.compose_answer.specs.declared.answer.Ended.TheVariants.{Refused as InputRefused}
 use Rattle.compose_bundle.specs.Bundle.{Bundle, IsBundle}
-use Rattle.compose_merging.specs.Merges.{Asked as MergeAsked, AnswersMerge}
+use Rattle.compose_diff.specs.Accepted.{Line, accepted_of, left_of}
+use Rattle.compose_diff.specs.declared.accepted.AcceptFault.{AcceptFault}
+use Rattle.compose_diff.specs.declared.accepted.AcceptFault.TheVariants.{Stale, BadLine, NoMemory}
+use Rattle.compose_diff.specs.declared.row.DiffRow.{DiffRow}
+use Rattle.compose_diff_rows.specs.Answers.{Asked as Differing, AnswersDiff}
+use Rattle.compose_diff_rows.specs.declared.asking.DiffFault.TheVariants as differing
+use Rattle.compose_merging.specs.Merges.{Asked as MergeAsked, AnswersMerge, diff_of}
 use Rattle.compose_merging.specs.declared.asking.Merging.{Merging}
 use Rattle.compose_merging.specs.declared.asking.MergingFault.{MergingFault}
 use Rattle.compose_model.specs.declared.Rule.TheVariants.{Longest}
@@ -12,7 +18,7 @@ use Rattle.compose_report.specs.Outcomes.{PrintsErrors}
 use Rattle.compose_report.specs.declared.outcome.Outcome.{Outcome}
 use Rattle.compose_runs.specs.declared.updating.UpdateFiles.{UpdateFiles}
 use Rattle.compose_table_file.specs.TableFile.{TableFile}
-use Rattle.compose_service_runs.specs.Merged.{IsMergedInto, WasMergedWith, merge_asked, with_merged}
+use Rattle.compose_service_runs.specs.Merged.{HasNoList, IsMergedInto, WasMergedWith, merge_asked, with_merged}
 use Rattle.compose_service_runs.specs.Taking.{Asked, Becomes, BecomesBeside, BecomesMerged, BecomesUnsaid, IsFrom, IsUnnoted, IsUnreadable, is_meant, is_other, unread}
 use Rattle.compose_service_runs.specs.declared.merged.MergedUpdate.{MergedUpdate}
 use Rattle.compose_service_runs.specs.declared.merged.MergedUpdate.TheVariants as merges
@@ -25,6 +31,7 @@ asked_with header fresh current new old_paths new_paths = record {
   migration = record { header = header; key_names = fresh; old = record { sources = current; rule = Longest }; new = record { sources = new; rule = Longest } };
   old_paths = old_paths;
   new_paths = new_paths;
+  accepted = [];
 }
 
 -- a table of which nothing is said
@@ -96,3 +103,19 @@ merge_answers files fresh current header old_paths new_paths result h o n answer
 pub merged_of : (current : TableFile) (payload : List ℕ) (files : UpdateFiles) (fresh : List (List ℕ)) (returned merged : MergedUpdate) → current.payload ≡ payload → returned ≡ merged
     → IsMergedInto payload files fresh returned → IsMergedInto current.payload files fresh merged
 merged_of current payload files fresh returned merged is e into = subst (λ p. IsMergedInto p files fresh merged) (sym is) (subst (IsMergedInto payload files fresh) e into)
+
+-- a list that is not given is not refused
+pub never_refused : (asked : Differing) → asked.accepted ≡ [] → (fault : AcceptFault) → AnswersDiff asked (Err (differing.Accept fault)) → ⊥
+never_refused asked none (BadLine n) h = let clash : accepted_of [] ≡ Err (BadLine n) = sym (ap accepted_of none) ∙ h.2 in cc
+never_refused asked none (Stale n) h = stale h.2.lines (same_lines h.2.lines (sym (ap accepted_of none) ∙ h.2.read)) h.2.rows h.2.stale
+  where
+    same_lines : (lines : List Line) → accepted_of [] ≡ Ok lines → [] ≡ lines
+    same_lines lines e = cc
+
+    stale : (lines : List Line) → [] ≡ lines → (rows : List DiffRow) → left_of lines rows ≡ Err (Stale n) → ⊥
+    stale lines e rows f = let clash : left_of [] rows ≡ Err (Stale n) = ap (λ ls. left_of ls rows) e ∙ f in cc
+never_refused asked none NoMemory h = h
+
+pub no_list : (files : UpdateFiles) (fresh : List (List ℕ)) (current : List Source) (result : Result Merging MergingFault) → AnswersMerge (merge_asked files fresh current) result → HasNoList result
+no_list files fresh current result answers fault e =
+    never_refused (diff_of (merge_asked files fresh current)) refl fault (subst (AnswersMerge (merge_asked files fresh current)) e answers)

@@ -4,11 +4,12 @@ use Rattle.std.specs.Prelude.{◌≡◌, ◌==◌, if◌then◌else◌, ℕ, Boo
 use Rattle.std.specs.Str.{bytes_eq}
 use Rattle.compose_answer.specs.declared.answer.Ended.TheVariants.{Refused as InputRefused}
 use Rattle.compose_bundle.specs.Bundle.{Bundle, IsBundle}
+use Rattle.compose_diff.specs.declared.accepted.AcceptFault.{AcceptFault}
 use Rattle.compose_input.specs.declared.tables.TableFiles.{TableFiles}
 use Rattle.compose_merging.specs.Merges.{Asked as MergeAsked, AnswersMerge}
 use Rattle.compose_merging.specs.declared.asking.Merging.{Merging}
 use Rattle.compose_merging.specs.declared.asking.MergingFault.{MergingFault}
-use Rattle.compose_merging.specs.declared.asking.MergingFault.TheVariants.{Input, TooLarge, NotReadBack}
+use Rattle.compose_merging.specs.declared.asking.MergingFault.TheVariants.{Input, Accept, TooLarge, NotReadBack}
 use Rattle.compose_model.specs.declared.Rule.TheVariants.{Longest}
 use Rattle.compose_read.specs.Lines.{Source}
 use Rattle.compose_report.specs.Outcomes.{PrintsErrors}
@@ -48,7 +49,12 @@ merge_asked files fresh current = record {
   migration = record { header = files.names.lines.items; key_names = fresh; old = record { sources = current; rule = Longest }; new = record { sources = files.new.sources; rule = Longest } };
   old_paths = map (λ (source : Source). source.name) current;
   new_paths = map string_bytes files.new.paths.items;
+  accepted = [];
 }
+
+-- no list of changes is given that could be refused
+abbrev pub HasNoList : Result Merging MergingFault → Type 0
+HasNoList result = (fault : AcceptFault) → result ≡ Err (Accept fault) → ⊥
 
 -- the sources of the table that the merge gives: those of the table in use, if nothing is taken
 -- from the new one; and otherwise the merged table, as `merge` prints it
@@ -75,6 +81,7 @@ pub record HasTable (sources : List Source) (old new : UpdateFiles) : Type 0 whe
 -- the tables are refused as `update` refuses a table; or there is no merged table, which is printed
 abbrev pub IsUnmerged : UpdateFiles → List (List ℕ) → MergingFault → Outcome → Type 0
 IsUnmerged files fresh (Input refusal) outcome = IsUpdateRefusal files fresh refusal outcome
+IsUnmerged files fresh (Accept fault) outcome = ⊥
 IsUnmerged files fresh TooLarge outcome = PrintsErrors (codes "composecheck: the merged table is too large for a table\n") InputRefused outcome
 IsUnmerged files fresh NotReadBack outcome = PrintsErrors (codes "composecheck: the merged table would not be read back as this table\n") InputRefused outcome
 

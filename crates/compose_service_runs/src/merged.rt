@@ -3,10 +3,12 @@
 //! include: so the table in use tells what it was merged with.
 ghost use Rattle.std.specs.Prelude.{◌≡◌, ◌++◌, ◌∷◌, [], map, option_copied, unwrap_or, IfOk, IsTrue, OnOk, string_bytes};
 ghost use Rattle.compose_answer.specs.declared.answer.Ended.TheVariants.{Refused};
+ghost use Rattle.compose_diff.specs.declared.accepted.AcceptFault.{AcceptFault};
 ghost use Rattle.compose_merging.specs.Merges.{AnswersMerge};
+ghost use Rattle.compose_merging.specs.declared.asking.MergingFault.TheVariants.{Accept};
 ghost use Rattle.compose_report.specs.Outcomes.{PrintsErrors};
 ghost use Rattle.compose_service_runs.specs.Merged as words;
-ghost use Rattle.compose_service_runs.specs.Merged.{HasTable, IsMergeDone, IsMergedInto, IsUnmerged, WasMergedWith, merge_asked, sources_merged, with_merged};
+ghost use Rattle.compose_service_runs.specs.Merged.{HasNoList, HasTable, IsMergeDone, IsMergedInto, IsUnmerged, WasMergedWith, merge_asked, sources_merged, with_merged};
 
 use crate::taking::is_same;
 use compose_answer::Ended;
@@ -65,6 +67,7 @@ fn merge_done<'n>(
     current: &Sources,
     merging: Result<Merging, MergingFault>,
 ) -> Result<MergedUpdate<'n>, Fault>
+    requires { HasNoList merging }
     ensures { IfOk result
         (λ merged. IsMergeDone current.now files.now (map (λ name. name.now) fresh.now) merging
         merged) }
@@ -85,8 +88,8 @@ fn merge_with<T: BuildTable>(
     fresh: &[&str],
     current: &Sources,
 ) -> Result<Merging, MergingFault>
-    ensures { AnswersMerge (merge_asked files.now (map (λ name. name.now) fresh.now) current.now)
-        result }
+    ensures answers { AnswersMerge (merge_asked files.now (map (λ name. name.now) fresh.now) current.now) result }
+    ensures no_list { HasNoList result }
 {
     let (old_paths, new_paths) = (source_names(alloc, current)?, files.new.path_texts(alloc)?);
     let tables = MigrationInput {
@@ -105,6 +108,7 @@ fn merge_with<T: BuildTable>(
         tables,
         old_paths: &old_paths,
         new_paths: &new_paths,
+        accepted: &[],
     };
     merge_tables::<T>(alloc, &input)
 }
@@ -116,11 +120,13 @@ fn unmerged_outcome(
     fresh: &[&str],
     fault: MergingFault,
 ) -> Result<Outcome, AllocError>
+    requires { (list : AcceptFault) → fault ≡ Accept list → ⊥ }
     ensures { IfOk result
         (λ outcome. IsUnmerged files.now (map (λ name. name.now) fresh.now) fault outcome) }
 {
     match fault {
         MergingFault::Input(refusal) => refused_outcome(alloc, files, fresh, refusal),
+        MergingFault::Accept(_) => unreachable!(),
         MergingFault::TooLarge => refused(
             alloc,
             "composecheck: the merged table is too large for a table\n",

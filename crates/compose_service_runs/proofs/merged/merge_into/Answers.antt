@@ -12,6 +12,6 @@ returns g c =
       bundle = record { sources = bundle.sources; certificate = bundle.certificate.now };
       in_use = c.in_ok-bundle.ensures.read;
       merging = merging;
-      is = c.merge_with-merging.ensures;
+      is = c.merge_with-merging.ensures.answers;
       done = done;
     }) c.merge_done.ensures
