@@ -7,4 +7,4 @@ pub mod Following
 pub mod FirstTyping
 pub mod LongerNow
 pub mod LostTexts
-pub mod Taken
+pub mod TakenSoFar

@@ -170,7 +170,7 @@ module _ {Y : Type 0} (test : List ℕ → Bool) (row_for : List ℕ → Y) (xs 
 -- what happens to a leaf of the new table, by the list of the changes of all leaves
 module _ (names : KeysymNames) (fresh : List ℕ) (old new : List Definition) (changes : List (Option Change)) (all : changes ≡ new_changes names fresh old new) where
   module _ (i : ℕ) (h : i < length (leaves new)) (d : Option Change) where
-    slot_is : get_or changes i d ≡ cond (is_sequence old (get_or (leaves new) i [])) None (Some (change names fresh old new (get_or (leaves new) i [])))
+    pub slot_is : get_or changes i d ≡ cond (is_sequence old (get_or (leaves new) i [])) None (Some (change names fresh old new (get_or (leaves new) i [])))
     slot_is = ap (λ cs. get_or cs i d) all ∙ get_or-map (λ s. cond (is_sequence old s) None (Some (change names fresh old new s))) (leaves new) i [] d h
 
     -- if it has a change, only the new table has it

@@ -159,10 +159,7 @@ fn with_last(answered: Result<Answer, DiffFault>, last: &str) -> Result<Answer, 
             text.push_str(last)?;
             Ok(Answer::No(text))
         }
-        Ok(Answer::Yes(text)) => Ok(Answer::Yes(text)),
-        Ok(Answer::Invalid(fault)) => Ok(Answer::Invalid(fault)),
-        Ok(Answer::FreshNotAllowed(keysym)) => Ok(Answer::FreshNotAllowed(keysym)),
-        Err(fault) => Err(fault),
+        other => other,
     }
 }
 

@@ -39,6 +39,16 @@ module _ (names : KeysymNames) (fresh : List ℕ) (old new : List Definition) (s
       ∙ by_tests (is_sequence old s) (is_new_start names fresh old new s) (not (is_extended old s) && not (is_extension old s))
       (cond (agree_along names old new [] [] s) Kept (cond (is_sequence new s) Changed (cond (is_extended new s) Waiting Removed)))
 
+  -- by whether it is added
+  pub not_taken : (change : Option Change) (added : Bool) → added ≡ is_added change → not added ≡ true → change ≡ change_of names fresh old new s → false ≡ is_taken names fresh old new s
+  not_taken change true e no h = let clash : false ≡ true = no in cc
+  not_taken change false e no h = ap (λ b. b && is_apart old s) e ∙ taken_is change (is_apart old s) h refl
+
+  pub taken_apart : (change : Option Change) (added apart : Bool) → added ≡ is_added change → not added ≡ false → apart ≡ is_apart old s → change ≡ change_of names fresh old new s
+      → apart ≡ is_taken names fresh old new s
+  taken_apart change true apart e yes f h = ap (λ b. b && apart) e ∙ taken_is change apart h f
+  taken_apart change false apart e yes f h = let clash : true ≡ false = yes in cc
+
 -- ---- the sequences so far
 
 pub one_more : (f : List ℕ → Bool) (xs : List (List ℕ)) (i : ℕ) → i < length xs → (b : Bool) → b ≡ f (get_or xs i [])
