@@ -1,4 +1,4 @@
-pub mod Accepting
+pub mod Named
 pub mod Rows
 pub mod Back
 pub mod Both

@@ -23,11 +23,13 @@ use Rattle.compose_merging.specs.declared.patching.Patching.{Patching}
 
 -- ---- what is printed
 
--- the unified diff of the file at this index, unless one before it has the same path
+-- the unified diff of a file whose path is the one at this index, unless one before it is the same
+abbrev pub diff_of : List (List ℕ) → ℕ → List LineEdit → List ℕ
+diff_of paths i edits = if is_among (take i paths) (get_or paths i []) then [] else diff_text (get_or paths i []) edits
+
+-- that of the file at this index
 abbrev pub diff_at : List (List ℕ) → List (List LineEdit) → ℕ → List ℕ
-diff_at paths files i =
-    let path = get_or paths i [] in
-    if is_among (take i paths) path then [] else diff_text path (get_or files i [])
+diff_at paths files i = diff_of paths i (get_or files i [])
 
 -- those of the first n files
 abbrev pub diffs_of : List (List ℕ) → List (List LineEdit) → ℕ → List ℕ
@@ -36,11 +38,15 @@ diffs_of paths files (suc n) = diffs_of paths files n ++ diff_at paths files n
 
 -- ---- the files once they are patched
 
+-- a source with the new form of these edits
+abbrev pub patched_source : List ℕ → List LineEdit → Source
+patched_source name edits = record { name = name; bytes = new_form edits }
+
 -- the sources with the new forms of these files
 abbrev pub patched_sources : List Source → List (List LineEdit) → List Source
 patched_sources [] files = []
 patched_sources (s ∷ sources) [] = []
-patched_sources (s ∷ sources) (edits ∷ files) = record { name = s.name; bytes = new_form edits } ∷ patched_sources sources files
+patched_sources (s ∷ sources) (edits ∷ files) = patched_source s.name edits ∷ patched_sources sources files
 
 -- they are not read to the rows of these definitions, or their unified diff is no text
 abbrev pub NotPatched : KeysymNames → List Definition → List Source → List (List ℕ) → List (List LineEdit) → Type 0

@@ -1,12 +1,16 @@
 -- Which lines of the new table's files a patch deletes, and which it adds (this project's profile).
-use Rattle.std.specs.Prelude.{ℕ, Bool, true, false, not, if◌then◌else◌, List, [], ◌∷◌, ◌++◌, filter, get_or, map, Option, Some, None, unwrap_or}
+use Rattle.std.specs.Prelude.{ℕ, Bool, Bor, true, false, not, ◌&&◌, nat_lt, if◌then◌else◌, List, [], ◌∷◌, ◌++◌, flat_map, get_or, length, map, slice_get, Option, Some, None, unwrap_or}
+use Rattle.std.specs.declared.alloc.Global.{Global}
+use Rattle.std.specs.declared.vec.Vec.{Vec}
 use Rattle.std.specs.Option.{option_map_or}
 use Rattle.keysym_core.specs.Names.{KeysymNames}
 use Rattle.compose_model.specs.Table.{Definition, is_sequence}
-use Rattle.compose_read.specs.Lines.{Source, without_mark}
+use Rattle.compose_model.specs.Nodes.{leaves}
+use Rattle.compose_read.specs.Lines.{Source, source_lines, without_mark}
 use Rattle.compose_tree.specs.declared.table.LeafId.{LeafId}
 use Rattle.compose_places.specs.Counting.{WrittenLine, sequence_named}
-use Rattle.compose_places.specs.Events.{line_at, line_events}
+use Rattle.compose_places.specs.Events.{line_at, line_events, numbered_from_one}
+use Rattle.compose_places.specs.declared.places.DefinitionPlace.{DefinitionPlace}
 use Rattle.compose_lookup.specs.TextIndex.{sequence_at, text_of}
 use Rattle.compose_patch.specs.Edits.{kept_lines}
 use Rattle.compose_patch.specs.Lines.{LineEdit}
@@ -37,18 +41,23 @@ file_edits names wanted bytes = map (checked_line names wanted) (kept_lines byte
 
 -- ---- what is added
 
--- the new table doesn't give the sequence of this leaf of the old one with its text
+-- the leaf is one of the old table's, and the new one doesn't give its sequence with its text
 abbrev pub is_missing : List Definition → List Definition → LeafId → Bool
-is_missing old new leaf = not (has_text new (record { sequence = sequence_at old leaf; text = text_of old leaf }))
+is_missing old new leaf =
+    nat_lt leaf.0 (length (leaves old)) && not (has_text new (record { sequence = sequence_at old leaf; text = text_of old leaf }))
 
 -- a line of the sources, as it is there
 abbrev pub standing_line : List Source → Option WrittenLine → List ℕ
 standing_line sources None = []
 standing_line sources (Some line) = unwrap_or (line_at sources line.place) []
 
--- the lines of those of these leaves of the old table that are missing in the new one
+-- the line of a leaf of the old table, if it is missing in the new one
+abbrev pub missing_line : List Source → Written → List Definition → LeafId → List (List ℕ)
+missing_line sources old new leaf = if is_missing old.table new leaf then standing_line sources (get_or old.lines leaf.0 None) ∷ [] else []
+
+-- the lines of those of these leaves that are
 abbrev pub missing_lines : List Source → Written → List LeafId → List Definition → List (List ℕ)
-missing_lines sources old kept new = map (λ leaf. standing_line sources (get_or old.lines leaf.0 None)) (filter (is_missing old.table new) kept)
+missing_lines sources old kept new = flat_map (missing_line sources old new) kept
 
 abbrev pub added_line : List ℕ → LineEdit
 added_line line = record { change = Added; line = line; is_ended = true }
@@ -81,3 +90,20 @@ with_first (edits ∷ files) lines = with_lines edits lines ∷ files
 
 abbrev pub planned_files : KeysymNames → List Definition → List Source → List (List ℕ) → List (List LineEdit)
 planned_files names wanted sources lines = with_first (map (λ s. file_edits names wanted s.bytes) sources) lines
+
+-- ---- definitions for private functions
+
+-- the lines of files
+abbrev pub lists_of : List (Vec (Bor (List ℕ)) Global) → List (List (List ℕ))
+lists_of files = map (λ file. map (λ line. line.now) file.items) files
+
+abbrev pub files_lines : List Source → List (List (List ℕ))
+files_lines sources = map (λ s. source_lines s.bytes) sources
+
+-- the line with this number, from 1; nothing if there is none
+abbrev pub numbered : List (List ℕ) → ℕ → List ℕ
+numbered lines number = unwrap_or (numbered_from_one lines number) []
+
+-- the line at this place; nothing if there is none
+abbrev pub line_in : List (List (List ℕ)) → DefinitionPlace → List ℕ
+line_in files place = option_map_or (λ lines. numbered lines place.line) (slice_get files place.source) []

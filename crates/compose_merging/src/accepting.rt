@@ -59,13 +59,13 @@ pub(crate) fn check_list<T: BuildTable>(
 /// Returns the sequences of the rows of `diff` that the list names: those of the old table, and then
 /// those that only the new one has. O(edges of both tables × log edges of a node + bytes of the rows
 /// × lines of the list).
-pub(crate) fn accepted_sequences<T: ComposeTable>(
+pub(crate) fn accepted_sequences<'a, T: ComposeTable>(
     alloc: Global,
     names: &Names,
     fresh: &[Keysym],
     list: &[u8],
-    old: &Side<'_, T>,
-    new: &Side<'_, T>,
+    old: &Side<'a, T>,
+    new: &Side<'a, T>,
 ) -> Result<Vec<Vec<Keysym>>, AllocError>
     requires rise { IsTrue (keys_rise fresh.now) }
     requires old { AreRows T.definitions old.now }
@@ -102,13 +102,13 @@ pub(crate) fn accepted_sequences<T: ComposeTable>(
 
 /// Adds the sequences of the old table whose rows the lines name; `changes` holds what happens to
 /// each of its sequences.
-fn add_of_old<T: ComposeTable>(
+fn add_of_old<'a, T: ComposeTable>(
     alloc: Global,
     accepted: &mut Vec<Vec<Keysym>>,
     lines: &[ListLine<'_>],
     changes: &[Change],
-    old: &Side<'_, T>,
-    new: &Side<'_, T>,
+    old: &Side<'a, T>,
+    new: &Side<'a, T>,
 ) -> Result<(), AllocError>
     requires rows { AreRows T.definitions old.now }
     requires few { length changes.now ≡ length (leaves (T.definitions old.now.listed.table.now)) }
@@ -142,13 +142,13 @@ fn add_of_old<T: ComposeTable>(
 
 /// Adds the sequences that only the new table has and whose rows the lines name; `changes` holds
 /// what happens to each of these, and nothing for the others of the new table.
-fn add_of_new<T: ComposeTable>(
+fn add_of_new<'a, T: ComposeTable>(
     alloc: Global,
     accepted: &mut Vec<Vec<Keysym>>,
     lines: &[ListLine<'_>],
     changes: &[Option<Change>],
-    old: &Side<'_, T>,
-    new: &Side<'_, T>,
+    old: &Side<'a, T>,
+    new: &Side<'a, T>,
 ) -> Result<(), AllocError>
     requires rows { AreRows T.definitions new.now }
     requires few { length changes.now ≡ length (leaves (T.definitions new.now.listed.table.now)) }
@@ -185,14 +185,14 @@ fn add_of_new<T: ComposeTable>(
 
 /// Adds the sequence, to which this happens and whose keys are written as in this one of both tables,
 /// if one of the lines names its row.
-fn add_if_named<T: ComposeTable>(
+fn add_if_named<'a, T: ComposeTable>(
     alloc: Global,
     accepted: &mut Vec<Vec<Keysym>>,
     lines: &[ListLine<'_>],
     change: Change,
-    of: &ListedTable<'_, T>,
-    old: &Side<'_, T>,
-    new: &Side<'_, T>,
+    of: &ListedTable<'a, T>,
+    old: &Side<'a, T>,
+    new: &Side<'a, T>,
     sequence: &[Keysym],
 ) -> Result<(), AllocError>
     ensures { (names : KeysymNames) (fresh : List ℕ)
@@ -218,13 +218,13 @@ fn add_if_named<T: ComposeTable>(
 
 /// Whether one of the lines names the row of the sequence, to which this happens and whose keys are
 /// written as in this one of both tables.
-fn is_row_named<T: ComposeTable>(
+fn is_row_named<'a, T: ComposeTable>(
     alloc: Global,
     lines: &[ListLine<'_>],
     change: Change,
-    of: &ListedTable<'_, T>,
-    old: &Side<'_, T>,
-    new: &Side<'_, T>,
+    of: &ListedTable<'a, T>,
+    old: &Side<'a, T>,
+    new: &Side<'a, T>,
     sequence: &[Keysym],
 ) -> Result<bool, AllocError>
     ensures { (names : KeysymNames) (fresh : List ℕ)
@@ -296,10 +296,7 @@ fn entry_of<'a, T: ComposeTable>(
 }
 
 /// Returns what a table has for the sequence of this leaf.
-fn entry_at<'a, T: ComposeTable>(
-    listed: &ListedTable<'a, T>,
-    leaf: LeafId,
-) -> Option<TextPlace<'a>>
+fn entry_at<'a, T: ComposeTable>(listed: &ListedTable<'a, T>, leaf: LeafId) -> Option<TextPlace<'a>>
     requires { leaf.0 < length (leaves (T.definitions listed.now.table.now)) }
     ensures { option_map reported_entry result
         ≡ rows.entry_of (listed_as T.definitions listed.now)
@@ -316,7 +313,7 @@ fn entry_at<'a, T: ComposeTable>(
 }
 
 /// Returns the line that counts for this leaf, if there is one.
-fn line_at<'a, T: ComposeTable>(
+pub(crate) fn line_at<'a, T: ComposeTable>(
     listed: &ListedTable<'a, T>,
     leaf: LeafId,
 ) -> Option<&'a CountingLine<'a>>
@@ -326,7 +323,7 @@ fn line_at<'a, T: ComposeTable>(
 }
 
 /// Returns the path at this index, or an empty one if there is none.
-fn path_at<'a>(paths: &[&'a str], index: usize) -> &'a str
+pub(crate) fn path_at<'a>(paths: &[&'a str], index: usize) -> &'a str
     ensures { result.now ≡ get_or (map (λ path. path.now) paths.now) index [] }
 {
     match paths.get(index) {

@@ -32,13 +32,13 @@ pub(crate) struct MergedTable<T> {
 }
 
 /// Merges two tables that were read, if the changes of these sequences are accepted.
-pub(crate) fn merge_sides<T: BuildTable>(
+pub(crate) fn merge_sides<'a, T: BuildTable>(
     alloc: Global,
     names: &Names,
     fresh: &[Keysym],
     accepted: &[Vec<Keysym>],
-    old: &Side<'_, T>,
-    new: &Side<'_, T>,
+    old: &'a Side<'a, T>,
+    new: &'a Side<'a, T>,
 ) -> Result<MergedTable<T>, MergingFault>
     requires rise { IsTrue (keys_rise fresh.now) }
     requires old { AreRows T.definitions old.now }

@@ -47,10 +47,10 @@ pub fn merge_tables<T: BuildTable>(
 }
 
 /// Does the same, once both tables and the list are read.
-fn merge_migration<T: BuildTable>(
+fn merge_migration<'a, T: BuildTable>(
     alloc: Global,
-    input: &MergeInput<'_, '_>,
-    migration: &Migration<PlacedTable<'_, T>>,
+    input: &MergeInput<'a, '_>,
+    migration: &'a Migration<PlacedTable<'a, T>>,
 ) -> Result<Merging, MergingFault>
     requires placed { IsPlaced T.definitions input.now migration.now }
     requires list { IsListChecked (asked input.now) }

@@ -1,5 +1,7 @@
 //! The patch of the new table's files that makes the merged table of them.
-ghost use Rattle.std.specs.Prelude.{◌≡◌, IfOk, List, Ok, OnOk, length, map};
+ghost use Rattle.std.specs.Prelude.{◌≡◌, ◌<◌, ◌++◌, ◌∷◌, ℕ, [], IfOk, List, Ok, OnOk, Some, length, map, slice_get};
+ghost use Rattle.std.specs.Option.{option_map};
+ghost use Rattle.compose_lookup.specs.TextIndex.{is_among};
 ghost use Rattle.compose_migration.specs.Values.{given_of};
 ghost use Rattle.compose_model.specs.Table.{Definition};
 ghost use Rattle.compose_model.specs.declared.Rule.TheVariants.{Refuse};
@@ -11,11 +13,12 @@ ghost use Rattle.compose_merging.specs.Plan as plan;
 ghost use Rattle.compose_merging.specs.Printed.{listed_as};
 ghost use Rattle.compose_merging.specs.Steps.{AreRows, IsPlaced};
 
-use crate::accepting::check_list;
+use crate::accepting::{check_list, path_at};
 use crate::asking::{MergeInput, Merging, MergingFault};
 use crate::merging::{ReadMerge, merge_read};
 use crate::plan::{add_lines, file_edits, missing_lines};
 use crate::printed::check_sources;
+use compose_answer::Refusal;
 use compose_migration::Migration;
 use compose_patch::{Edit, LineChange, has_changes, new_form, push_diff};
 use compose_places::PlacedTable;
@@ -132,7 +135,9 @@ fn checked_patch<T: BuildTable>(
         (words.files_of files.now) result }
 {
     let after = patched_sources(alloc, sources, files)?;
-    let root = after.name(0).unwrap_or("");
+    let Some(root) = after.name(0) else {
+        return Err(MergingFault::Input(Refusal::NoMemory));
+    };
     let _table: T = check_sources(alloc, names, &after, root, &read.merged.rows)?;
     let text = patch_text(alloc, paths, files)?;
     match String::from_utf8(text) {
@@ -183,14 +188,33 @@ fn patched_sources(
         (λ after. after ≡ words.patched_sources sources.now (words.files_of files.now)) }
 {
     let mut after = Sources::new(alloc);
-    for (index, edits) in files.iter().enumerate() {
-        let bytes = new_form(alloc, edits)?;
-        let name = sources.name(index).unwrap_or("");
-        if after.add(name, bytes).is_err() {
-            return Err(AllocError);
-        }
+    for index in 0..files.len() {
+        add_patched(alloc, &mut after, sources, index, &files[index])?;
     }
     Ok(after)
+}
+
+/// Adds the source at this index, with the new form of these edits.
+fn add_patched(
+    alloc: Global,
+    after: &mut Sources<'static>,
+    sources: &Sources<'_>,
+    index: usize,
+    edits: &[Edit<'_>],
+) -> Result<(), AllocError>
+    requires { index < length sources.now }
+    ensures { OnOk result
+        ((name : List ℕ) → option_map (λ s. s.name) (slice_get sources.now index) ≡ Some name
+        → after.new ≡ after.old ++ words.patched_source name edits.now ∷ []) }
+{
+    let Some(name) = sources.name(index) else {
+        return Err(AllocError);
+    };
+    let bytes = new_form(alloc, edits)?;
+    match after.add(name, bytes) {
+        Ok(()) => Ok(()),
+        Err(_) => Err(AllocError),
+    }
 }
 
 /// Returns the unified diff of the files at these paths. A path that several sources have comes once.
@@ -201,18 +225,47 @@ fn patch_text(alloc: Global, paths: &[&str], files: &[Vec<Edit<'_>>]) -> Result<
         (length files.now)) }
 {
     let mut text = Vec::new(alloc);
-    for (index, edits) in files.iter().enumerate() {
-        if let Some(path) = new_path(paths, index) {
-            push_diff(alloc, &mut text, path, edits)?;
-        }
+    for index in 0..files.len() {
+        push_file_diff(alloc, &mut text, paths, index, &files[index])?;
     }
     Ok(text)
 }
 
+/// Appends the unified diff of the file at this index, unless one before it has the same path.
+fn push_file_diff(
+    alloc: Global,
+    text: &mut Vec<u8>,
+    paths: &[&str],
+    index: usize,
+    edits: &[Edit<'_>],
+) -> Result<(), AllocError>
+    ensures { OnOk result
+        (text.new.items
+        ≡ text.old.items ++ words.diff_of (map (λ path. path.now) paths.now) index edits.now) }
+{
+    let path = path_at(paths, index);
+    if has_path(&paths[..index.min(paths.len())], path) {
+        return Ok(());
+    }
+    push_diff(alloc, text, path, edits)
+}
+
+/// Whether one of these paths is this one.
+fn has_path(paths: &[&str], path: &str) -> bool
+    ensures { result ≡ is_among (map (λ path. path.now) paths.now) path.now }
+{
+    for other in paths {
+        if path == *other {
+            return true;
+        }
+    }
+    false
+}
+
 /// Returns the path of a source, unless one before it has the same.
 fn new_path<'a>(paths: &[&'a str], index: usize) -> Option<&'a str> {
-    let path = paths.get(index)?;
-    if paths[..index].contains(path) {
+    let path = path_at(paths, index);
+    if has_path(&paths[..index.min(paths.len())], path) {
         return None;
     }
     Some(path)

@@ -1,16 +1,21 @@
 //! Which lines of the new table's files a patch deletes and adds.
-ghost use Rattle.std.specs.Prelude.{◌≡◌, IfOk, OnOk, map};
+ghost use Rattle.std.specs.Prelude.{◌≡◌, ◌++◌, IfOk, List, None, OnOk, get_or, map};
 ghost use Rattle.std.specs.Option.{option_map};
-ghost use Rattle.compose_read.specs.Lines as sources;
+ghost use Rattle.compose_text.specs.Lines as divided;
+ghost use Rattle.compose_read.specs.Lines as reading;
+ghost use Rattle.compose_read.specs.Lines.{Source};
 ghost use Rattle.compose_places.specs.Events.{line_events};
 ghost use Rattle.compose_merging.specs.Plan as words;
 ghost use Rattle.compose_merging.specs.Printed.{listed_as};
 ghost use Rattle.compose_merging.specs.Steps.{AreRows};
 
+use crate::accepting::line_at;
 use crate::sides::Side;
 use crate::treatment::has_text;
 use arrayvec::ArrayVec;
 use compose_lex::{LineContent, lex_line_into};
+use compose_listing::ListedTable;
+use compose_lookup::text_of;
 use compose_patch::{Edit, LineChange, first_line_kept};
 use compose_places::{DefinitionPlace, Events, leaf_named};
 use compose_read::Sources;
@@ -80,7 +85,7 @@ fn line_keys(line: &[u8]) -> Option<Events<'_>>
 
 /// Returns the bytes without a UTF-8 byte order mark at their start, as a file may have it.
 fn without_mark(bytes: &[u8]) -> &[u8]
-    ensures { result.now ≡ sources.without_mark bytes.now }
+    ensures { result.now ≡ reading.without_mark bytes.now }
 {
     bytes.strip_prefix(&[0xef, 0xbb, 0xbf]).unwrap_or(bytes)
 }
@@ -88,6 +93,8 @@ fn without_mark(bytes: &[u8]) -> &[u8]
 /// Returns the lines of the old table's files for those of its leaves that are kept and that the new
 /// table doesn't give with the same text, in the order of these leaves. O(bytes of the files + keysyms ×
 /// log edges of a node).
+///
+/// Errors: `AllocError` if memory runs out.
 pub(crate) fn missing_lines<'a, T: ComposeTable>(
     alloc: Global,
     sources: &'a Sources<'_>,
@@ -104,42 +111,91 @@ pub(crate) fn missing_lines<'a, T: ComposeTable>(
     let files = all_lines(alloc, sources)?;
     let mut lines = Vec::new(alloc);
     for leaf in kept {
-        let row = leaf.0 as usize;
-        if row < old.rows.len() && !has_text(new, old.rows.sequence(row), old.rows.text(row)) {
-            lines.push(line_at(&files, old, row))?;
-        }
+        push_missing(&mut lines, &files, old, *leaf, new)?;
     }
     Ok(lines)
 }
 
-/// Returns the line that counts for a row, as it is in its file; nothing without one.
-fn line_at<'a, T: ComposeTable>(
+/// Adds the line of a leaf of the old table, if the new one doesn't give its sequence with its text;
+/// the files have these lines.
+fn push_missing<'a, T: ComposeTable>(
+    lines: &mut Vec<&'a [u8]>,
     files: &[Vec<&'a [u8]>],
-    side: &Side<'_, T>,
-    row: usize,
-) -> &'a [u8] {
-    match side.line(row) {
+    old: &Side<'_, T>,
+    leaf: LeafId,
+    new: &T,
+) -> Result<(), AllocError>
+    requires { AreRows T.definitions old.now }
+    ensures { (sources : List Source) → words.lists_of files.now ≡ words.files_lines sources
+        → OnOk result
+        (map (λ line. line.now) lines.new.items
+        ≡ map (λ line. line.now) lines.old.items
+        ++ words.missing_line sources (listed_as T.definitions old.now.listed)
+        (T.definitions new.now) leaf) }
+{
+    if is_missing(old, new, leaf) {
+        lines.push(standing_line(files, &old.listed, leaf))?;
+    }
+    Ok(())
+}
+
+/// Whether the leaf is one of the old table's, and the new one doesn't give its sequence with its
+/// text.
+fn is_missing<T: ComposeTable>(old: &Side<'_, T>, new: &T, leaf: LeafId) -> bool
+    requires { AreRows T.definitions old.now }
+    ensures { result
+        ≡ words.is_missing (T.definitions old.now.listed.table.now) (T.definitions new.now) leaf }
+{
+    let row = leaf.0 as usize;
+    if row >= old.rows.len() {
+        return false;
+    }
+    !has_text(new, old.rows.sequence(row), text_of(old.listed.table, leaf))
+}
+
+/// Returns the line that counts for a leaf, as it is in its file; nothing without one.
+fn standing_line<'a, T: ComposeTable>(
+    files: &[Vec<&'a [u8]>],
+    listed: &ListedTable<'_, T>,
+    leaf: LeafId,
+) -> &'a [u8]
+    ensures { (sources : List Source) → words.lists_of files.now ≡ words.files_lines sources
+        → result.now ≡ words.standing_line sources (get_or listed.now.lines.now leaf.0 None) }
+{
+    match line_at(listed, leaf) {
         Some(line) => line_of(files, line.place()),
         None => &[],
     }
 }
 
 /// Returns the line at this place; nothing if there is none.
-fn line_of<'a>(files: &[Vec<&'a [u8]>], place: DefinitionPlace) -> &'a [u8] {
-    if let Some(lines) = files.get(place.source)
-        && let Some(index) = place.line.checked_sub(1)
-        && let Some(line) = lines.get(index)
-    {
-        return line;
+fn line_of<'a>(files: &[Vec<&'a [u8]>], place: DefinitionPlace) -> &'a [u8]
+    ensures { result.now ≡ words.line_in (words.lists_of files.now) place }
+{
+    match files.get(place.source) {
+        Some(lines) => numbered(lines, place.line),
+        None => &[],
     }
-    &[]
+}
+
+/// Returns the line with this number, from 1; nothing if there is none.
+fn numbered<'a>(lines: &[&'a [u8]], number: usize) -> &'a [u8]
+    ensures { result.now ≡ words.numbered (map (λ line. line.now) lines.now) number }
+{
+    if number == 0 {
+        return &[];
+    }
+    match lines.get(number - 1) {
+        Some(line) => line,
+        None => &[],
+    }
 }
 
 /// Returns the lines of each source.
-fn all_lines<'a>(
-    alloc: Global,
-    sources: &'a Sources<'_>,
-) -> Result<Vec<Vec<&'a [u8]>>, AllocError> {
+fn all_lines<'a>(alloc: Global, sources: &'a Sources<'_>) -> Result<Vec<Vec<&'a [u8]>>, AllocError>
+    ensures { IfOk result
+        (λ files. words.lists_of files.items ≡ words.files_lines sources.now) }
+{
     let mut files = Vec::new(alloc);
     for index in 0..sources.count() {
         files.push(lines_of(alloc, without_mark(sources.bytes(index)))?)?;
@@ -148,7 +204,9 @@ fn all_lines<'a>(
 }
 
 /// Returns the lines of a file.
-fn lines_of(alloc: Global, bytes: &[u8]) -> Result<Vec<&[u8]>, AllocError> {
+fn lines_of(alloc: Global, bytes: &[u8]) -> Result<Vec<&[u8]>, AllocError>
+    ensures { IfOk result (λ lines. map (λ line. line.now) lines.items ≡ divided.lines_of bytes.now) }
+{
     let mut lines = Vec::new(alloc);
     let mut rest = bytes;
     while let Some((line, behind)) = first_line(rest) {

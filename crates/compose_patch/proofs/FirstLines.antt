@@ -1,11 +1,10 @@
 -- The first line of a file.
-use Rattle.std.proofs.Common.{◌≡◌, ◌∙◌, ◌+◌, ◌<◌, ℕ, suc, zero, List, [], ◌∷◌, Bool, true, false, cond, length, drop, refl, sym, ap, ap₂, subst, arith, add-one}
+use Rattle.std.proofs.Common.{◌≡◌, ◌∙◌, ◌+◌, ℕ, suc, List, [], ◌∷◌, Bool, true, false, cond, length, drop, refl, sym, ap, ap₂, arith}
 use Rattle.std.specs.Prelude.{◌==◌, nat_lt}
 use Rattle.std.proofs.lemmas.Bool.Decides.{nat_tests}
 use Rattle.compose_text.specs.Lines as text
 use Rattle.compose_text.specs.Lines.{lines_of}
 use Rattle.compose_patch.specs.Edits.{kept_line, kept_lines, onto_first}
-use Rattle.compose_patch.specs.Lines.{LineEdit}
 
 heads : (a b : List ℕ) (us vs : List (List ℕ)) → a ∷ us ≡ b ∷ vs → a ≡ b
 heads a b us vs e = cc

@@ -1,5 +1,5 @@
 -- The run of lines that are shown, one line further.
-use Rattle.std.proofs.Common.{◌≡◌, ◌∙◌, ◌+◌, ◌-◌, ◌<◌, ◌≤◌, ℕ, suc, zero, List, Bool, true, false, cond, length, refl, sym, ap, subst, arith, add-one}
+use Rattle.std.proofs.Common.{◌≡◌, ◌∙◌, ◌+◌, ◌-◌, ◌<◌, ◌≤◌, ℕ, suc, zero, List, true, false, cond, length, sym, ap, arith, add-one}
 use Rattle.compose_patch.specs.Hunks.{is_shown, run_of}
 use Rattle.compose_patch.specs.Lines.{LineEdit}
 
@@ -17,7 +17,8 @@ module _ (edits : List LineEdit) (i : ℕ) (below : i < length edits) where
   pub run_more : is_shown edits i ≡ true → run_of edits i (length edits - i) ≡ run_of edits (i + 1) (length edits - (i + 1)) + 1
   run_more shown =
       ap (run_of edits i) left_is ∙ shown_one edits i (length edits - (i + 1)) shown
-      ∙ ap (λ j. suc (run_of edits j (length edits - (i + 1)))) (sym add-one) ∙ sym add-one
+      ∙ ap (λ (j : ℕ). suc (run_of edits j (length edits - (i + 1)))) (sym (add-one i))
+      ∙ sym (add-one (run_of edits (i + 1) (length edits - (i + 1))))
 
   pub run_ends : is_shown edits i ≡ false → run_of edits i (length edits - i) ≡ 0
   run_ends hidden = ap (run_of edits i) left_is ∙ hidden_one edits i (length edits - (i + 1)) hidden

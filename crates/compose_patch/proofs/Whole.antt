@@ -2,7 +2,7 @@
 use Rattle.std.proofs.Common.{◌≡◌, ◌∙◌, ℕ, List, [], ◌∷◌, ◌++◌, Bool, true, false, cond, map, refl, sym, ap, ap₂, eqb-true}
 use Rattle.std.specs.Prelude.{◌==◌}
 use Rattle.std.specs.List.{flat_map}
-use Rattle.compose_patch.specs.Edits.{kept_line, kept_lines, new_form, new_line, old_form, old_line, onto_first, whole_line}
+use Rattle.compose_patch.specs.Edits.{kept_line, kept_lines, new_form, old_form, onto_first, whole_line}
 use Rattle.compose_patch.specs.Lines.{LineEdit}
 
 whole_onto : (b : ℕ) (edits : List LineEdit) → flat_map whole_line (onto_first b edits) ≡ b ∷ flat_map whole_line edits

@@ -64,9 +64,17 @@ begins_hunk edits i = (i == 0) || not (is_shown edits (i - 1))
 
 -- ---- the whole
 
+-- the head of a hunk, if one begins here
+abbrev pub hunk_begin : List LineEdit → ℕ → List ℕ
+hunk_begin edits i = if begins_hunk edits i then hunk_head edits i else []
+
+-- the line itself
+abbrev pub line_text : List LineEdit → ℕ → List ℕ
+line_text edits i = option_map_or edit_text (slice_get edits i) []
+
 -- what is printed of the line at this index
 abbrev pub shown_text : List LineEdit → ℕ → List ℕ
-shown_text edits i = (if begins_hunk edits i then hunk_head edits i else []) ++ option_map_or edit_text (slice_get edits i) []
+shown_text edits i = hunk_begin edits i ++ line_text edits i
 
 abbrev pub piece : List LineEdit → ℕ → List ℕ
 piece edits i = if is_shown edits i then shown_text edits i else []

@@ -69,9 +69,34 @@ fn push_shown(
     ensures { OnOk result
         (text.new.items ≡ text.old.items ++ words.shown_text edits.now index) }
 {
+    push_begin(alloc, text, edits, index)?;
+    push_line(text, edits, index)?;
+    Ok(())
+}
+
+/// Appends the head of the hunk, if one begins at this index, where a line is shown.
+fn push_begin(
+    alloc: Global,
+    text: &mut Vec<u8>,
+    edits: &[Edit<'_>],
+    index: usize,
+) -> Result<(), AllocError>
+    requires { index < length edits.now }
+    ensures { OnOk result
+        (text.new.items ≡ text.old.items ++ words.hunk_begin edits.now index) }
+{
     if begins_hunk(edits, index) {
         push_head(alloc, text, edits, index)?;
     }
+    Ok(())
+}
+
+/// Appends the line at this index.
+fn push_line(text: &mut Vec<u8>, edits: &[Edit<'_>], index: usize) -> Result<(), AllocError>
+    requires { index < length edits.now }
+    ensures { OnOk result
+        (text.new.items ≡ text.old.items ++ words.line_text edits.now index) }
+{
     push_edit(text, &edits[index])
 }
 

@@ -2,7 +2,7 @@ use Rattle.std.proofs.Common.{◌≡◌, ◌∙◌, ◌++◌, ◌∷◌, [], ℕ
 use Rattle.std.specs.declared.alloc.Global.{Global}
 use Rattle.std.specs.declared.vec.Vec.{Vec}
 use Rattle.compose_merge.specs.Merged.{listed_keys}
-use Rattle.compose_merging.proofs.Accepting.{keys_pushed}
+use Rattle.compose_merging.proofs.Named.{keys_pushed}
 use Rattle.compose_merging.proofs.accepting.add_if_named.Goals.{then-is_named+in_ok-push, else-is_named}
 use Rattle.compose_merging.proofs.accepting.add_if_named.Goals as goal
 

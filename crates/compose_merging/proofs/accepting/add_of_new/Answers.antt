@@ -13,7 +13,7 @@ use Rattle.compose_diff_rows.proofs.Leaves.{leaf_there}
 use Rattle.compose_diff_rows.proofs.RowsSoFar.{no_change, reported_change}
 use Rattle.compose_merging.specs.Accepting.{names_row}
 use Rattle.compose_merging.specs.Printed.{listed_as}
-use Rattle.compose_merging.proofs.Accepting.{filtered_twice, one_less, one_more}
+use Rattle.compose_merging.proofs.Named.{filtered_twice, one_less, one_more}
 use Rattle.compose_merging.proofs.Rows.{leaf_of_row}
 use Rattle.compose_merging.proofs.accepting.add_of_new.Goals.{in-Some+in_ok-add_if_named, in_default}
 use Rattle.compose_merging.proofs.accepting.add_of_new.Goals as goal

@@ -10,7 +10,7 @@ use Rattle.compose_diff_rows.proofs.Leaves.{leaf_there}
 use Rattle.compose_diff_rows.proofs.RowsSoFar.{old_change_at}
 use Rattle.compose_merging.specs.Accepting.{names_row}
 use Rattle.compose_merging.specs.Printed.{listed_as}
-use Rattle.compose_merging.proofs.Accepting.{one_more}
+use Rattle.compose_merging.proofs.Named.{one_more}
 use Rattle.compose_merging.proofs.Rows.{leaf_of_row}
 use Rattle.compose_merging.proofs.accepting.add_of_old.Goals as goal
 

@@ -1,7 +1,7 @@
 use Rattle.std.proofs.Common.{◌≡◌, ◌∙◌, ℕ, List, [], ◌∷◌, length, suc, inl, inr, refl, sym, true, arith, eqb-true}
 use Rattle.std.specs.Prelude.{◌==◌, Err}
 use Rattle.compose_merging.specs.Merges.{AnswersMerge, asked}
-use Rattle.compose_merging.proofs.Accepting.{list_fails}
+use Rattle.compose_merging.proofs.Named.{list_fails}
 use Rattle.compose_merging.proofs.Steps.{handed_fault}
 use Rattle.compose_merging.specs.Faults.{diff_raised}
 use Rattle.compose_merging.proofs.accepting.check_list.Goals as goal

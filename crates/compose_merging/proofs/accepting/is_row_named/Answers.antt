@@ -1,7 +1,7 @@
 use Rattle.std.proofs.Common.{◌≡◌, ◌∙◌, ℕ, List, Bool, map, sym, ap}
 use Rattle.compose_compare.specs.Change.{is_harmless}
 use Rattle.compose_merging.specs.Printed.{listed_as}
-use Rattle.compose_merging.proofs.Accepting.{harmless_row}
+use Rattle.compose_merging.proofs.Named.{harmless_row}
 use Rattle.compose_merging.proofs.accepting.is_row_named.Goals as goal
 
 pub returns-then-is_harmless : goal.returns-then-is_harmless
