@@ -4,6 +4,8 @@ pub mod Back
 pub mod Both
 pub mod Closing
 pub mod Kept
+pub mod Files
+pub mod Patched
 pub mod Planned
 pub mod Read
 pub mod Reading

@@ -1,6 +1,7 @@
 -- The changes that are taken from the new table: the rows of `diff` that a list names (this project's
 -- profile).
-use Rattle.std.specs.Prelude.{◌≡◌, ℕ, Bool, not, ◌&&◌, if◌then◌else◌, List, [], ◌∷◌, ◌++◌, Option, Some, None, IsTrue, codes}
+use Rattle.std.specs.Prelude.{◌≡◌, ℕ, Bool, not, ◌&&◌, if◌then◌else◌, List, [], ◌∷◌, ◌++◌, map, Option, Some, None, IsTrue, codes}
+use Rattle.std.specs.Option.{option_map}
 use Rattle.std.specs.List.{filter, list_any}
 use Rattle.keysym_core.specs.Names.{KeysymNames}
 use Rattle.compose_lex.specs.Escape.{quote}
@@ -12,7 +13,8 @@ use Rattle.compose_compare.specs.Change.{is_harmless, change as happens}
 use Rattle.compose_compare.specs.declared.Change.{Change}
 use Rattle.compose_diff.specs.Accepted.{Line, list_lines_from, matches_text}
 use Rattle.compose_diff.specs.Line.{keys_text}
-use Rattle.compose_diff_rows.specs.Rows.{ReportedEntry, ReportedRow, Written, new_reported, row_of}
+use Rattle.compose_diff_rows.specs.Rows.{ReportedEntry, ReportedRow, Written, new_reported, reported_entry, row_of}
+use Rattle.compose_merging.specs.declared.accepting.RowParts.{RowParts}
 
 -- ---- a row, as a list names it
 
@@ -60,3 +62,14 @@ IsWrittenIn of old new s = (of ≡ (if is_sequence old.table s then old else new
 -- the sequence, if one of the lines names its row
 abbrev pub if_named : KeysymNames → List ℕ → Written → Written → List Line → List ℕ → List (List ℕ)
 if_named names fresh old new lines s = if names_row names fresh old new lines s then s ∷ [] else []
+
+-- the row of these parts
+abbrev pub parts_row : RowParts → ReportedRow
+parts_row parts = record {
+  change = parts.change;
+  keys = map (λ key. key.now) parts.keys.items;
+  old = option_map reported_entry parts.old;
+  new = option_map reported_entry parts.new;
+  longer = None;
+  typing = None;
+}

@@ -83,7 +83,7 @@ IsPatchOfMerged asked e text = IsPatch e.move.names (merged_of asked e) asked.mi
 
 -- the old table's lines that are missing
 abbrev pub missing_of : Asked → Explainable → List (List ℕ)
-missing_of asked e = missing_lines asked.migration.old.sources (old_of asked e) (kept_leaves (accepted_of asked e) e.move.old) e.move.new
+missing_of asked e = missing_lines asked.migration.old.sources e.move.old (old_of asked e).lines (kept_leaves (accepted_of asked e) e.move.old) e.move.new
 
 -- the lines of the new table's files without those of sequences that the merged table doesn't have,
 -- and the lines that are missing, would not be read as that table; or the diff is no text

@@ -16,7 +16,6 @@ use Rattle.compose_patch.specs.Edits.{kept_lines}
 use Rattle.compose_patch.specs.Lines.{LineEdit}
 use Rattle.compose_patch.specs.declared.edit.LineChange.{LineChange}
 use Rattle.compose_patch.specs.declared.edit.LineChange.TheVariants.{Kept, Deleted, Added}
-use Rattle.compose_diff_rows.specs.Rows.{Written}
 use Rattle.compose_merging.specs.Treatments.{has_text}
 
 -- ---- what is deleted
@@ -51,13 +50,14 @@ abbrev pub standing_line : List Source → Option WrittenLine → List ℕ
 standing_line sources None = []
 standing_line sources (Some line) = unwrap_or (line_at sources line.place) []
 
--- the line of a leaf of the old table, if it is missing in the new one
-abbrev pub missing_line : List Source → Written → List Definition → LeafId → List (List ℕ)
-missing_line sources old new leaf = if is_missing old.table new leaf then standing_line sources (get_or old.lines leaf.0 None) ∷ [] else []
+-- the line of a leaf of the old table, if it is missing in the new one; the first lines are those
+-- that count in the old one
+abbrev pub missing_line : List Source → List Definition → List (Option WrittenLine) → List Definition → LeafId → List (List ℕ)
+missing_line sources old lines new leaf = if is_missing old new leaf then standing_line sources (get_or lines leaf.0 None) ∷ [] else []
 
 -- the lines of those of these leaves that are
-abbrev pub missing_lines : List Source → Written → List LeafId → List Definition → List (List ℕ)
-missing_lines sources old kept new = flat_map (missing_line sources old new) kept
+abbrev pub missing_lines : List Source → List Definition → List (Option WrittenLine) → List LeafId → List Definition → List (List ℕ)
+missing_lines sources old lines kept new = flat_map (missing_line sources old lines new) kept
 
 abbrev pub added_line : List ℕ → LineEdit
 added_line line = record { change = Added; line = line; is_ended = true }

@@ -13,8 +13,6 @@ use Rattle.compose_places.specs.Placed.{HasLines}
 use Rattle.compose_places.specs.declared.placed.PlacedTable.{PlacedTable}
 use Rattle.compose_diff_rows.specs.Answers.{compared}
 use Rattle.compose_tree.specs.declared.table.LeafId.{LeafId}
-use Rattle.compose_diff_rows.specs.Rows.{Written}
-use Rattle.compose_merging.specs.Printed.{listed_as}
 use Rattle.compose_merging.specs.Treatments.{is_the_taken, is_left_out}
 use Rattle.compose_merging.specs.declared.asking.MergeInput.{MergeInput}
 use Rattle.compose_merging.specs.declared.asking.Merging.{Merging}
@@ -48,8 +46,3 @@ pub record IsTold (kept : List LeafId) (treatments : List Treatment) (text : Lis
   pub kept : merging.kept ≡ length kept
   pub taken : merging.taken ≡ length (filter is_the_taken treatments)
   pub left_out : merging.left_out ≡ length (filter is_left_out treatments)
-
--- the table is listed as it is written so, with its rows
-pub record IsSideOf {T : Type 0} (view : T → List Definition) (written : Written) (side : Side T) : Type 0 where
-  pub listed : listed_as view side.listed ≡ written
-  pub rows : AreRows view side

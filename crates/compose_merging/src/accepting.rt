@@ -64,8 +64,8 @@ pub(crate) fn accepted_sequences<'a, T: ComposeTable>(
     names: &Names,
     fresh: &[Keysym],
     list: &[u8],
-    old: &Side<'a, T>,
-    new: &Side<'a, T>,
+    old: &'a Side<'_, T>,
+    new: &'a Side<'_, T>,
 ) -> Result<Vec<Vec<Keysym>>, AllocError>
     requires rise { IsTrue (keys_rise fresh.now) }
     requires old { AreRows T.definitions old.now }
@@ -107,8 +107,8 @@ fn add_of_old<'a, T: ComposeTable>(
     accepted: &mut Vec<Vec<Keysym>>,
     lines: &[ListLine<'_>],
     changes: &[Change],
-    old: &Side<'a, T>,
-    new: &Side<'a, T>,
+    old: &'a Side<'_, T>,
+    new: &'a Side<'_, T>,
 ) -> Result<(), AllocError>
     requires rows { AreRows T.definitions old.now }
     requires few { length changes.now ≡ length (leaves (T.definitions old.now.listed.table.now)) }
@@ -147,8 +147,8 @@ fn add_of_new<'a, T: ComposeTable>(
     accepted: &mut Vec<Vec<Keysym>>,
     lines: &[ListLine<'_>],
     changes: &[Option<Change>],
-    old: &Side<'a, T>,
-    new: &Side<'a, T>,
+    old: &'a Side<'_, T>,
+    new: &'a Side<'_, T>,
 ) -> Result<(), AllocError>
     requires rows { AreRows T.definitions new.now }
     requires few { length changes.now ≡ length (leaves (T.definitions new.now.listed.table.now)) }
@@ -190,9 +190,9 @@ fn add_if_named<'a, T: ComposeTable>(
     accepted: &mut Vec<Vec<Keysym>>,
     lines: &[ListLine<'_>],
     change: Change,
-    of: &ListedTable<'a, T>,
-    old: &Side<'a, T>,
-    new: &Side<'a, T>,
+    of: &'a ListedTable<'_, T>,
+    old: &'a Side<'_, T>,
+    new: &'a Side<'_, T>,
     sequence: &[Keysym],
 ) -> Result<(), AllocError>
     ensures { (names : KeysymNames) (fresh : List ℕ)
@@ -222,9 +222,9 @@ fn is_row_named<'a, T: ComposeTable>(
     alloc: Global,
     lines: &[ListLine<'_>],
     change: Change,
-    of: &ListedTable<'a, T>,
-    old: &Side<'a, T>,
-    new: &Side<'a, T>,
+    of: &'a ListedTable<'_, T>,
+    old: &'a Side<'_, T>,
+    new: &'a Side<'_, T>,
     sequence: &[Keysym],
 ) -> Result<bool, AllocError>
     ensures { (names : KeysymNames) (fresh : List ℕ)
@@ -242,21 +242,31 @@ fn is_row_named<'a, T: ComposeTable>(
     if change.is_harmless() {
         return Ok(false);
     }
-    let keys = keys_of(of, sequence);
-    let row = DiffRow {
+    let parts = RowParts {
         change,
-        keys: keys.as_slice(),
+        keys: keys_of(of, sequence),
         old: entry_of(&old.listed, sequence),
         new: entry_of(&new.listed, sequence),
-        longer: None,
-        typing: None,
     };
-    is_named(alloc, lines, &row)
+    is_named(alloc, lines, &parts)
+}
+
+/// What a row of `diff` says of a sequence.
+#[derive(Drop)]
+struct RowParts<'a> {
+    /// What happens to it.
+    change: Change,
+    /// The names of its keys.
+    keys: Events<'a>,
+    /// What the old table has for it.
+    old: Option<TextPlace<'a>>,
+    /// What the new table has for it.
+    new: Option<TextPlace<'a>>,
 }
 
 /// Returns the names of the keys of a sequence, as they are written in the line that counts; none
 /// without a line.
-fn keys_of<'a, T: ComposeTable>(listed: &ListedTable<'a, T>, sequence: &[Keysym]) -> Events<'a>
+fn keys_of<'a, T: ComposeTable>(listed: &'a ListedTable<'_, T>, sequence: &[Keysym]) -> Events<'a>
     ensures { IsTrue (is_sequence (T.definitions listed.now.table.now) sequence.now)
         → map (λ key. key.now) result.items
         ≡ rows.keys_of (listed_as T.definitions listed.now) sequence.now }
@@ -283,7 +293,7 @@ fn keys_at<'a, T: ComposeTable>(listed: &ListedTable<'a, T>, leaf: LeafId) -> Ev
 
 /// Returns what a table has for a sequence, if it has it.
 fn entry_of<'a, T: ComposeTable>(
-    listed: &ListedTable<'a, T>,
+    listed: &'a ListedTable<'_, T>,
     sequence: &[Keysym],
 ) -> Option<TextPlace<'a>>
     ensures { option_map reported_entry result
@@ -334,11 +344,29 @@ pub(crate) fn path_at<'a>(paths: &[&'a str], index: usize) -> &'a str
 
 /// Whether the row is not harmless, and one of the lines has its change, keys and texts. O(bytes of
 /// the row × lines).
-fn is_named(alloc: Global, lines: &[ListLine<'_>], row: &DiffRow<'_>) -> Result<bool, AllocError>
-    ensures { IfOk result
-        (λ named. named ≡ words.is_named lines.now (reported_row row.now)) }
+fn is_named<'a>(
+    alloc: Global,
+    lines: &[ListLine<'_>],
+    parts: &'a RowParts<'a>,
+) -> Result<bool, AllocError>
+    ensures { IfOk result (λ named. named ≡ words.is_named lines.now (words.parts_row parts.now)) }
 {
-    let listed = accept_text(alloc, &[*row])?;
+    let row = DiffRow {
+        change: parts.change,
+        keys: parts.keys.as_slice(),
+        old: parts.old,
+        new: parts.new,
+        longer: None,
+        typing: None,
+    };
+    is_row_in(alloc, lines, row)
+}
+
+/// Whether the row is not harmless, and one of the lines has its change, keys and texts.
+fn is_row_in(alloc: Global, lines: &[ListLine<'_>], row: DiffRow<'_>) -> Result<bool, AllocError>
+    ensures { IfOk result (λ named. named ≡ words.is_named lines.now (reported_row row)) }
+{
+    let listed = accept_text(alloc, &[row])?;
     match listed.as_bytes().split_last() {
         Some((_, text)) => Ok(is_any_text(text, lines)),
         None => Ok(false),

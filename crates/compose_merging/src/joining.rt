@@ -32,13 +32,13 @@ pub(crate) struct MergedTable<T> {
 }
 
 /// Merges two tables that were read, if the changes of these sequences are accepted.
-pub(crate) fn merge_sides<'a, T: BuildTable>(
+pub(crate) fn merge_sides<T: BuildTable>(
     alloc: Global,
     names: &Names,
     fresh: &[Keysym],
     accepted: &[Vec<Keysym>],
-    old: &'a Side<'a, T>,
-    new: &'a Side<'a, T>,
+    old: &Side<'_, T>,
+    new: &Side<'_, T>,
 ) -> Result<MergedTable<T>, MergingFault>
     requires rise { IsTrue (keys_rise fresh.now) }
     requires old { AreRows T.definitions old.now }
@@ -112,7 +112,8 @@ fn report_text<T: ComposeTable>(
 ) -> Result<String, AllocError> {
     let mut report = String::new(alloc);
     push_all_left_out(alloc, &mut report, sides, treatments)?;
-    let fresh = fresh_keys(alloc, sides.old.listed.table, &sides.new.rows, treatments)?;
+    let (old, new) = (sides.old, sides.new);
+    let fresh = fresh_keys(alloc, old.listed.table, &new.rows, treatments)?;
     push_totals(alloc, &mut report, names, totals, &fresh)?;
     Ok(report)
 }

@@ -1,12 +1,13 @@
 //! The merge: both tables are read, merged, printed, and read once more.
-ghost use Rattle.std.specs.Prelude.{◌≡◌, IfErr, IfOk, List, Ok, map};
+ghost use Rattle.std.specs.Prelude.{◌≡◌, IfErr, IfOk, IsTrue, List, Ok};
+ghost use Rattle.compose_model.specs.Certificate.{keys_rise};
 ghost use Rattle.compose_model.specs.Table.{Definition};
 ghost use Rattle.compose_tree.specs.TableReturns.{first_table};
-ghost use Rattle.compose_places.specs.Placed.{HasLines};
-ghost use Rattle.compose_diff_rows.specs.Answers.{written_in};
-ghost use Rattle.compose_merging.specs.Merges.{AnswersMerge, IsListChecked, asked};
+ghost use Rattle.compose_merging.specs.Accepting.{accepted_in};
+ghost use Rattle.compose_merging.specs.Merges.{AnswersMerge, IsListChecked, MergesTables, asked};
+ghost use Rattle.compose_merging.specs.Printed.{listed_as};
 ghost use Rattle.compose_merging.specs.Reading.{AnswersRead};
-ghost use Rattle.compose_merging.specs.Steps.{IsPlaced, IsSideOf, ReturnsFresh, placed_parts};
+ghost use Rattle.compose_merging.specs.Steps.{AreRows, IsPlaced, ReturnsFresh, placed_parts};
 
 use crate::accepting::{accepted_sequences, check_list};
 use crate::asking::{MergeInput, Merging, MergingFault};
@@ -47,86 +48,84 @@ pub fn merge_tables<T: BuildTable>(
 }
 
 /// Does the same, once both tables and the list are read.
-fn merge_migration<'a, T: BuildTable>(
+fn merge_migration<T: BuildTable>(
     alloc: Global,
-    input: &MergeInput<'a, '_>,
-    migration: &'a Migration<PlacedTable<'a, T>>,
+    input: &MergeInput<'_, '_>,
+    migration: &Migration<PlacedTable<'_, T>>,
 ) -> Result<Merging, MergingFault>
     requires placed { IsPlaced T.definitions input.now migration.now }
     requires list { IsListChecked (asked input.now) }
     ensures { AnswersMerge (asked input.now) result }
 {
     let read = merge_read(alloc, input, migration)?;
-    Ok(read.merged.merging)
+    let ReadMerge { merged, .. } = read;
+    Ok(merged.merging)
 }
 
-/// Both tables that were read, and what is merged of them.
+/// What is merged of two tables that were read.
 #[derive(Drop)]
-pub(crate) struct ReadMerge<'a, T> {
-    /// The old table.
-    pub(crate) old: Side<'a, T>,
-    /// The new table.
-    pub(crate) new: Side<'a, T>,
+pub(crate) struct ReadMerge<T> {
+    /// The rows of the old table.
+    pub(crate) rows: Sequences,
     /// The merge.
     pub(crate) merged: MergedTable<T>,
 }
 
 /// Merges two tables that were read.
-pub(crate) fn merge_read<'a, T: BuildTable>(
+pub(crate) fn merge_read<T: BuildTable>(
     alloc: Global,
-    input: &MergeInput<'a, '_>,
-    migration: &'a Migration<PlacedTable<'a, T>>,
-) -> Result<ReadMerge<'a, T>, MergingFault>
+    input: &MergeInput<'_, '_>,
+    migration: &Migration<PlacedTable<'_, T>>,
+) -> Result<ReadMerge<T>, MergingFault>
     requires placed { IsPlaced T.definitions input.now migration.now }
     requires list { IsListChecked (asked input.now) }
-    ensures { AnswersRead T.definitions (asked input.now) migration.now.names result }
+    ensures { AnswersRead T.definitions (asked input.now) migration.now result }
 {
-    let names = &migration.names;
     let fresh = fresh_keysyms(alloc, migration)?;
-    let old = side_of(
-        alloc,
-        names,
-        &migration.old,
-        input.tables.old,
-        input.old_paths,
-    )?;
-    let new = side_of(
-        alloc,
-        names,
-        &migration.new,
-        input.tables.new,
-        input.new_paths,
-    )?;
-    let accepted = accepted_sequences(alloc, names, &fresh, input.accepted, &old, &new)?;
-    let merged = merge_sides(alloc, names, &fresh, &accepted, &old, &new)?;
-    Ok(ReadMerge { old, new, merged })
+    let of_old = rows_of(alloc, &migration.names, input.tables.old)?;
+    let of_new = rows_of(alloc, &migration.names, input.tables.new)?;
+    let old = Side {
+        listed: ListedTable {
+            names: &migration.names,
+            table: &migration.old.table,
+            lines: &migration.old.lines,
+            paths: input.old_paths,
+        },
+        rows: of_old,
+    };
+    let new = Side {
+        listed: ListedTable {
+            names: &migration.names,
+            table: &migration.new.table,
+            lines: &migration.new.lines,
+            paths: input.new_paths,
+        },
+        rows: of_new,
+    };
+    let merged = accept_and_merge(alloc, &migration.names, &fresh, input.accepted, &old, &new)?;
+    let Side { rows, .. } = old;
+    Ok(ReadMerge { rows, merged })
 }
 
-/// Returns a table that was read, with its rows and the paths of its sources.
-fn side_of<'a, T: ComposeTable>(
+/// Merges two tables that were read, if the changes in this list are accepted.
+fn accept_and_merge<'a, T: BuildTable>(
     alloc: Global,
-    names: &'a Names,
-    placed: &'a PlacedTable<'a, T>,
-    input: TableInput<'_>,
-    paths: &'a [&'a str],
-) -> Result<Side<'a, T>, Refusal>
-    requires read { first_table names.now input.entry.sources.now input.entry.rule
-        ≡ Ok (T.definitions placed.now.table) }
-    requires lines { HasLines T.definitions names.now input.entry.sources.now placed.now }
-    ensures side { IfOk result
-        (λ side. IsSideOf T.definitions
-        (written_in names.now input.entry.sources.now (map (λ path. path.now) paths.now)
-        (T.definitions placed.now.table)) side) }
-    ensures memory { IfErr result (λ refusal. refusal ≡ Refusal.NoMemory) }
+    names: &Names,
+    fresh: &[Keysym],
+    list: &[u8],
+    old: &'a Side<'_, T>,
+    new: &'a Side<'_, T>,
+) -> Result<MergedTable<T>, MergingFault>
+    requires rise { IsTrue (keys_rise fresh.now) }
+    requires old { AreRows T.definitions old.now }
+    requires new { AreRows T.definitions new.now }
+    ensures { MergesTables T.definitions names.now fresh.now
+        (accepted_in names.now fresh.now (listed_as T.definitions old.now.listed)
+        (listed_as T.definitions new.now.listed) list.now)
+        (listed_as T.definitions old.now.listed) (listed_as T.definitions new.now.listed) result }
 {
-    let rows = rows_of(alloc, names, input)?;
-    let listed = ListedTable {
-        names,
-        table: &placed.table,
-        lines: &placed.lines,
-        paths,
-    };
-    Ok(Side { listed, rows })
+    let accepted = accepted_sequences(alloc, names, fresh, list, old, new)?;
+    merge_sides(alloc, names, fresh, &accepted, old, new)
 }
 
 /// Returns the fresh keysyms of a migration in rising order, each once, if the old table has none

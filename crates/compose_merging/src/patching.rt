@@ -2,7 +2,6 @@
 ghost use Rattle.std.specs.Prelude.{◌≡◌, ◌<◌, ◌++◌, ◌∷◌, ℕ, [], IfOk, List, Ok, OnOk, Some, length, map, slice_get};
 ghost use Rattle.std.specs.Option.{option_map};
 ghost use Rattle.compose_lookup.specs.TextIndex.{is_among};
-ghost use Rattle.compose_migration.specs.Values.{given_of};
 ghost use Rattle.compose_model.specs.Table.{Definition};
 ghost use Rattle.compose_model.specs.declared.Rule.TheVariants.{Refuse};
 ghost use Rattle.compose_read.specs.Settle.{settled};
@@ -10,13 +9,13 @@ ghost use Rattle.compose_merging.specs.Merges.{IsListChecked, asked};
 ghost use Rattle.compose_merging.specs.Patches as words;
 ghost use Rattle.compose_merging.specs.Patches.{AnswersPatch};
 ghost use Rattle.compose_merging.specs.Plan as plan;
-ghost use Rattle.compose_merging.specs.Printed.{listed_as};
-ghost use Rattle.compose_merging.specs.Steps.{AreRows, IsPlaced};
+ghost use Rattle.compose_merging.specs.Steps.{IsPlaced};
 
 use crate::accepting::{check_list, path_at};
 use crate::asking::{MergeInput, Merging, MergingFault};
+use crate::joining::MergedTable;
 use crate::merging::{ReadMerge, merge_read};
-use crate::plan::{add_lines, file_edits, missing_lines};
+use crate::plan::{OldRows, add_lines, file_edits, missing_lines};
 use crate::printed::check_sources;
 use compose_answer::Refusal;
 use compose_migration::Migration;
@@ -24,7 +23,7 @@ use compose_patch::{Edit, LineChange, has_changes, new_form, push_diff};
 use compose_places::PlacedTable;
 use compose_read::Sources;
 use compose_shown::Shown;
-use compose_tree::BuildTable;
+use compose_tree::{BuildTable, ComposeTable};
 use keysym_core::Names;
 use std::alloc::{AllocError, Global};
 use std::fmt::Write;
@@ -72,49 +71,57 @@ fn patch_migration<T: BuildTable>(
     ensures { AnswersPatch (asked input.now) result }
 {
     let read = merge_read(alloc, input, migration)?;
-    let files = planned_files(alloc, input, &migration.names, &read)?;
-    let sources = input.tables.new.sources;
+    let ReadMerge { rows, merged } = read;
+    let old = OldRows {
+        table: &migration.old.table,
+        rows: &rows,
+        lines: &migration.old.lines,
+    };
+    let files = planned_files(
+        alloc,
+        &migration.names,
+        input.tables.old.sources,
+        input.tables.new.sources,
+        &old,
+        &migration.new.table,
+        &merged,
+    )?;
     let patch = checked_patch(
         alloc,
         &migration.names,
-        sources,
+        input.tables.new.sources,
         input.new_paths,
         &files,
-        &read,
+        &merged,
     )?;
+    let files = files_text(alloc, input.new_paths, &files)?;
     Ok(Patching {
-        merging: read.merged.merging,
+        merging: merged.merging,
         patch,
-        files: files_text(alloc, input.new_paths, &files)?,
+        files,
     })
 }
 
 /// Returns the lines of each file of the new table: without those of sequences that the merged table
 /// doesn't have, and with those of the old one that are missing.
-fn planned_files<'a, T: BuildTable>(
+fn planned_files<'a, T: ComposeTable>(
     alloc: Global,
-    input: &MergeInput<'a, '_>,
     names: &Names,
-    read: &ReadMerge<'_, T>,
+    of_old: &'a Sources<'_>,
+    of_new: &'a Sources<'_>,
+    old: &OldRows<'_, T>,
+    new: &T,
+    merged: &MergedTable<T>,
 ) -> Result<Vec<Vec<Edit<'a>>>, AllocError>
-    requires { AreRows T.definitions read.now.old }
+    requires { old.now.rows.now ≡ T.definitions old.now.table.now }
     ensures { IfOk result
         (λ files. words.files_of files.items
-        ≡ plan.planned_files names.now (T.definitions read.now.merged.table)
-        (given_of input.now.tables).new.sources
-        (plan.missing_lines (given_of input.now.tables).old.sources
-        (listed_as T.definitions read.now.old.listed) read.now.merged.kept.items
-        (T.definitions read.now.new.listed.table.now))) }
+        ≡ plan.planned_files names.now (T.definitions merged.now.table) of_new.now
+        (plan.missing_lines of_old.now (T.definitions old.now.table.now) old.now.lines.now
+        merged.now.kept.items (T.definitions new.now))) }
 {
-    let (of_old, of_new) = (input.tables.old.sources, input.tables.new.sources);
-    let lines = missing_lines(
-        alloc,
-        of_old,
-        &read.old,
-        &read.merged.kept,
-        read.new.listed.table,
-    )?;
-    let mut files = edited_files(alloc, names, &read.merged.table, of_new)?;
+    let lines = missing_lines(alloc, of_old, old, &merged.kept, new)?;
+    let mut files = edited_files(alloc, names, &merged.table, of_new)?;
     add_to_first(&mut files, &lines)?;
     Ok(files)
 }
@@ -127,10 +134,10 @@ fn checked_patch<T: BuildTable>(
     sources: &Sources<'_>,
     paths: &[&str],
     files: &[Vec<Edit<'_>>],
-    read: &ReadMerge<'_, T>,
+    merged: &MergedTable<T>,
 ) -> Result<String, MergingFault>
     requires { length files.now ≡ length sources.now }
-    ensures { (definitions : List Definition) → settled Refuse definitions ≡ Ok read.now.merged.rows
+    ensures { (definitions : List Definition) → settled Refuse definitions ≡ Ok merged.now.rows
         → words.ChecksPatch names.now definitions sources.now (map (λ path. path.now) paths.now)
         (words.files_of files.now) result }
 {
@@ -138,7 +145,7 @@ fn checked_patch<T: BuildTable>(
     let Some(root) = after.name(0) else {
         return Err(MergingFault::Input(Refusal::NoMemory));
     };
-    let _table: T = check_sources(alloc, names, &after, root, &read.merged.rows)?;
+    let _table: T = check_sources(alloc, names, &after, root, &merged.rows)?;
     let text = patch_text(alloc, paths, files)?;
     match String::from_utf8(text) {
         Ok(patch) => Ok(patch),
@@ -148,7 +155,7 @@ fn checked_patch<T: BuildTable>(
 
 /// Returns the lines of each file of the new table, of which those are deleted whose sequences the
 /// merged table doesn't have.
-fn edited_files<'a, T: BuildTable>(
+fn edited_files<'a, T: ComposeTable>(
     alloc: Global,
     names: &Names,
     merged: &T,

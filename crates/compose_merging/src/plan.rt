@@ -6,19 +6,14 @@ ghost use Rattle.compose_read.specs.Lines as reading;
 ghost use Rattle.compose_read.specs.Lines.{Source};
 ghost use Rattle.compose_places.specs.Events.{line_events};
 ghost use Rattle.compose_merging.specs.Plan as words;
-ghost use Rattle.compose_merging.specs.Printed.{listed_as};
-ghost use Rattle.compose_merging.specs.Steps.{AreRows};
 
-use crate::accepting::line_at;
-use crate::sides::Side;
 use crate::treatment::has_text;
 use arrayvec::ArrayVec;
 use compose_lex::{LineContent, lex_line_into};
-use compose_listing::ListedTable;
 use compose_lookup::text_of;
 use compose_patch::{Edit, LineChange, first_line_kept};
-use compose_places::{DefinitionPlace, Events, leaf_named};
-use compose_read::Sources;
+use compose_places::{CountingLine, DefinitionPlace, Events, leaf_named};
+use compose_read::{Sequences, Sources};
 use compose_text::first_line;
 use compose_tree::{ComposeTable, LeafId};
 use keysym_core::Names;
@@ -90,6 +85,17 @@ fn without_mark(bytes: &[u8]) -> &[u8]
     bytes.strip_prefix(&[0xef, 0xbb, 0xbf]).unwrap_or(bytes)
 }
 
+/// The rows of the old table, and where they are written.
+#[derive(Drop)]
+pub(crate) struct OldRows<'a, T> {
+    /// The table.
+    pub(crate) table: &'a T,
+    /// Its rows, of which each is the leaf with its index.
+    pub(crate) rows: &'a Sequences,
+    /// The line that counts for each row.
+    pub(crate) lines: &'a [Option<CountingLine<'a>>],
+}
+
 /// Returns the lines of the old table's files for those of its leaves that are kept and that the new
 /// table doesn't give with the same text, in the order of these leaves. O(bytes of the files + keysyms ×
 /// log edges of a node).
@@ -98,15 +104,15 @@ fn without_mark(bytes: &[u8]) -> &[u8]
 pub(crate) fn missing_lines<'a, T: ComposeTable>(
     alloc: Global,
     sources: &'a Sources<'_>,
-    old: &Side<'_, T>,
+    old: &OldRows<'_, T>,
     kept: &[LeafId],
     new: &T,
 ) -> Result<Vec<&'a [u8]>, AllocError>
-    requires { AreRows T.definitions old.now }
+    requires { old.now.rows.now ≡ T.definitions old.now.table.now }
     ensures { IfOk result
         (λ lines. map (λ line. line.now) lines.items
-        ≡ words.missing_lines sources.now (listed_as T.definitions old.now.listed) kept.now
-        (T.definitions new.now)) }
+        ≡ words.missing_lines sources.now (T.definitions old.now.table.now) old.now.lines.now
+        kept.now (T.definitions new.now)) }
 {
     let files = all_lines(alloc, sources)?;
     let mut lines = Vec::new(alloc);
@@ -121,50 +127,49 @@ pub(crate) fn missing_lines<'a, T: ComposeTable>(
 fn push_missing<'a, T: ComposeTable>(
     lines: &mut Vec<&'a [u8]>,
     files: &[Vec<&'a [u8]>],
-    old: &Side<'_, T>,
+    old: &OldRows<'_, T>,
     leaf: LeafId,
     new: &T,
 ) -> Result<(), AllocError>
-    requires { AreRows T.definitions old.now }
+    requires { old.now.rows.now ≡ T.definitions old.now.table.now }
     ensures { (sources : List Source) → words.lists_of files.now ≡ words.files_lines sources
         → OnOk result
         (map (λ line. line.now) lines.new.items
         ≡ map (λ line. line.now) lines.old.items
-        ++ words.missing_line sources (listed_as T.definitions old.now.listed)
+        ++ words.missing_line sources (T.definitions old.now.table.now) old.now.lines.now
         (T.definitions new.now) leaf) }
 {
-    if is_missing(old, new, leaf) {
-        lines.push(standing_line(files, &old.listed, leaf))?;
+    if is_missing(old.table, old.rows, new, leaf) {
+        lines.push(standing_line(files, old.lines, leaf))?;
     }
     Ok(())
 }
 
 /// Whether the leaf is one of the old table's, and the new one doesn't give its sequence with its
 /// text.
-fn is_missing<T: ComposeTable>(old: &Side<'_, T>, new: &T, leaf: LeafId) -> bool
-    requires { AreRows T.definitions old.now }
-    ensures { result
-        ≡ words.is_missing (T.definitions old.now.listed.table.now) (T.definitions new.now) leaf }
+fn is_missing<T: ComposeTable>(old: &T, rows: &Sequences, new: &T, leaf: LeafId) -> bool
+    requires { rows.now ≡ T.definitions old.now }
+    ensures { result ≡ words.is_missing (T.definitions old.now) (T.definitions new.now) leaf }
 {
     let row = leaf.0 as usize;
-    if row >= old.rows.len() {
+    if row >= rows.len() {
         return false;
     }
-    !has_text(new, old.rows.sequence(row), text_of(old.listed.table, leaf))
+    !has_text(new, rows.sequence(row), text_of(old, leaf))
 }
 
 /// Returns the line that counts for a leaf, as it is in its file; nothing without one.
-fn standing_line<'a, T: ComposeTable>(
+fn standing_line<'a>(
     files: &[Vec<&'a [u8]>],
-    listed: &ListedTable<'_, T>,
+    lines: &[Option<CountingLine<'_>>],
     leaf: LeafId,
 ) -> &'a [u8]
     ensures { (sources : List Source) → words.lists_of files.now ≡ words.files_lines sources
-        → result.now ≡ words.standing_line sources (get_or listed.now.lines.now leaf.0 None) }
+        → result.now ≡ words.standing_line sources (get_or lines.now leaf.0 None) }
 {
-    match line_at(listed, leaf) {
-        Some(line) => line_of(files, line.place()),
-        None => &[],
+    match lines.get(leaf.0 as usize) {
+        Some(Some(line)) => line_of(files, line.place()),
+        _ => &[],
     }
 }
 
