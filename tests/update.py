@@ -607,8 +607,9 @@ def try_names(program, tell):
         tell.expect("a service of the table", (room.start(), room.lines()), (True, ["listening", f"table: 4 sequences, from {room.path('named_follows')}"]))
         tell.expect("it types by the names", room.typed(0x27, 0x61), "ⓐ")
         with room.client() as client:
-            client.open(7)
-            tell.expect("also the new key", [client.key(7, it).text for it in (MINE, 0x61)], ["", "أ"])
+            # (another session than the one that typed, which the service may not have closed yet)
+            client.open(8)
+            tell.expect("also the new key", [client.key(8, it).text for it in (MINE, 0x61)], ["", "أ"])
         room.write("named_longer", read(room.path("named_follows")).decode() + '<Multi_key> <apostrophe> <b> : "ⓑ"\n')
         got = room.update("named_longer")
         tell.expect("an update beside the service, by the kept names", (got[0], bool(STORED.fullmatch(got[1])), got[2], room.kept_names()[0]), (0, True, "", lines))
